@@ -1,5 +1,6 @@
 -- What the comparison of ranks answers.
-use Rattle.std.proofs.Common.{◌≡◌, ℕ, ◌<◌, ◌↔◌, true, true≢false, ⊎_elim, refl, sym, ap, inl, inr, arith, Ordering, Less, Equal, Greater, nat_cmp}
+use Rattle.std.proofs.Common.{◌≡◌, ℕ, ◌<◌, ◌↔◌, true, true≢false, ⊎_elim, refl, sym, ap, inl, inr, arith, Ordering}
+use Rattle.std.proofs.Common.{Less, Equal, Greater, nat_cmp}
 use Rattle.std.specs.Ordering.{MatchOrdering, ordering_then, is_lt}
 use Rattle.std.proofs.lemmas.Cmp.{ranked}
 use Rattle.bintree_addr.specs.declared.rank.Rank.{Rank}
@@ -33,13 +34,15 @@ ComesFirst-same r s e h = ⊎_elim (λ l. omega (arith, ap (λ z. z.p) e)) (λ l
 -- of two ranks, not both come first
 ComesFirst-asym : (r s : Rank) → ComesFirst s r → ¬ (ComesFirst r s)
 ComesFirst-asym r s h k =
-    ⊎_elim (λ l. ⊎_elim (λ m. omega arith) (λ m. omega (arith, m.0)) k) (λ l. ⊎_elim (λ m. omega (arith, l.0)) (λ m. omega (arith, l.1, m.1)) k) h
+    ⊎_elim (λ l. ⊎_elim (λ m. omega arith) (λ m. omega (arith, m.0)) k)
+    (λ l. ⊎_elim (λ m. omega (arith, l.0)) (λ m. omega (arith, l.1, m.1)) k) h
 
 -- the comparison answers less exactly where the first rank comes first
 pub is_lt-rank_cmp : (r s : Rank) → (is_lt (rank_cmp r s) ≡ true) ↔ ComesFirst r s
 is_lt-rank_cmp r s = by_answer (rank_cmp r s) (rank_cmp-cases r s)
   where
-    by_answer : (o : Ordering) → MatchOrdering o (ComesFirst r s) (r ≡ s) (ComesFirst s r) → (is_lt o ≡ true) ↔ ComesFirst r s
+    by_answer : (o : Ordering) → MatchOrdering o (ComesFirst r s) (r ≡ s) (ComesFirst s r) →
+        (is_lt o ≡ true) ↔ ComesFirst r s
     by_answer Less h = (λ e. h, λ k. refl)
     by_answer Equal h = (λ e. absurd (true≢false (sym e)), λ k. absurd (ComesFirst-same r s h k))
     by_answer Greater h = (λ e. absurd (true≢false (sym e)), λ k. absurd (ComesFirst-asym r s h k))

@@ -34,14 +34,22 @@ pub record AreCrossing (c : Corners) (area : Area) : Type 0 where
 pub read-overlaps : (c : Corners) (area : Area) → overlaps c area ≡ true → AreCrossing c area
 read-overlaps c area over =
     let one = and_parts _ _ over in let two = and_parts _ _ one.1 in let three = and_parts _ _ two.1 in
-    record { right = leb-true _ _ one.0; left = leb-true _ _ two.0; top = leb-true _ _ three.0; bottom = leb-true _ _ three.1 }
+    record {
+      right = leb-true _ _ one.0;
+      left = leb-true _ _ two.0;
+      top = leb-true _ _ three.0;
+      bottom = leb-true _ _ three.1;
+    }
 
 -- and the other way
 pub made-overlaps : (c : Corners) (area : Area) → AreCrossing c area → overlaps c area ≡ true
-made-overlaps c area is = both_true (le-leb _ _ is.right) (both_true (le-leb _ _ is.left) (both_true (le-leb _ _ is.top) (le-leb _ _ is.bottom)))
+made-overlaps c area is =
+    both_true (le-leb _ _ is.right)
+    (both_true (le-leb _ _ is.left) (both_true (le-leb _ _ is.top) (le-leb _ _ is.bottom)))
 
 -- what overlaps a rectangle shares a grid point with it
-pub overlaps-meets : (c : Corners) (area : Area) → area.x0 ≤ area.x1 → area.y0 ≤ area.y1 → overlaps c area ≡ true → MeetsArea c area
+pub overlaps-meets : (c : Corners) (area : Area) → area.x0 ≤ area.x1 → area.y0 ≤ area.y1 →
+    overlaps c area ≡ true → MeetsArea c area
 overlaps-meets c area columns rows over =
     let is = read-overlaps c area over in
     let p : Point = record {
@@ -50,8 +58,18 @@ overlaps-meets c area columns rows over =
     } in (
       p,
       record {
-        in_rectangle = record { left = omega arith; right = omega (arith, is.right); bottom = omega arith; top = omega (arith, is.top) };
-        in_area = made-area area p.x p.y (record { left = omega arith; right = omega (arith, is.left); bottom = omega arith; top = omega (arith, is.bottom) });
+        in_rectangle = record {
+          left = omega arith;
+          right = omega (arith, is.right);
+          bottom = omega arith;
+          top = omega (arith, is.top);
+        };
+        in_area = made-area area p.x p.y (record {
+          left = omega arith;
+          right = omega (arith, is.left);
+          bottom = omega arith;
+          top = omega (arith, is.bottom);
+        });
       },
     )
 

@@ -1,6 +1,7 @@
 -- The midpoint of a base tells the level: how often 2 divides its coordinates. So two splittable triangles
 -- with one midpoint are equal or mates.
-use Rattle.std.proofs.Common.{◌≡◌, ◌⊎◌, sym, ◌∙◌, ap, ℕ, suc, ◌+◌, ◌-◌, ◌*◌, ◌/◌, ◌%◌, ◌^◌, ◌<◌, ◌≤◌, arith, inl, inr, ⊎_elim}
+use Rattle.std.proofs.Common.{◌≡◌, ◌⊎◌, sym, ◌∙◌, ap, ℕ, suc, ◌+◌, ◌-◌, ◌*◌, ◌/◌, ◌%◌, ◌^◌, ◌<◌, ◌≤◌, arith, inl, inr}
+use Rattle.std.proofs.Common.{⊎_elim}
 use Rattle.std.proofs.Math.Nat.{mul_assoc, mul-add, pow-succ'}
 use Rattle.std.proofs.lemmas.Bool.{cases_order}
 use Rattle.std.proofs.lemmas.Nat.{pow_pos, pow-add}
@@ -8,9 +9,12 @@ use Rattle.mesh_defs.specs.declared.point.Point.{Point}
 use Rattle.mesh_defs.specs.declared.point.Corners.{Corners}
 use Rattle.mesh_defs.specs.Triangle.{level_of, corners_of, midpoint, IsAddress, IsSplittable, IsMate, HasBorderBase}
 use Rattle.bintree_laws.specs.Corners.{HasEvenBase, IsReversed}
-use Rattle.bintree_laws.proofs.LatticeLemmas.{lattice, halved-half, step_of, step_of-power, corners_of-lattice, HasEvenBase-corners_of}
+use Rattle.bintree_laws.proofs.LatticeLemmas.{lattice, halved-half, step_of, step_of-power, corners_of-lattice}
+use Rattle.bintree_laws.proofs.LatticeLemmas.{HasEvenBase-corners_of}
 use Rattle.bintree_laws.proofs.UnitLemmas.{frame, IsHalf, IsSomeHalf, IsHalf-frame, SameSum}
-use Rattle.bintree_laws.proofs.MateLemmas.{cancel, coordinates, parity, lattice-frame, AllTurned, AllTurned-frame, spread, same_sum_cases, IsMate-pair, pair-IsMate, IsReversed-mate, border_or_has_pair, no_pair-HasBorderBase}
+use Rattle.bintree_laws.proofs.MateLemmas.{cancel, coordinates, parity, lattice-frame, AllTurned, AllTurned-frame}
+use Rattle.bintree_laws.proofs.MateLemmas.{spread, same_sum_cases, IsMate-pair, pair-IsMate, IsReversed-mate}
+use Rattle.bintree_laws.proofs.MateLemmas.{border_or_has_pair, no_pair-HasBorderBase}
 use Rattle.bintree_laws.proofs.PairLemmas.{pair_unique}
 use Rattle.bintree_laws.proofs.LevelLemmas.{level-le}
 

@@ -1,5 +1,6 @@
 -- Corners of addresses: those of a child, and that all lie within the square.
-use Rattle.std.proofs.Common.{◌≡◌, ◌-◌, ◌∙◌, ap, if◌then◌else◌, nat_eq, bit_and, ℕ, zero, suc, ◌+◌, ◌*◌, ◌/◌, ◌%◌, ◌^◌, ◌<◌, ◌≤◌, refl, arith, add-one}
+use Rattle.std.proofs.Common.{◌≡◌, ◌-◌, ◌∙◌, ap, if◌then◌else◌, nat_eq, bit_and, ℕ, zero, suc, ◌+◌, ◌*◌, ◌/◌, ◌%◌, ◌^◌}
+use Rattle.std.proofs.Common.{◌<◌, ◌≤◌, refl, arith, add-one}
 use Rattle.std.proofs.Math.Pow.{pow_mono}
 use Rattle.std.proofs.lemmas.Nat.{and_mask, one_shl, shr-shr}
 use Rattle.mesh_defs.specs.declared.point.Corners.{Corners}

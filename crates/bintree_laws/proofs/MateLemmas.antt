@@ -1,18 +1,22 @@
 -- Mates: the pairs of addresses are exactly the mates, and a triangle in no pair has its base on the border.
-use Rattle.std.proofs.Common.{◌≡◌, Option, Some, None, true, false, ◌⊎◌, ◌↔◌, sym, ◌∙◌, ap, ℕ, zero, suc, ◌+◌, ◌-◌, ◌*◌, ◌/◌, ◌%◌, ◌^◌, ◌<◌, ◌≤◌, refl, arith, inl, inr, ⊎_elim}
+use Rattle.std.proofs.Common.{◌≡◌, Option, Some, None, true, false, ◌⊎◌, ◌↔◌, sym, ◌∙◌, ap, ℕ, zero, suc, ◌+◌, ◌-◌, ◌*◌}
+use Rattle.std.proofs.Common.{◌/◌, ◌%◌, ◌^◌, ◌<◌, ◌≤◌, refl, arith, inl, inr, ⊎_elim}
 use Rattle.std.proofs.Math.Nat.{mul-div_cancel_left, mul-add, pow-succ'}
 use Rattle.std.proofs.Math.Pow.{pow_mono}
 use Rattle.std.proofs.lemmas.Bool.{cases_eq}
 use Rattle.mesh_defs.specs.declared.point.Point.{Point}
 use Rattle.mesh_defs.specs.declared.point.Corners.{Corners}
-use Rattle.mesh_defs.specs.Triangle.{level_of, base_triangle, child, corners_of, SameEnds, IsMate, OnOneSide, HasBorderBase}
+use Rattle.mesh_defs.specs.Triangle.{level_of, base_triangle, child, corners_of, SameEnds, IsMate, OnOneSide}
+use Rattle.mesh_defs.specs.Triangle.{HasBorderBase}
 use Rattle.bintree_laws.specs.Corners.{IsWithin, IsReversed}
 use Rattle.bintree_laws.specs.Pair.{IsInner, IsOuter, IsPair}
 use Rattle.bintree_laws.proofs.LevelLemmas.{IsAtLevel, IsAtLevel-level_of, level_of-at}
 use Rattle.bintree_laws.proofs.CornerLemmas.{IsWithin-base, IsWithin-child}
-use Rattle.bintree_laws.proofs.LatticeLemmas.{at, same_point, multiple, sum_of, scaled, grandchild, lattice, halved, step_of, step_pos, size_by_steps, corners_of-lattice}
+use Rattle.bintree_laws.proofs.LatticeLemmas.{at, same_point, multiple, sum_of, scaled, grandchild, lattice, halved}
+use Rattle.bintree_laws.proofs.LatticeLemmas.{step_of, step_pos, size_by_steps, corners_of-lattice}
 use Rattle.bintree_laws.proofs.UnitLemmas.{quarter, frame, IsHalf, IsSomeHalf, IsHalf-frame, SameSum, AreHalves}
-use Rattle.bintree_laws.proofs.PairLemmas.{IsAtLevel-quarter, IsAtLevel-pair, pair_differs, AreHalves-pair, same_base, pair_answer}
+use Rattle.bintree_laws.proofs.PairLemmas.{IsAtLevel-quarter, IsAtLevel-pair, pair_differs, AreHalves-pair, same_base}
+use Rattle.bintree_laws.proofs.PairLemmas.{pair_answer}
 
 -- ---- from the frame of a level to its lattice
 
@@ -322,7 +326,8 @@ pair-IsMate n a b low fits mate =
     (SameEnds-sum (corners_of n a) (corners_of n b) mate.base))
 
 -- the bases of a triangle and its mate are reversed
-pub IsReversed-mate : (n a b : ℕ) → 2 ≤ a → level_of a ≤ 2 * n → IsMate n a b → IsReversed (corners_of n a) (corners_of n b)
+pub IsReversed-mate : (n a b : ℕ) → 2 ≤ a → level_of a ≤ 2 * n → IsMate n a b →
+    IsReversed (corners_of n a) (corners_of n b)
 IsReversed-mate n a b low fits mate = IsReversed-pair n a b low fits mate.level (pair-IsMate n a b low fits mate)
 
 -- ---- the border

@@ -1,13 +1,16 @@
 -- Pairs of addresses: a pair is of one level and one base, and triangles of one level and base are a pair.
-use Rattle.std.proofs.Common.{◌≡◌, ◌↔◌, ◌-◌, ap, Option, Some, None, sym, ◌∙◌, ◌≢◌, ◌⊎◌, ℕ, zero, suc, ◌+◌, ◌*◌, ◌/◌, ◌%◌, ◌^◌, ◌<◌, ◌≤◌, refl, arith, inl, inr, ⊎_elim}
+use Rattle.std.proofs.Common.{◌≡◌, ◌↔◌, ◌-◌, ap, Option, Some, None, sym, ◌∙◌, ◌≢◌, ◌⊎◌, ℕ, zero, suc, ◌+◌, ◌*◌, ◌/◌}
+use Rattle.std.proofs.Common.{◌%◌, ◌^◌, ◌<◌, ◌≤◌, refl, arith, inl, inr, ⊎_elim}
 use Rattle.std.proofs.lemmas.Bool.{cases_eq}
 use Rattle.std.proofs.Math.Pow.{pow_mono}
 use Rattle.mesh_defs.specs.declared.point.Corners.{Corners}
 use Rattle.mesh_defs.specs.Triangle.{level_of, base_triangle}
 use Rattle.bintree_laws.specs.Pair.{IsInner, IsOuter, IsPair}
-use Rattle.bintree_laws.proofs.LevelLemmas.{IsAtLevel, IsAtLevel-half, IsAtLevel-level_of, level_of-below, level_of-root, level_of-first, level_of-deep, pow_next, pow_after}
+use Rattle.bintree_laws.proofs.LevelLemmas.{IsAtLevel, IsAtLevel-half, IsAtLevel-level_of, level_of-below}
+use Rattle.bintree_laws.proofs.LevelLemmas.{level_of-root, level_of-first, level_of-deep, pow_next, pow_after}
 use Rattle.bintree_laws.proofs.LatticeLemmas.{grandchild}
-use Rattle.bintree_laws.proofs.UnitLemmas.{quarter, frame, IsHalf, IsSomeHalf, IsHalf-frame, SameSum, AreHalves, pivot, SamePivot, SamePivot-above}
+use Rattle.bintree_laws.proofs.UnitLemmas.{quarter, frame, IsHalf, IsSomeHalf, IsHalf-frame, SameSum, AreHalves, pivot}
+use Rattle.bintree_laws.proofs.UnitLemmas.{SamePivot, SamePivot-above}
 
 -- ---- levels of grandchildren
 

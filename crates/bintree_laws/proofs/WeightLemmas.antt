@@ -1,6 +1,7 @@
 -- The doubled area of a triangle, which each level halves, and a point of a triangle as the mean of the corners,
 -- by weights.
-use Rattle.std.proofs.Common.{◌≡◌, ℕ, zero, suc, ◌+◌, ◌-◌, ◌*◌, ◌^◌, ◌/◌, ◌%◌, ◌<◌, ◌≤◌, sym, ◌∙◌, ap, arith, mul-le-mul_left}
+use Rattle.std.proofs.Common.{◌≡◌, ℕ, zero, suc, ◌+◌, ◌-◌, ◌*◌, ◌^◌, ◌/◌, ◌%◌, ◌<◌, ◌≤◌, sym, ◌∙◌, ap, arith}
+use Rattle.std.proofs.Common.{mul-le-mul_left}
 use Rattle.std.proofs.Math.Nat.{pow-succ', le_of_mul-le-mul_left}
 use Rattle.std.proofs.lemmas.Nat.{pow-add}
 use Rattle.mesh_defs.specs.declared.point.Point.{Point}
@@ -15,7 +16,8 @@ use Rattle.bintree_laws.proofs.LatticeLemmas.{HasEvenBase-corners_at}
 
 -- the doubled area is d, by the products of the corners' coordinates
 pub record HasArea (c : Corners) (d : ℕ) : Type 0 where
-  pub area : c.apex.x * c.v0.y + c.v0.x * c.v1.y + c.v1.x * c.apex.y ≡ c.apex.y * c.v0.x + c.v0.y * c.v1.x + c.v1.y * c.apex.x + d
+  pub area : c.apex.x * c.v0.y + c.v0.x * c.v1.y + c.v1.x * c.apex.y
+      ≡ c.apex.y * c.v0.x + c.v0.y * c.v1.x + c.v1.y * c.apex.x + d
 
 area-left : (ax ay px py qx qy mx my d : ℕ) → 2 * mx ≡ px + qx → 2 * my ≡ py + qy →
     ax * py + px * qy + qx * ay ≡ ay * px + py * qx + qy * ax + 2 * d →
@@ -89,7 +91,8 @@ weighted ax ay px py qx qy rx ry u v w d area hu hv hw = omega (
 )
 
 -- a point is the mean of the corners by the doubled areas across from them
-pub IsMean-across : (c : Corners) (r : Point) (d u v w : ℕ) → HasArea c d → IsLeftBy u r c.v0 c.v1 → IsLeftBy v r c.v1 c.apex →
+pub IsMean-across : (c : Corners) (r : Point) (d u v w : ℕ) → HasArea c d → IsLeftBy u r c.v0 c.v1 →
+    IsLeftBy v r c.v1 c.apex →
     IsLeftBy w r c.apex c.v0 → IsMean d c r u v w
 IsMean-across c r d u v w h hu hv hw = record {
   sum = omega (arith, h.area);
@@ -114,11 +117,14 @@ mean-between total u v w a p q r some sum e =
     let high_p : v * p ≤ v * high = mul-le-mul_left v (omega arith) in
     let high_q : w * q ≤ w * high = mul-le-mul_left w (omega arith) in
     let all_low : total * low ≡ u * low + v * low + w * low = ap (λ k. k * low) (sym sum) ∙ omega arith in
-    let all_high : total * high ≡ u * high + v * high + w * high = ap (λ k. k * high) (sym sum) ∙ omega arith in
-    (le_of_mul-le-mul_left {m = low} {n = r} {k = total} (omega arith) some, le_of_mul-le-mul_left {m = r} {n = high} {k = total} (omega arith) some)
+    let all_high : total * high ≡ u * high + v * high + w * high = ap (λ k. k * high) (sym sum) ∙ omega arith in (
+      le_of_mul-le-mul_left {m = low} {n = r} {k = total} (omega arith) some,
+      le_of_mul-le-mul_left {m = r} {n = high} {k = total} (omega arith) some,
+    )
 
 -- so a mean of the corners lies in their bounding rectangle
-pub IsInRectangle-mean : (total : ℕ) (c : Corners) (r : Point) (u v w : ℕ) → 0 < total → IsMean total c r u v w → IsInRectangle c r
+pub IsInRectangle-mean : (total : ℕ) (c : Corners) (r : Point) (u v w : ℕ) → 0 < total →
+    IsMean total c r u v w → IsInRectangle c r
 IsInRectangle-mean total c r u v w some h =
     let x = mean-between total u v w c.apex.x c.v0.x c.v1.x r.x some h.sum h.x in
     let y = mean-between total u v w c.apex.y c.v0.y c.v1.y r.y some h.sum h.y in

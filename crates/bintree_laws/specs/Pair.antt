@@ -22,4 +22,5 @@ IsOuter (suc (suc (suc _))) = ⊥
 abbrev pub IsPair : ℕ → ℕ → ℕ → Type 0
 IsPair zero a b = a + b ≡ 5
 IsPair (suc zero) a b = ⊥
-IsPair (suc (suc level)) a b = (a % 4 + b % 4 ≡ 3) × ((IsInner (a % 4) × (a / 4 ≡ b / 4)) ⊎ (IsOuter (a % 4) × IsPair level (a / 4) (b / 4)))
+IsPair (suc (suc level)) a b =
+    (a % 4 + b % 4 ≡ 3) × ((IsInner (a % 4) × (a / 4 ≡ b / 4)) ⊎ (IsOuter (a % 4) × IsPair level (a / 4) (b / 4)))

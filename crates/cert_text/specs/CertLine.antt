@@ -1,8 +1,9 @@
 -- The line of a certificate that some bytes are. This project's own format; fields are cut as those of a script.
 --
--- Words: Word, line_word, is_camera_coordinate, camera_of, address_in, camera_fields, leaf_fields, reason_fields, word_line,
--- cert_fields_line, read_cert_line, IsLineOf.
-use Rattle.std.specs.Prelude.{ℕ, ◌+◌, ◌*◌, ◌^◌, Bool, ◌&&◌, nat_le, nat_lt, if◌then◌else◌, List, [], ◌∷◌, length, Option, Some, None, option_map, codes, bytes_eq, ℤ, unsigned_abs}
+-- Words: Word, line_word, is_camera_coordinate, camera_of, address_in, camera_fields, leaf_fields, reason_fields,
+-- word_line, cert_fields_line, read_cert_line, IsLineOf.
+use Rattle.std.specs.Prelude.{ℕ, ◌+◌, ◌*◌, ◌^◌, Bool, ◌&&◌, nat_le, nat_lt, if◌then◌else◌, List, [], ◌∷◌, length}
+use Rattle.std.specs.Prelude.{Option, Some, None, option_map, codes, bytes_eq, ℤ, unsigned_abs}
 use Rattle.mesh_defs.specs.Triangle.{IsAddress, IsSplittable}
 use Rattle.text_laws.specs.Numbers.{number_in, signed_in}
 use Rattle.text_laws.specs.Fields.{fields_of, without_last_cr}
@@ -30,7 +31,8 @@ is_camera_coordinate v = nat_le (unsigned_abs v) (2 ^ 30)
 -- the camera line of what its three fields are
 abbrev pub camera_of : Option ℤ → Option ℤ → Option ℤ → Option CertLine
 camera_of (Some x) (Some y) (Some z) =
-    if is_camera_coordinate x && (is_camera_coordinate y && is_camera_coordinate z) then Some (CameraLine (record { x = x; y = y; z = z })) else None
+    if is_camera_coordinate x && (is_camera_coordinate y && is_camera_coordinate z)
+    then Some (CameraLine (record { x = x; y = y; z = z })) else None
 camera_of _ _ _ = None
 
 -- the address that a field is: a number of at most 19 digits, from 2 to less than `end`

@@ -1,6 +1,7 @@
 -- What a reader of a certificate has read, line after line. This project's own format.
 -- Words: ReadSoFar, read_so_far, nothing_read, AreFew, line_taken, cert_line_in, CertReading, finished.
-use Rattle.std.specs.Prelude.{ℕ, ◌≤◌, All, ◌&&◌, nat_lt, if◌then◌else◌, List, [], ◌∷◌, ◌++◌, length, ◌==◌, Option, Some, None, is_some, Result, Ok, Err}
+use Rattle.std.specs.Prelude.{ℕ, ◌≤◌, All, ◌&&◌, nat_lt, if◌then◌else◌, List, [], ◌∷◌, ◌++◌, length, ◌==◌, Option, Some}
+use Rattle.std.specs.Prelude.{None, is_some, Result, Ok, Err}
 use Rattle.mesh_defs.specs.Triangle.{IsAddress, IsSplittable}
 use Rattle.mesh_defs.specs.BoundingBox.{CameraAt}
 use Rattle.mesh_defs.specs.declared.level.TheConstants.{GREATEST_LEVEL}
@@ -37,7 +38,8 @@ pub record AreFew (n : ℕ) (leaves : List ℕ) (reasons : List Reason) : Type 0
 -- Behind this line, where it may stand: the camera first and once, the leaves before the reasons, and neither too
 -- many.
 abbrev pub line_taken : ReadSoFar → CertLine → Option ReadSoFar
-line_taken read (CameraLine seen_from) = if is_some read.camera then None else Some (record read { camera = Some seen_from })
+line_taken read (CameraLine seen_from) =
+    if is_some read.camera then None else Some (record read { camera = Some seen_from })
 line_taken read (LeafLine leaf) =
     if is_some read.camera && ((length read.reasons == 0) && nat_lt (length read.leaves) MOST_LEAVES)
     then Some (record read { leaves = read.leaves ++ leaf ∷ [] }) else None
@@ -47,7 +49,8 @@ line_taken read (ReasonLine reason) =
 
 -- Behind the line that these bytes are, if they are one that may stand there; for the grid with this n.
 abbrev pub cert_line_in : ℕ → ReadSoFar → List ℕ → Option ReadSoFar
-cert_line_in n read bytes = elim (read_cert_line n bytes) as (λ _. Option ReadSoFar) [ None ↦ None | Some line ↦ line_taken read line ]
+cert_line_in n read bytes =
+    elim (read_cert_line n bytes) as (λ _. Option ReadSoFar) [ None ↦ None | Some line ↦ line_taken read line ]
 
 -- a reader: the n of its grid, what it has read, and its refusal, once it has refused
 pub record CertReading : Type 0 where

@@ -1,6 +1,7 @@
 -- The text of a certificate: a line for the camera, for each leaf and for each reason, in order, each with an LF (10)
 -- at its end. This project's own format.
--- Words: kind_text, number_text, address_text, cert_line_text, ended_line, leaf_text, reason_text, cert_text, cert_lines.
+-- Words: kind_text, number_text, address_text, cert_line_text, ended_line, leaf_text, reason_text, cert_text,
+-- cert_lines.
 use Rattle.std.specs.Prelude.{ℕ, List, [], ◌∷◌, ◌++◌, map, codes, decimal, ℤ}
 use Rattle.std.specs.List.{flat_map}
 use Rattle.std.specs.Fmt.{signed_decimal}
@@ -27,7 +28,8 @@ address_text first a = first ++ 32 ∷ decimal a
 
 -- a line: its word and its numbers, with one blank before each of them
 abbrev pub cert_line_text : CertLine → List ℕ
-cert_line_text (CameraLine seen_from) = codes "camera" ++ number_text seen_from.x ++ number_text seen_from.y ++ number_text seen_from.z
+cert_line_text (CameraLine seen_from) =
+    codes "camera" ++ number_text seen_from.x ++ number_text seen_from.y ++ number_text seen_from.z
 cert_line_text (LeafLine leaf) = address_text (codes "leaf") leaf
 cert_line_text (ReasonLine reason) = address_text (kind_text reason.kind) reason.triangle
 
@@ -44,7 +46,8 @@ reason_text reason = ended_line (ReasonLine reason)
 
 -- The text of a certificate: the camera, each leaf and each reason.
 abbrev pub cert_text : Certificate → List ℕ
-cert_text cert = ended_line (CameraLine cert.camera) ++ flat_map leaf_text cert.leaves ++ flat_map reason_text cert.reasons
+cert_text cert =
+    ended_line (CameraLine cert.camera) ++ flat_map leaf_text cert.leaves ++ flat_map reason_text cert.reasons
 
 -- its lines, without their LFs
 abbrev pub cert_lines : Certificate → List (List ℕ)

@@ -34,8 +34,11 @@ WrittenLinesAreLines = (n : ℕ) (cert : Certificate) → IsCertificateOf n cert
 
 -- how many lines say as much: one for the camera, if it was read, and one for each leaf and each reason
 abbrev pub line_count : ReadSoFar → ℕ
-line_count read = (elim read.camera as (λ _. ℕ) [ None ↦ 0 | Some seen_from ↦ 1 ]) + (length read.leaves + length read.reasons)
+line_count read =
+    (elim read.camera as (λ _. ℕ) [ None ↦ 0 | Some seen_from ↦ 1 ]) + (length read.leaves + length read.reasons)
 
 -- each accepted line is one of them
 abbrev pub LinesAreCounted : Type 0
-LinesAreCounted = (n : ℕ) (read next : ReadSoFar) (bytes : List ℕ) → cert_line_in n read bytes ≡ Some next → line_count next ≡ line_count read + 1
+LinesAreCounted =
+    (n : ℕ) (read next : ReadSoFar) (bytes : List ℕ) → cert_line_in n read bytes ≡ Some next →
+    line_count next ≡ line_count read + 1

@@ -1,5 +1,6 @@
 -- The test of conforming lists by the set of their ancestors is exact, so being conforming is decided.
-use Rattle.std.proofs.Common.{◌≡◌, ℕ, zero, suc, ◌+◌, ◌-◌, ◌*◌, ◌/◌, ◌^◌, ◌<◌, ◌≤◌, ◌⊎◌, inl, inr, true, false, eqb, nat_eq, IsTrue, List, length, All, Contains, sym, ◌∙◌, subst, arith, ⊎_elim}
+use Rattle.std.proofs.Common.{◌≡◌, ℕ, zero, suc, ◌+◌, ◌-◌, ◌*◌, ◌/◌, ◌^◌, ◌<◌, ◌≤◌, ◌⊎◌, inl, inr, true, false, eqb}
+use Rattle.std.proofs.Common.{nat_eq, IsTrue, List, length, All, Contains, sym, ◌∙◌, subst, arith, ⊎_elim}
 use Rattle.std.proofs.lemmas.Bool.{cases_lt, cases_Bool, cases_eq, both_ways, eqb-true}
 use Rattle.std.proofs.lemmas.List.Elements.{All-contains}
 use Rattle.mesh_defs.specs.Triangle.{level_of, IsAddress, IsSplittable, IsMate}
@@ -10,7 +11,8 @@ use Rattle.bintree_laws.proofs.LevelLemmas.{level_of-parent}
 use Rattle.tiling_laws.specs.Ancestors.{is_above, ancestors_of}
 use Rattle.tiling_laws.proofs.DescentLemmas.{IsAddress-splittable, IsDown-address, sample_of}
 use Rattle.tiling_laws.proofs.ConformityLemmas.{IsUnder, self, IsUnder-up, IsConforming-leaves_of}
-use Rattle.mesh_defs.proofs.ListLemmas.{IsIn, IsIn-contains, Contains-in, IsIn-among, among-in, Any-in, list_any-in, count-some, some-count, count-narrower, one_entry}
+use Rattle.mesh_defs.proofs.ListLemmas.{IsIn, IsIn-contains, Contains-in, IsIn-among, among-in, Any-in, list_any-in}
+use Rattle.mesh_defs.proofs.ListLemmas.{count-some, some-count, count-narrower, one_entry}
 use Rattle.tiling_laws.proofs.ConverseLemmas.{under-above, above-under, level-under, IsClosed-ancestors_of}
 use Rattle.closure_laws.proofs.ClosureLemmas.{leaf-outer}
 use Rattle.std.specs.List.{IsDistinct}
@@ -20,7 +22,8 @@ use Rattle.closure_laws.proofs.DiamondLemmas.{mate_or_none}
 use Rattle.bintree_laws.proofs.CentreLemmas.{mate_unique}
 use Rattle.least_laws.proofs.LeastLemmas.{entry_outside, length-ancestors}
 use Rattle.certificate_laws.specs.Cut.{IsCut}
-use Rattle.certificate_laws.proofs.DistinctLemmas.{some_or_none, distinct-ascending, distinct_or_not, distinct-counts, count-one, subset-length, size_of-leaves}
+use Rattle.certificate_laws.proofs.DistinctLemmas.{some_or_none, distinct-ascending, distinct_or_not, distinct-counts}
+use Rattle.certificate_laws.proofs.DistinctLemmas.{count-one, subset-length, size_of-leaves}
 
 -- ancestors of triangles of the grid
 
@@ -60,14 +63,17 @@ module _ (n : ℕ) (triangles : List ℕ) (addresses : All (IsAddress n) triangl
   -- and its parent is an ancestor
   pub ancestor-parent : (a : ℕ) → IsTrue (ancestors_of triangles a) → 4 ≤ a → IsTrue (ancestors_of triangles (a / 2))
   ancestor-parent a h big =
-      let b = below_of a h in ancestor_of (a / 2) b.entry b.listed (omega arith) b.big (IsUnder-up a (b.entry / 2) big b.under)
+      let b = below_of a h in
+      ancestor_of (a / 2) b.entry b.listed (omega arith) b.big (IsUnder-up a (b.entry / 2) big b.under)
 
   -- so they are a closed set where they have their mates
-  ancestors-closed : ((a b : ℕ) → IsTrue (ancestors_of triangles a) → IsMate n a b → IsTrue (ancestors_of triangles b)) → IsClosed n (ancestors_of triangles)
+  ancestors-closed : ((a b : ℕ) → IsTrue (ancestors_of triangles a) → IsMate n a b →
+      IsTrue (ancestors_of triangles b)) → IsClosed n (ancestors_of triangles)
   ancestors-closed mates = record { splittable = ancestor-splittable; parent = ancestor-parent; mate = mates }
 
   -- an entry that is no ancestor is a leaf
-  entry-leaf : (closed : IsClosed n (ancestors_of triangles)) (a : ℕ) → IsIn a triangles → (IsTrue (ancestors_of triangles a) → ⊥) →
+  entry-leaf : (closed : IsClosed n (ancestors_of triangles)) (a : ℕ) → IsIn a triangles →
+      (IsTrue (ancestors_of triangles a) → ⊥) →
       IsIn a (leaves_of n (ancestors_of triangles))
   entry-leaf closed a i outside = leaf-outer n (ancestors_of triangles) a closed record {
     address = address_of a i;
@@ -104,7 +110,8 @@ module _ (n : ℕ) (triangles : List ℕ) (cut : IsCut n triangles) where
   -- the list is conforming
   pub conforming-cut : IsConforming n triangles
   conforming-cut =
-      let mesh : IsConforming n (leaves_of n (ancestors_of triangles)) = IsConforming-leaves_of n (ancestors_of triangles) cut-closed in
+      let mesh : IsConforming n (leaves_of n (ancestors_of triangles)) =
+      IsConforming-leaves_of n (ancestors_of triangles) cut-closed in
       record {
         addresses = cut.addresses;
         tiles = λ x y s.
@@ -112,7 +119,8 @@ module _ (n : ℕ) (triangles : List ℕ) (cut : IsCut n triangles) where
             let leaf = some-count (is_inside n x y) (leaves_of n (ancestors_of triangles)) (omega arith) in
             let some = count-some (is_inside n x y) leaf.0 triangles (leaf-cut leaf.0 leaf.1) leaf.2 in
             let most = count-one (is_inside n x y) triangles cut.distinct (λ a b i j h k.
-            one_entry (is_inside n x y) (leaves_of n (ancestors_of triangles)) a b (omega arith) (cut-leaf a i) (cut-leaf b j) h k) in
+            one_entry (is_inside n x y) (leaves_of n (ancestors_of triangles)) a b (omega arith)
+            (cut-leaf a i) (cut-leaf b j) h k) in
             omega arith;
         whole_edges = λ a b p q r in_a in_b corner edge between. mesh.whole_edges a b p q r
             (Contains-in a (leaves_of n (ancestors_of triangles)) (cut-leaf a (IsIn-contains a triangles in_a)))
@@ -168,7 +176,8 @@ opposite P (inr fails) = inl fails
 -- all entries have P or one has not
 all_or_not : (P : ℕ → Type 0) (xs : List ℕ) → ((a : ℕ) → P a ⊎ (P a → ⊥)) → All P xs ⊎ (All P xs → ⊥)
 all_or_not P xs decide = ⊎_elim
-    (λ (found : (a : ℕ) × IsIn a xs × (P a → ⊥)). inr (λ (all : All P xs). found.2 (All-contains P xs found.0 all (Contains-in found.0 xs found.1))))
+    (λ (found : (a : ℕ) × IsIn a xs × (P a → ⊥)).
+    inr (λ (all : All P xs). found.2 (All-contains P xs found.0 all (Contains-in found.0 xs found.1))))
     (λ (none : (a : ℕ) → IsIn a xs → (P a → ⊥) → ⊥). inl (All-in P xs (λ a i. by_case a (none a i) (decide a))))
     (some_or_none (λ a. P a → ⊥) xs (λ a i. opposite (P a) (decide a)))
   where
@@ -177,7 +186,8 @@ all_or_not P xs decide = ⊎_elim
     by_case a h (inr fails) = absurd (h fails)
 
 -- an address that has P below a bound, or none
-some_below : (P : ℕ → Type 0) → ((a : ℕ) → P a ⊎ (P a → ⊥)) → (bound : ℕ) → ((a : ℕ) × P a) ⊎ ((a : ℕ) → a < bound → P a → ⊥)
+some_below : (P : ℕ → Type 0) → ((a : ℕ) → P a ⊎ (P a → ⊥)) → (bound : ℕ) →
+    ((a : ℕ) × P a) ⊎ ((a : ℕ) → a < bound → P a → ⊥)
 some_below P decide zero = inr (λ a less. absurd (omega arith))
 some_below P decide (suc bound) = ⊎_elim
     (λ (yes : P bound). inl (bound, yes))
@@ -192,10 +202,12 @@ some_below P decide (suc bound) = ⊎_elim
 
 -- an ancestor whose mate is none
 abbrev LacksMate : ℕ → List ℕ → ℕ → Type 0
-LacksMate n triangles a = IsTrue (ancestors_of triangles a) × (m : ℕ) × IsMate n a m × (ancestors_of triangles m ≡ false)
+LacksMate n triangles a =
+    IsTrue (ancestors_of triangles a) × (m : ℕ) × IsMate n a m × (ancestors_of triangles m ≡ false)
 
 -- that is decided
-lacks_mate_or_not : (n : ℕ) (triangles : List ℕ) → All (IsAddress n) triangles → (a : ℕ) → LacksMate n triangles a ⊎ (LacksMate n triangles a → ⊥)
+lacks_mate_or_not : (n : ℕ) (triangles : List ℕ) → All (IsAddress n) triangles → (a : ℕ) →
+    LacksMate n triangles a ⊎ (LacksMate n triangles a → ⊥)
 lacks_mate_or_not n triangles addresses a = ⊎_elim
     (λ member. let address = IsAddress-splittable n a (ancestor-splittable n triangles addresses a member) in ⊎_elim
     (λ (found : (m : ℕ) × IsMate n a m). ⊎_elim
@@ -214,7 +226,8 @@ module _ (n : ℕ) (triangles : List ℕ) where
   -- the rest, where the ancestors are closed and the entries are leaves
   counted_or_not : (addresses : All (IsAddress n) triangles) → IsDistinct nat_eq triangles →
       ((a : ℕ) → Contains triangles a → IsTrue (ancestors_of triangles a) → ⊥) →
-      ((a b : ℕ) → IsTrue (ancestors_of triangles a) → IsMate n a b → IsTrue (ancestors_of triangles b)) → IsCut n triangles ⊎ (IsCut n triangles → ⊥)
+      ((a b : ℕ) → IsTrue (ancestors_of triangles a) → IsMate n a b → IsTrue (ancestors_of triangles b)) →
+      IsCut n triangles ⊎ (IsCut n triangles → ⊥)
   counted_or_not addresses distinct outside mates =
       let closed = ancestors-closed n triangles addresses mates in
       let same = among-list_of n (ancestors_of triangles) closed in
@@ -230,24 +243,29 @@ module _ (n : ℕ) (triangles : List ℕ) where
         counted = equal;
       })
       (λ unequal. inr (λ (cut : IsCut n triangles). unequal
-      (sym (length-ancestors n triangles (conforming-cut n triangles cut)) ∙ size_of-leaves n (ancestors_of triangles) closed)))
+      (sym (length-ancestors n triangles (conforming-cut n triangles cut))
+      ∙ size_of-leaves n (ancestors_of triangles) closed)))
       (cases_eq (length triangles) (length (list_of n (ancestors_of triangles)) + 2))
 
   -- with the mates
   mates_or_not : (addresses : All (IsAddress n) triangles) → IsDistinct nat_eq triangles →
-      ((a : ℕ) → Contains triangles a → IsTrue (ancestors_of triangles a) → ⊥) → IsCut n triangles ⊎ (IsCut n triangles → ⊥)
+      ((a : ℕ) → Contains triangles a → IsTrue (ancestors_of triangles a) → ⊥) →
+      IsCut n triangles ⊎ (IsCut n triangles → ⊥)
   mates_or_not addresses distinct outside = ⊎_elim
-      (λ (found : (a : ℕ) × LacksMate n triangles a). inr (λ (cut : IsCut n triangles). both_ways (ancestors_of triangles found.1.1) found.1.3
+      (λ (found : (a : ℕ) × LacksMate n triangles a).
+      inr (λ (cut : IsCut n triangles). both_ways (ancestors_of triangles found.1.1) found.1.3
       (cut.mates found.0 found.1.1 found.1.0 found.1.2)))
       (λ (none : (a : ℕ) → a < 4 * 2 ^ (2 * n) → LacksMate n triangles a → ⊥).
       counted_or_not addresses distinct outside (λ a b h mate. ⊎_elim
       (λ yes. yes)
-      (λ lacks. absurd (none a (splittable-below n a (ancestor-splittable n triangles addresses a h)) (h, b, mate, lacks)))
+      (λ lacks.
+      absurd (none a (splittable-below n a (ancestor-splittable n triangles addresses a h)) (h, b, mate, lacks)))
       (cases_Bool (ancestors_of triangles b))))
       (some_below (LacksMate n triangles) (lacks_mate_or_not n triangles addresses) (4 * 2 ^ (2 * n)))
 
   -- with the entries outside
-  outside_or_not : All (IsAddress n) triangles → IsDistinct nat_eq triangles → IsCut n triangles ⊎ (IsCut n triangles → ⊥)
+  outside_or_not : All (IsAddress n) triangles → IsDistinct nat_eq triangles →
+      IsCut n triangles ⊎ (IsCut n triangles → ⊥)
   outside_or_not addresses distinct = ⊎_elim
       (λ (found : (a : ℕ) × IsIn a triangles × IsTrue (ancestors_of triangles a)). inr (λ (cut : IsCut n triangles).
       cut.outside found.0 (Contains-in found.0 triangles found.1) found.2))
@@ -272,5 +290,6 @@ module _ (n : ℕ) (triangles : List ℕ) where
 pub conforming_or_not : (n : ℕ) (triangles : List ℕ) → IsConforming n triangles ⊎ (IsConforming n triangles → ⊥)
 conforming_or_not n triangles = ⊎_elim
     (λ (cut : IsCut n triangles). inl (conforming-cut n triangles cut))
-    (λ (no : IsCut n triangles → ⊥). inr (λ (conforming : IsConforming n triangles). no (cut-conforming n triangles conforming)))
+    (λ (no : IsCut n triangles →
+    ⊥). inr (λ (conforming : IsConforming n triangles). no (cut-conforming n triangles conforming)))
     (cut_or_not n triangles)

@@ -1,6 +1,7 @@
 -- Each optimal mesh has a sound certificate: the closure of all triangles of at least its worst is a mesh with a
 -- lower worst, so it exceeds the budget; and reasons can be listed until all of that closure is.
-use Rattle.std.proofs.Common.{◌≡◌, ℕ, zero, suc, ◌+◌, ◌-◌, ◌/◌, ◌<◌, ◌≤◌, ◌⊎◌, inl, inr, Bool, true, false, IsTrue, List, [], ◌∷◌, ◌++◌, length, refl, sym, ◌∙◌, subst, arith, ⊎_elim, length-append}
+use Rattle.std.proofs.Common.{◌≡◌, ℕ, zero, suc, ◌+◌, ◌-◌, ◌/◌, ◌<◌, ◌≤◌, ◌⊎◌, inl, inr, Bool, true, false, IsTrue}
+use Rattle.std.proofs.Common.{List, [], ◌∷◌, ◌++◌, length, refl, sym, ◌∙◌, subst, arith, ⊎_elim, length-append}
 use Rattle.std.proofs.lemmas.Bool.{cases_lt, cases_Bool, both_ways}
 use Rattle.mesh_defs.specs.Triangle.{IsAddress, IsMate}
 use Rattle.mesh_defs.specs.ClosedSet.{IsSubset, IsLeastClosed, leaves_of}
@@ -20,20 +21,23 @@ use Rattle.least_laws.specs.Least.{is_worse}
 use Rattle.least_laws.proofs.LeastLemmas.{worse-iff, least_found, least_within}
 use Rattle.certificate_laws.specs.declared.reason.Kind.TheVariants.{Want, Parent, Mate}
 use Rattle.certificate_laws.specs.declared.reason.Reason.{Reason}
-use Rattle.certificate_laws.specs.Certificate.{reason_triangles, named_in, IsReason, AreReasons, IsSound, IsOptimal, AreAllReasons}
+use Rattle.certificate_laws.specs.Certificate.{reason_triangles, named_in, IsReason, AreReasons, IsSound, IsOptimal}
+use Rattle.certificate_laws.specs.Certificate.{AreAllReasons}
 use Rattle.certificate_laws.proofs.DistinctLemmas.{some_or_none, distinct-ascending, size_of-leaves}
 use Rattle.certificate_laws.proofs.SoundLemmas.{earlier_cases, reasons_next, reasons_inside, length-triangles_of}
 
 -- listing a closure
 
 -- What is worse than a tolerance, and its closure.
-module _ (n tolerance : ℕ) (priority : ℕ → ℕ) (has : ℕ → Bool) (closure : IsLeastClosed n (is_worse n tolerance priority) has) where
+module _ (n tolerance : ℕ) (priority : ℕ → ℕ) (has : ℕ → Bool)
+    (closure : IsLeastClosed n (is_worse n tolerance priority) has) where
   -- reasons of members
   abbrev pub AreInside : List Reason → Type 0
   AreInside reasons = (a : ℕ) → IsIn a (reason_triangles reasons) → IsTrue (has a)
 
   -- reasons that hold what is wanted, and with each triangle its parent and mate, are all: where a maker's queue ends
-  pub all_listed : (reasons : List Reason) → AreInside reasons → IsSubset (is_worse n tolerance priority) (named_in reasons) →
+  pub all_listed : (reasons : List Reason) → AreInside reasons →
+      IsSubset (is_worse n tolerance priority) (named_in reasons) →
       ((b : ℕ) → IsIn b (reason_triangles reasons) → 4 ≤ b → IsTrue (named_in reasons (b / 2))) →
       ((b m : ℕ) → IsIn b (reason_triangles reasons) → IsMate n b m → IsTrue (named_in reasons m)) →
       IsSubset has (named_in reasons)
@@ -166,7 +170,8 @@ module _ (n tolerance : ℕ) (priority : ℕ → ℕ) (has : ℕ → Bool) (clos
       })
       (λ (all : IsSubset has (named_in l.reasons)).
       let size = size_of-leaves n has closure.closed in
-      let most = length-distinct (list_of n has) (reason_triangles l.reasons) (distinct-ascending (list_of n has) (ascending-list_of n has))
+      let most = length-distinct (list_of n has) (reason_triangles l.reasons)
+      (distinct-ascending (list_of n has) (ascending-list_of n has))
       (λ a h. all a (among-list_of n has closure.closed a ∙ h)) in
       let same = length-triangles_of l.reasons in
       let f = l.long in
@@ -176,16 +181,21 @@ module _ (n tolerance : ℕ) (priority : ℕ → ℕ) (has : ℕ → Bool) (clos
 -- certificates
 
 -- an optimal mesh of positive worst has a sound certificate of budget - 1 reasons
-sound-positive : (n budget tolerance : ℕ) (priority : ℕ → ℕ) (leaves : List ℕ) → IsFalling n priority → IsOptimal n budget priority leaves →
-    worst_of priority leaves ≡ suc tolerance → (reasons : List Reason) × IsSound n budget priority leaves reasons × (length reasons ≤ budget - 1)
+sound-positive : (n budget tolerance : ℕ) (priority : ℕ → ℕ) (leaves : List ℕ) → IsFalling n priority →
+    IsOptimal n budget priority leaves →
+    worst_of priority leaves ≡ suc tolerance →
+    (reasons : List Reason) × IsSound n budget priority leaves reasons × (length reasons ≤ budget - 1)
 sound-positive n budget tolerance priority leaves falling is worst =
     let c = least_found n tolerance priority in
     let low = least_within n tolerance priority c.0 falling c.1 in
     let over : budget < length (leaves_of n c.0) = ⊎_elim
     (λ more. more)
-    (λ fits. let best = is.optimal (leaves_of n c.0) (IsConforming-leaves_of n c.0 c.1.closed) fits in absurd (omega arith))
+    (λ fits.
+    let best = is.optimal (leaves_of n c.0) (IsConforming-leaves_of n c.0 c.1.closed) fits in
+    absurd (omega arith))
     (cases_lt budget (length (leaves_of n c.0))) in
-    let l = listing_of n tolerance priority c.0 c.1 (budget - 1) (let size = size_of-leaves n c.0 c.1.closed in omega arith) in
+    let l = listing_of n tolerance priority c.0 c.1 (budget - 1)
+    (let size = size_of-leaves n c.0 c.1.closed in omega arith) in
     let long = l.long in (
       l.reasons,
       record {
@@ -198,11 +208,13 @@ sound-positive n budget tolerance priority leaves falling is worst =
     )
 
 -- each optimal mesh has one
-pub sound_of : (n budget : ℕ) (priority : ℕ → ℕ) (leaves : List ℕ) → IsFalling n priority → IsOptimal n budget priority leaves →
+pub sound_of : (n budget : ℕ) (priority : ℕ → ℕ) (leaves : List ℕ) → IsFalling n priority →
+    IsOptimal n budget priority leaves →
     (reasons : List Reason) × IsSound n budget priority leaves reasons × (length reasons ≤ budget - 1)
 sound_of n budget priority leaves falling is = by_worst (worst_of priority leaves) refl
   where
-    by_worst : (w : ℕ) → worst_of priority leaves ≡ w → (reasons : List Reason) × IsSound n budget priority leaves reasons × (length reasons ≤ budget - 1)
+    by_worst : (w : ℕ) → worst_of priority leaves ≡ w →
+        (reasons : List Reason) × IsSound n budget priority leaves reasons × (length reasons ≤ budget - 1)
     by_worst zero e = (
       [],
       record { conforming = is.conforming; within = is.within; reasoned = tt; enough = λ some. absurd (omega arith) },
@@ -211,8 +223,10 @@ sound_of n budget priority leaves falling is = by_worst (worst_of priority leave
     by_worst (suc tolerance) e = sound-positive n budget tolerance priority leaves falling is e
 
 -- where a maker's queue ends there are reasons enough
-pub all-enough : (n budget : ℕ) (priority : ℕ → ℕ) (leaves : List ℕ) (reasons : List Reason) → IsFalling n priority → IsOptimal n budget priority leaves →
-    AreReasons n priority (worst_of priority leaves) [] reasons → AreAllReasons n priority (worst_of priority leaves) reasons →
+pub all-enough : (n budget : ℕ) (priority : ℕ → ℕ) (leaves : List ℕ) (reasons : List Reason) → IsFalling n priority →
+    IsOptimal n budget priority leaves →
+    AreReasons n priority (worst_of priority leaves) [] reasons →
+    AreAllReasons n priority (worst_of priority leaves) reasons →
     0 < worst_of priority leaves → budget ≤ length reasons + 1
 all-enough n budget priority leaves reasons falling is reasoned all some =
     let tolerance : ℕ = worst_of priority leaves - 1 in
@@ -227,22 +241,32 @@ all-enough n budget priority leaves reasons falling is reasoned all some =
     (λ b i big. all.parents b (among-in b (reason_triangles reasons) i) big)
     (λ b m i mate. all.mates b m (among-in b (reason_triangles reasons) i) mate) in
     let size = size_of-leaves n c.0 c.1.closed in
-    let most = length-distinct (list_of n c.0) (reason_triangles reasons) (distinct-ascending (list_of n c.0) (ascending-list_of n c.0))
+    let most = length-distinct (list_of n c.0) (reason_triangles reasons)
+    (distinct-ascending (list_of n c.0) (ascending-list_of n c.0))
     (λ a h. listed a (among-list_of n c.0 c.1.closed a ∙ h)) in
     let same = length-triangles_of reasons in
     ⊎_elim
     (λ over. omega arith)
-    (λ fits. let best = is.optimal (leaves_of n c.0) (IsConforming-leaves_of n c.0 c.1.closed) fits in absurd (omega arith))
+    (λ fits.
+    let best = is.optimal (leaves_of n c.0) (IsConforming-leaves_of n c.0 c.1.closed) fits in
+    absurd (omega arith))
     (cases_lt budget (length (leaves_of n c.0)))
 
 -- a best mesh is optimal
-pub optimal-best : (n budget : ℕ) (priority : ℕ → ℕ) (leaves : List ℕ) → IsBestMesh n budget priority leaves → IsOptimal n budget priority leaves
-optimal-best n budget priority leaves best = record { conforming = best.conforming; within = best.within; optimal = best.optimal }
+pub optimal-best : (n budget : ℕ) (priority : ℕ → ℕ) (leaves : List ℕ) → IsBestMesh n budget priority leaves →
+    IsOptimal n budget priority leaves
+optimal-best n budget priority leaves best = record {
+  conforming = best.conforming;
+  within = best.within;
+  optimal = best.optimal;
+}
 
 -- the leaves of a rank closure have a certificate
-pub sound-closure : (n budget : ℕ) (priority : ℕ → ℕ) (ranking : List ℕ) (chosen : ℕ) (has : ℕ → Bool) → IsRanking n priority ranking →
+pub sound-closure : (n budget : ℕ) (priority : ℕ → ℕ) (ranking : List ℕ) (chosen : ℕ) (has : ℕ → Bool) →
+    IsRanking n priority ranking →
     IsFalling n priority → 2 ≤ budget → IsRankClosure n budget ranking chosen has →
     (reasons : List Reason) × IsSound n budget priority (leaves_of n has) reasons × (length reasons ≤ budget - 1)
 sound-closure n budget priority ranking chosen has ranked falling low closure =
     sound_of n budget priority (leaves_of n has) falling (optimal-best n budget priority (leaves_of n has)
-    (IsBestMesh-greedy n priority ranking ranked falling budget has low (IsGreedyEnd-closure n priority ranking ranked falling budget chosen has closure)))
+    (IsBestMesh-greedy n priority ranking ranked falling budget has low
+    (IsGreedyEnd-closure n priority ranking ranked falling budget chosen has closure)))

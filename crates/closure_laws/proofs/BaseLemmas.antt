@@ -1,6 +1,8 @@
 -- The two base triangles are the best and the greedy mesh of budget 2, and no other conforming list is as
 -- short: a closed set that is not empty holds 2 and 3, and so it has more than two leaves.
-use Rattle.std.proofs.Common.{◌≡◌, ℕ, zero, suc, ◌+◌, ◌*◌, ◌/◌, ◌<◌, ◌≤◌, ◌⊎◌, inl, inr, List, [], ◌∷◌, ◌++◌, length, Bool, true, false, IsTrue, eqb, refl, sym, ◌∙◌, ap, ap₂, subst, arith, ⊎_elim, take, length-append, eq-eqb, count_by, ◌^◌, pow_pos, pow-add}
+use Rattle.std.proofs.Common.{◌≡◌, ℕ, zero, suc, ◌+◌, ◌*◌, ◌/◌, ◌<◌, ◌≤◌, ◌⊎◌, inl, inr, List, [], ◌∷◌, ◌++◌, length}
+use Rattle.std.proofs.Common.{Bool, true, false, IsTrue, eqb, refl, sym, ◌∙◌, ap, ap₂, subst, arith, ⊎_elim, take}
+use Rattle.std.proofs.Common.{length-append, eq-eqb, count_by, ◌^◌, pow_pos, pow-add}
 use Rattle.std.proofs.lemmas.Bool.{cases_lt, or_left, false≢true, false_from_ne_true, eqb-true}
 use Rattle.std.specs.List.{list_any}
 use Rattle.mesh_defs.specs.Triangle.{level_of, corners_of, IsAddress, IsMate}
@@ -28,12 +30,22 @@ base_address n a low high =
 -- the mate of 2 is 3
 IsMate-2 : (n : ℕ) → IsMate n 2 3
 unfolding corners_of level_of
-IsMate-2 n = record { address = base_address n 3 (omega arith) (omega arith); other = λ e. omega arith; level = refl; base = inr (refl, refl) }
+IsMate-2 n = record {
+  address = base_address n 3 (omega arith) (omega arith);
+  other = λ e. omega arith;
+  level = refl;
+  base = inr (refl, refl);
+}
 
 -- the mate of 3 is 2
 IsMate-3 : (n : ℕ) → IsMate n 3 2
 unfolding corners_of level_of
-IsMate-3 n = record { address = base_address n 2 (omega arith) (omega arith); other = λ e. omega arith; level = refl; base = inr (refl, refl) }
+IsMate-3 n = record {
+  address = base_address n 2 (omega arith) (omega arith);
+  other = λ e. omega arith;
+  level = refl;
+  base = inr (refl, refl);
+}
 
 -- a closed set with a member holds both base triangles
 
@@ -136,20 +148,25 @@ pub only_base : (n : ℕ) → 1 ≤ n → (others : List ℕ) → IsConforming n
 only_base n low others conforming short =
     let closed : IsClosed n (ancestors_of others) = IsClosed-ancestors_of n others conforming in
     let counts = (AreLeaves-ancestors_of n others conforming).counts in
-    let as_long : length (leaves_of n (ancestors_of others)) ≡ length others = length-counts (leaves_of n (ancestors_of others)) others counts in
+    let as_long : length (leaves_of n (ancestors_of others)) ≡ length others =
+    length-counts (leaves_of n (ancestors_of others)) others counts in
     let none : (a : ℕ) → ancestors_of others a ≡ false = λ a. false_from_ne_true (ancestors_of others a)
-    (λ is. let many : 2 < length (leaves_of n (ancestors_of others)) = leaves-many n (ancestors_of others) a low closed is in omega arith) in
+    (λ is. let many : 2 < length (leaves_of n (ancestors_of others)) =
+    leaves-many n (ancestors_of others) a low closed is in omega arith) in
     let leaves : leaves_of n (ancestors_of others) ≡ 2 ∷ (3 ∷ []) =
     leaves_of-same n (ancestors_of others) empty none ∙ leaves-empty n in
     let two : length others ≡ 2 = let e = ap length leaves in omega arith in
-    only_two others two (entry 2 others (leaves_of n (ancestors_of others)) (counts 2) (leaves_count 2 (leaves_of n (ancestors_of others)) leaves (inl refl)))
-    (entry 3 others (leaves_of n (ancestors_of others)) (counts 3) (leaves_count 3 (leaves_of n (ancestors_of others)) leaves (inr (inl refl))))
+    only_two others two (entry 2 others (leaves_of n (ancestors_of others)) (counts 2)
+    (leaves_count 2 (leaves_of n (ancestors_of others)) leaves (inl refl)))
+    (entry 3 others (leaves_of n (ancestors_of others)) (counts 3)
+    (leaves_count 3 (leaves_of n (ancestors_of others)) leaves (inr (inl refl))))
   where
     leaves_count : (a : ℕ) (xs : List ℕ) → xs ≡ 2 ∷ (3 ∷ []) → IsIn a (2 ∷ (3 ∷ [])) → 1 ≤ count_by (λ t. eqb t a) xs
     leaves_count a xs e h = subst (λ (l : List ℕ). 1 ≤ count_by (λ t. eqb t a) l) (sym e)
         (count-some (λ t. eqb t a) a (2 ∷ (3 ∷ [])) h (eq-eqb a a refl))
 
-    entry : (a : ℕ) (ys xs : List ℕ) → count_by (λ t. eqb t a) xs ≡ count_by (λ t. eqb t a) ys → 1 ≤ count_by (λ t. eqb t a) xs → IsIn a ys
+    entry : (a : ℕ) (ys xs : List ℕ) → count_by (λ t. eqb t a) xs ≡ count_by (λ t. eqb t a) ys →
+        1 ≤ count_by (λ t. eqb t a) xs → IsIn a ys
     entry a ys xs same some =
         let found : (t : ℕ) × IsIn t ys × (eqb t a ≡ true) = some-count (λ t. eqb t a) ys (omega arith) in
         subst (λ t. IsIn t ys) (eqb-true found.0 a found.2) found.1

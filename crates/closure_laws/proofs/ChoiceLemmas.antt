@@ -1,5 +1,6 @@
 -- What the rank closure of a budget leaves: the worst leaf, and what blocks.
-use Rattle.std.proofs.Common.{◌≡◌, ℕ, ◌+◌, ◌*◌, ◌<◌, ◌≤◌, inl, inr, Bool, List, length, take, All, sym, ap, subst, arith, ⊎_elim}
+use Rattle.std.proofs.Common.{◌≡◌, ℕ, ◌+◌, ◌*◌, ◌<◌, ◌≤◌, inl, inr, Bool, List, length, take, All, sym, ap, subst}
+use Rattle.std.proofs.Common.{arith, ⊎_elim}
 use Rattle.std.proofs.Math.Seq.{take-length}
 use Rattle.std.proofs.lemmas.Bool.{cases_lt, cases_eq}
 use Rattle.std.proofs.lemmas.List.Elements.{All-weaker}
@@ -21,7 +22,8 @@ before-le : (priority : ℕ → ℕ) (t a : ℕ) → RanksBefore priority t a �
 before-le priority t a (inl h) = omega arith
 before-le priority t a (inr h) = omega arith
 
-module _ (n budget : ℕ) (priority : ℕ → ℕ) (ranking : List ℕ) (chosen : ℕ) (has : ℕ → Bool) (ranked : IsRanking n priority ranking) (falling : IsFalling n priority)
+module _ (n budget : ℕ) (priority : ℕ → ℕ) (ranking : List ℕ) (chosen : ℕ) (has : ℕ → Bool)
+    (ranked : IsRanking n priority ranking) (falling : IsFalling n priority)
     (closure : IsRankClosure n budget ranking chosen has) where
   -- an address of positive priority is ranked
   ranked-positive : (a : ℕ) → IsAddress n a → 0 < priority a → IsIn a ranking
@@ -30,13 +32,17 @@ module _ (n budget : ℕ) (priority : ℕ → ℕ) (ranking : List ℕ) (chosen 
       splittable : IsSplittable n a
       splittable = ⊎_elim
           (λ (coarse : level_of a < 2 * n). record { low = address.low; coarse = coarse })
-          (λ (fine : 2 * n ≤ level_of a). let fits = level-le n a address in let none = falling.finest a address (omega arith) in absurd (omega arith))
+          (λ (fine : 2 * n ≤ level_of a).
+          let fits = level-le n a address in
+          let none = falling.finest a address (omega arith) in
+          absurd (omega arith))
           (cases_lt (level_of a) (2 * n))
 
   -- where all are chosen, each leaf has priority 0
   pub leaves-zero : chosen ≡ length ranking → All (λ a. priority a ≡ 0) (leaves_of n has)
   leaves-zero all =
-      All-weaker (IsOuter n has) (λ a. priority a ≡ 0) zero_of (leaves_of n has) (IsOuter-leaves_of n has closure.closure.closed)
+      All-weaker (IsOuter n has) (λ a. priority a ≡ 0) zero_of (leaves_of n has)
+      (IsOuter-leaves_of n has closure.closure.closed)
     where
       whole : IsPrefixClosure n ranking (length ranking) has
       whole = subst (λ k. IsPrefixClosure n ranking k has) all closure.closure
@@ -46,7 +52,8 @@ module _ (n budget : ℕ) (priority : ℕ → ℕ) (ranking : List ℕ) (chosen 
           (λ (none : priority a < 1). omega arith)
           (λ (some : 1 ≤ priority a). absurd (outer.outside (whole.holds a
           (among-in a (take (length ranking) ranking)
-          (subst (λ (l : List ℕ). IsIn a l) (sym (take-length ranking)) (ranked-positive a outer.address (omega arith)))))))
+          (subst (λ (l : List ℕ). IsIn a l) (sym (take-length ranking))
+          (ranked-positive a outer.address (omega arith)))))))
           (cases_lt (priority a) 1)
 
   module _ (low : 2 ≤ budget) (t need : ℕ) (blocked : IsBlockedBy n ranking chosen t need) where
@@ -77,7 +84,8 @@ module _ (n budget : ℕ) (priority : ℕ → ℕ) (ranking : List ℕ) (chosen 
         (λ (none : priority a < 1). omega arith)
         (λ (some : 1 ≤ priority a). ⊎_elim
         (λ (same : a ≡ t). let e : priority a ≡ priority t = ap priority same in omega arith)
-        (λ (other : a ≡ t → ⊥). before-le priority t a (f.first a (Contains-in a (leaves_of n has) leaf) (omega arith) other))
+        (λ (other : a ≡ t → ⊥).
+        before-le priority t a (f.first a (Contains-in a (leaves_of n has) leaf) (omega arith) other))
         (cases_eq a t))
         (cases_lt (priority a) 1)) in
         omega arith

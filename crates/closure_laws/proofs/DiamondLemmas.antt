@@ -1,7 +1,9 @@
 -- Diamonds: a triangle and its mate, what a closed set has of one, and sets with one more and with one less.
-use Rattle.std.proofs.Common.{◌≡◌, ◌≢◌, ℕ, ◌+◌, ◌*◌, ◌/◌, ◌%◌, ◌<◌, ◌≤◌, ◌⊎◌, inl, inr, Bool, false, not, eqb, ◌||◌, ◌↔◌, IsTrue, List, [], ◌∷◌, length, Contains, refl, sym, ap, subst, arith, ⊎_elim, eq-eqb}
+use Rattle.std.proofs.Common.{◌≡◌, ◌≢◌, ℕ, ◌+◌, ◌*◌, ◌/◌, ◌%◌, ◌<◌, ◌≤◌, ◌⊎◌, inl, inr, Bool, false, not, eqb, ◌||◌}
+use Rattle.std.proofs.Common.{◌↔◌, IsTrue, List, [], ◌∷◌, length, Contains, refl, sym, ap, subst, arith, ⊎_elim, eq-eqb}
 use Rattle.std.specs.List.{filter}
-use Rattle.std.proofs.lemmas.Bool.{cases_lt, cases_Bool, both_ways, eqb-true, or_cases, or_left, or_right, not-true, not_from_false, false_from_ne_true}
+use Rattle.std.proofs.lemmas.Bool.{cases_lt, cases_Bool, both_ways, eqb-true, or_cases, or_left, or_right, not-true}
+use Rattle.std.proofs.lemmas.Bool.{not_from_false, false_from_ne_true}
 use Rattle.std.proofs.lemmas.List.Elements.{All-nil, All-cons, All-contains}
 use Rattle.mesh_defs.specs.Triangle.{level_of, IsAddress, IsMate}
 use Rattle.mesh_defs.specs.ClosedSet.{IsClosed, IsSubset, leaves_of, among}
@@ -26,7 +28,8 @@ module _ (n : ℕ) where
   pub diamond_trans : (a b c : ℕ) → IsAddress n a → IsInDiamond n a b → IsInDiamond n b c → IsInDiamond n a c
   diamond_trans a b c address (inl same) i = subst (λ z. IsInDiamond n z c) same i
   diamond_trans a b c address (inr mate) (inl same) = inr (subst (λ z. IsMate n a z) (sym same) mate)
-  diamond_trans a b c address (inr mate) (inr back) = inl (mate_unique n b c a mate.address back (mate_symmetric n a b address mate))
+  diamond_trans a b c address (inr mate) (inr back) =
+      inl (mate_unique n b c a mate.address back (mate_symmetric n a b address mate))
 
   pub diamond_symmetric : (a b : ℕ) → IsAddress n a → IsInDiamond n a b → IsInDiamond n b a
   diamond_symmetric a b address (inl same) = inl (sym same)
@@ -57,13 +60,17 @@ module _ (n : ℕ) where
               (or_cases (eqb b a) (eqb b found.0) h)),
           (λ i. ⊎_elim
               (λ (same : b ≡ a). or_left (eqb b a) (eqb b found.0) (eq-eqb b a same))
-              (λ (mate : IsMate n a b). or_right (eqb b a) (eqb b found.0) (eq-eqb b found.0 (mate_unique n a b found.0 address mate found.1)))
+              (λ (mate : IsMate n a b). or_right (eqb b a) (eqb b found.0)
+              (eq-eqb b found.0 (mate_unique n a b found.0 address mate found.1)))
               i),
         ),
       ))
       (λ none. (
         (λ b. eqb b a),
-        λ b. ((λ h. inl (eqb-true b a h)), (λ i. ⊎_elim (λ (same : b ≡ a). eq-eqb b a same) (λ mate. absurd (none b mate)) i)),
+        λ b. (
+          (λ h. inl (eqb-true b a h)),
+          (λ i. ⊎_elim (λ (same : b ≡ a). eq-eqb b a same) (λ mate. absurd (none b mate)) i),
+        ),
       ))
       (mate_or_none a address)
 
@@ -96,7 +103,8 @@ module _ (n : ℕ) where
       (cases_Bool (has (2 * b)))
 
   -- a diamond has a child that is a member, or no such child
-  pub child_or_childless : (has : ℕ → Bool) (a : ℕ) → IsAddress n a → ChildMember has a ⊎ ((b : ℕ) → IsInDiamond n a b → IsChildless has b)
+  pub child_or_childless : (has : ℕ → Bool) (a : ℕ) → IsAddress n a →
+      ChildMember has a ⊎ ((b : ℕ) → IsInDiamond n a b → IsChildless has b)
   child_or_childless has a address = ⊎_elim
       (λ below. inl below)
       (λ (own : IsChildless has a). ⊎_elim
@@ -117,15 +125,18 @@ module _ (n : ℕ) where
   -- a member below b is not missing
   pub not_childless : (has : ℕ → Bool) (child b : ℕ) → child / 2 ≡ b → IsChildless has b → IsTrue (has child) → ⊥
   not_childless has child b half none member = ⊎_elim
-      (λ (even : child % 2 < 1). both_ways (has child) (subst (λ z. has z ≡ false) (let e : 2 * b ≡ child = omega arith in e) none.0) member)
-      (λ (odd : 1 ≤ child % 2). both_ways (has child) (subst (λ z. has z ≡ false) (let e : 2 * b + 1 ≡ child = omega arith in e) none.1) member)
+      (λ (even : child % 2 < 1). both_ways (has child)
+      (subst (λ z. has z ≡ false) (let e : 2 * b ≡ child = omega arith in e) none.0) member)
+      (λ (odd : 1 ≤ child % 2). both_ways (has child)
+      (subst (λ z. has z ≡ false) (let e : 2 * b + 1 ≡ child = omega arith in e) none.1) member)
       (cases_lt (child % 2) 1)
 
   -- leaves
 
   -- a leaf of a closed set is no member and stands below a member
   pub leaf_outside : (has : ℕ → Bool) (a : ℕ) → IsClosed n has → Contains (leaves_of n has) a → IsOuter n has a
-  leaf_outside has a closed leaf = All-contains (IsOuter n has) (leaves_of n has) a (IsOuter-leaves_of n has closed) leaf
+  leaf_outside has a closed leaf =
+      All-contains (IsOuter n has) (leaves_of n has) a (IsOuter-leaves_of n has closed) leaf
 
   -- and an address that is so is a leaf
   pub outside_leaf : (has : ℕ → Bool) (a : ℕ) → IsClosed n has → IsOuter n has a → Contains (leaves_of n has) a
@@ -154,12 +165,14 @@ module _ (n : ℕ) where
             ((members a).0 h));
       }
 
-  pub with_diamond-closed : (before : List ℕ) (d : ℕ) (after : List ℕ) → IsClosed n (among before) → CanSplit n (among before) d →
+  pub with_diamond-closed : (before : List ℕ) (d : ℕ) (after : List ℕ) → IsClosed n (among before) →
+      CanSplit n (among before) d →
       IsWithDiamond n before d after → IsClosed n (among after)
   with_diamond-closed before d after closed can w = added_closed (among before) (among after) d closed can w.members
 
   -- and it is the least closed set with the triangle
-  pub with_diamond-forced : (before : List ℕ) (d : ℕ) (after : List ℕ) → IsClosed n (among before) → CanSplit n (among before) d →
+  pub with_diamond-forced : (before : List ℕ) (d : ℕ) (after : List ℕ) → IsClosed n (among before) →
+      CanSplit n (among before) d →
       IsWithDiamond n before d after → IsForced n before d after
   with_diamond-forced before d after closed can w = record {
     ascending = w.ascending;
@@ -177,14 +190,16 @@ module _ (n : ℕ) where
   }
 
   -- so that splitting it forces nothing else
-  pub forced-with_diamond : (before : List ℕ) (d : ℕ) (after : List ℕ) → IsClosed n (among before) → CanSplit n (among before) d →
+  pub forced-with_diamond : (before : List ℕ) (d : ℕ) (after : List ℕ) → IsClosed n (among before) →
+      CanSplit n (among before) d →
       IsForced n before d after → IsWithDiamond n before d after
   forced-with_diamond before d after closed can forced =
       let t = diamond_test d (IsAddress-splittable n d can.splittable) in
       let other : ℕ → Bool = λ a. among before a || t.0 a in
       let parts : (a : ℕ) → IsTrue (other a) ↔ (IsTrue (among before a) ⊎ IsInDiamond n d a) = λ a. (
         (λ h. ⊎_elim (λ old. inl old) (λ new. inr ((t.1 a).0 new)) (or_cases (among before a) (t.0 a) h)),
-        (λ r. ⊎_elim (λ old. or_left (among before a) (t.0 a) old) (λ new. or_right (among before a) (t.0 a) ((t.1 a).1 new)) r),
+        (λ r. ⊎_elim (λ old. or_left (among before a) (t.0 a) old)
+            (λ new. or_right (among before a) (t.0 a) ((t.1 a).1 new)) r),
       ) in
       record {
         ascending = forced.ascending;
@@ -197,7 +212,8 @@ module _ (n : ℕ) where
               a h)),
           (λ r. ⊎_elim
               (λ old. forced.least.holds a (with-old (among before) d a old))
-              (λ new. diamond_closed (among after) d a forced.least.closed (forced.least.holds d (with-new (among before) d)) new)
+              (λ new. diamond_closed (among after) d a forced.least.closed
+              (forced.least.holds d (with-new (among before) d)) new)
               r),
         );
       }
@@ -205,21 +221,26 @@ module _ (n : ℕ) where
   -- a set without a diamond
 
   -- there is one
-  pub without_diamond : (before : List ℕ) (d : ℕ) → IsAscending before → IsAddress n d → (after : List ℕ) × IsWithoutDiamond n before d after
+  pub without_diamond : (before : List ℕ) (d : ℕ) → IsAscending before → IsAddress n d →
+      (after : List ℕ) × IsWithoutDiamond n before d after
   without_diamond before d ascending address =
       let t = diamond_test d address in (
         filter (λ b. not (t.0 b)) before,
         record {
           ascending = ascending-filter (λ b. not (t.0 b)) before ascending;
           members = λ b. (
-            (λ h. let r = among-filter (λ b. not (t.0 b)) b before h in (r.0, λ i. both_ways (t.0 b) (not-true (t.0 b) r.1) ((t.1 b).1 i))),
-            (λ r. filter-among (λ b. not (t.0 b)) b before r.0 (not_from_false (t.0 b) (false_from_ne_true (t.0 b) (λ h. r.1 ((t.1 b).0 h))))),
+            (λ h.
+                let r = among-filter (λ b. not (t.0 b)) b before h in
+                (r.0, λ i. both_ways (t.0 b) (not-true (t.0 b) r.1) ((t.1 b).1 i))),
+            (λ r. filter-among (λ b. not (t.0 b)) b before r.0
+                (not_from_false (t.0 b) (false_from_ne_true (t.0 b) (λ h. r.1 ((t.1 b).0 h))))),
           );
         },
       )
 
   -- where the diamond can be merged it is closed
-  pub without_diamond-closed : (before : List ℕ) (d : ℕ) (after : List ℕ) → IsClosed n (among before) → CanMerge n (among before) d → IsWithoutDiamond n before d after →
+  pub without_diamond-closed : (before : List ℕ) (d : ℕ) (after : List ℕ) → IsClosed n (among before) →
+      CanMerge n (among before) d → IsWithoutDiamond n before d after →
       IsClosed n (among after)
   without_diamond-closed before d after closed can w =
       let address : IsAddress n d = IsAddress-splittable n d (closed.splittable d can.member) in
@@ -227,7 +248,10 @@ module _ (n : ℕ) where
         splittable = λ a h. closed.splittable a ((w.members a).0 h).0;
         parent = λ a h big.
             let was = ((w.members a).0 h).0 in
-            (w.members (a / 2)).1 (closed.parent a was big, λ i. not_childless (among before) a (a / 2) refl (can.childless (a / 2) i) was);
+            (w.members (a / 2)).1 (
+              closed.parent a was big,
+              λ i. not_childless (among before) a (a / 2) refl (can.childless (a / 2) i) was,
+            );
         mate = λ a b h mate.
             let r = (w.members a).0 h in
             (w.members b).1 (
@@ -244,16 +268,19 @@ module _ (n : ℕ) where
       (λ b h. among-in b (a ∷ []) (inl (sym ((only b).0 h))))
       (λ b h. ⊎_elim (λ (same : a ≡ b). (only b).1 (sym same)) (λ none. absurd none) (IsIn-among b (a ∷ []) h)))
 
-  two_long_in_order : (xs : List ℕ) (a b : ℕ) → a < b → IsAscending xs → ((c : ℕ) → IsTrue (among xs c) ↔ ((c ≡ a) ⊎ (c ≡ b))) → length xs ≡ 2
+  two_long_in_order : (xs : List ℕ) (a b : ℕ) → a < b → IsAscending xs →
+      ((c : ℕ) → IsTrue (among xs c) ↔ ((c ≡ a) ⊎ (c ≡ b))) → length xs ≡ 2
   two_long_in_order xs a b less rises only = ap (λ (l : List ℕ). length l) (same_list xs (a ∷ b ∷ []) rises
       (All-cons (λ y. a < y) b [] less (All-nil (λ y. a < y)), (All-nil (λ y. b < y), tt))
-      (λ c h. among-in c (a ∷ b ∷ []) (⊎_elim (λ (e : c ≡ a). inl (sym e)) (λ (e : c ≡ b). inr (inl (sym e))) ((only c).0 h)))
+      (λ c h. among-in c
+      (a ∷ b ∷ []) (⊎_elim (λ (e : c ≡ a). inl (sym e)) (λ (e : c ≡ b). inr (inl (sym e))) ((only c).0 h)))
       (λ c h. ⊎_elim
       (λ (e : a ≡ c). (only c).1 (inl (sym e)))
       (λ rest. ⊎_elim (λ (e : b ≡ c). (only c).1 (inr (sym e))) (λ none. absurd none) rest)
       (IsIn-among c (a ∷ b ∷ []) h)))
 
-  two_long : (xs : List ℕ) (a b : ℕ) → a ≢ b → IsAscending xs → ((c : ℕ) → IsTrue (among xs c) ↔ ((c ≡ a) ⊎ (c ≡ b))) → length xs ≡ 2
+  two_long : (xs : List ℕ) (a b : ℕ) → a ≢ b → IsAscending xs →
+      ((c : ℕ) → IsTrue (among xs c) ↔ ((c ≡ a) ⊎ (c ≡ b))) → length xs ≡ 2
   two_long xs a b differ rises only = ⊎_elim
       (λ (less : a < b). two_long_in_order xs a b less rises only)
       (λ (rest : b ≤ a). two_long_in_order xs b a (⊎_elim
@@ -270,8 +297,10 @@ module _ (n : ℕ) where
   IsLongerByDiamond d short long =
       (((m : ℕ) → IsMate n d m → long ≡ short + 2) × (((m : ℕ) → IsMate n d m → ⊥) → long ≡ short + 1))
 
-  diamond_longer : (part whole : List ℕ) (d : ℕ) → IsAddress n d → IsAscending part → IsAscending whole → IsSubset (among part) (among whole) →
-      ((b : ℕ) → (IsTrue (among whole b) × (IsTrue (among part b) → ⊥)) ↔ IsInDiamond n d b) → IsLongerByDiamond d (length part) (length whole)
+  diamond_longer : (part whole : List ℕ) (d : ℕ) → IsAddress n d → IsAscending part → IsAscending whole →
+      IsSubset (among part) (among whole) →
+      ((b : ℕ) → (IsTrue (among whole b) × (IsTrue (among part b) → ⊥)) ↔ IsInDiamond n d b) →
+      IsLongerByDiamond d (length part) (length whole)
   diamond_longer part whole d address rises climbs sub only =
       let rest : List ℕ = filter (λ a. not (among part a)) whole in
       let size = length-parts part whole rises climbs sub in
@@ -280,12 +309,14 @@ module _ (n : ℕ) where
         (λ h. let r = among-filter (λ a. not (among part a)) b whole h in
             (only b).0 (r.0, λ k. both_ways (among part b) (not-true (among part b) r.1) k)),
         (λ i. let r = (only b).1 i in
-            filter-among (λ a. not (among part a)) b whole r.0 (not_from_false (among part b) (false_from_ne_true (among part b) r.1))),
+            filter-among (λ a. not (among part a)) b whole r.0
+            (not_from_false (among part b) (false_from_ne_true (among part b) r.1))),
       ) in (
         (λ m mate.
             let two : length rest ≡ 2 = two_long rest d m (λ e. mate.other (sym e)) up (λ c. (
               (λ h. ⊎_elim (λ same. inl same) (λ other. inr (mate_unique n d c m address other mate)) ((there c).0 h)),
-              (λ r. (there c).1 (⊎_elim (λ same. inl same) (λ (same : c ≡ m). inr (subst (λ z. IsMate n d z) (sym same) mate)) r)),
+              (λ r. (there c).1
+                  (⊎_elim (λ same. inl same) (λ (same : c ≡ m). inr (subst (λ z. IsMate n d z) (sym same) mate)) r)),
             )) in omega arith),
         (λ none.
             let one : length rest ≡ 1 = one_long rest d up (λ c. (
@@ -294,16 +325,20 @@ module _ (n : ℕ) where
             )) in omega arith),
       )
 
-  pub with_diamond-length : (before : List ℕ) (d : ℕ) (after : List ℕ) → IsAscending before → IsClosed n (among before) →
+  pub with_diamond-length : (before : List ℕ) (d : ℕ) (after : List ℕ) → IsAscending before →
+      IsClosed n (among before) →
       CanSplit n (among before) d → IsWithDiamond n before d after → IsLongerByDiamond d (length before) (length after)
   with_diamond-length before d after rises closed can w =
-      diamond_longer before after d (IsAddress-splittable n d can.splittable) rises w.ascending (λ a h. (w.members a).1 (inl h)) (λ b. (
+      diamond_longer before after d (IsAddress-splittable n d can.splittable) rises w.ascending
+      (λ a h. (w.members a).1 (inl h)) (λ b. (
         (λ r. ⊎_elim (λ old. absurd (r.1 old)) (λ new. new) ((w.members b).0 r.0)),
         (λ i. ((w.members b).1 (inr i), (leaf_outside (among before) b closed (can.leaf b i)).outside)),
       ))
 
-  pub without_diamond-length : (before : List ℕ) (d : ℕ) (after : List ℕ) → IsAscending before → IsClosed n (among before) →
-      CanMerge n (among before) d → IsWithoutDiamond n before d after → IsLongerByDiamond d (length after) (length before)
+  pub without_diamond-length : (before : List ℕ) (d : ℕ) (after : List ℕ) → IsAscending before →
+      IsClosed n (among before) →
+      CanMerge n (among before) d → IsWithoutDiamond n before d after →
+      IsLongerByDiamond d (length after) (length before)
   without_diamond-length before d after rises closed can w =
       let address : IsAddress n d = IsAddress-splittable n d (closed.splittable d can.member) in
       let t = diamond_test d address in

@@ -1,6 +1,7 @@
--- What there is for every grid: the least closed set with any set of splittable triangles, a ranking, the rank closure of a
--- budget, and the frame of a budget.
-use Rattle.std.proofs.Common.{◌≡◌, ℕ, zero, suc, ◌+◌, ◌<◌, ◌≤◌, inl, inr, Bool, false, List, [], ◌∷◌, Option, None, Some, IsTrue, length, take, get_or, refl, sym, subst, arith, ⊎_elim}
+-- What there is for every grid: the least closed set with any set of splittable triangles, a ranking, the rank closure
+-- of a budget, and the frame of a budget.
+use Rattle.std.proofs.Common.{◌≡◌, ℕ, zero, suc, ◌+◌, ◌<◌, ◌≤◌, inl, inr, Bool, false, List, [], ◌∷◌, Option, None}
+use Rattle.std.proofs.Common.{Some, IsTrue, length, take, get_or, refl, sym, subst, arith, ⊎_elim}
 use Rattle.std.proofs.lemmas.Bool.{cases_lt}
 use Rattle.mesh_defs.specs.Triangle.{IsSplittable}
 use Rattle.mesh_defs.specs.ClosedSet.{IsClosed, IsLeastClosed, leaves_of, among}
@@ -9,7 +10,8 @@ use Rattle.mesh_defs.specs.Ranking.{IsRanking, IsPrefixClosure, IsRankClosure, I
 use Rattle.mesh_defs.proofs.ListLemmas.{IsIn, IsIn-among, among-in}
 use Rattle.mesh_defs.specs.GridSet.{IsAscending, IsForced}
 use Rattle.closure_laws.proofs.ForcingLemmas.{with-cases, with-old, with-new}
-use Rattle.closure_laws.proofs.ClosureLemmas.{nothing_least, IsLeastClosed-unique, IsLeastClosed-same, closure_of, leaves_of-none, leaves_of-same}
+use Rattle.closure_laws.proofs.ClosureLemmas.{nothing_least, IsLeastClosed-unique, IsLeastClosed-same, closure_of}
+use Rattle.closure_laws.proofs.ClosureLemmas.{leaves_of-none, leaves_of-same}
 use Rattle.closure_laws.proofs.RankLemmas.{in_prefix, at_place, slice_get-at}
 use Rattle.closure_laws.proofs.RankingLemmas.{ranking_of, IsRanking-of}
 use Rattle.bintree_addr.specs.declared.blocked.Blocked.{Blocked}
@@ -22,7 +24,8 @@ use Rattle.closure_laws.proofs.SetListLemmas.{list_of, ascending-list_of, among-
 -- least closed sets
 
 -- with a list of splittable triangles
-pub closure_of_list : (n : ℕ) (xs : List ℕ) → ((a : ℕ) → IsIn a xs → IsSplittable n a) → (has : ℕ → Bool) × IsLeastClosed n (among xs) has
+pub closure_of_list : (n : ℕ) (xs : List ℕ) → ((a : ℕ) → IsIn a xs → IsSplittable n a) →
+    (has : ℕ → Bool) × IsLeastClosed n (among xs) has
 closure_of_list n [] splittable = ((λ _. false), nothing_least n (among []) (λ a. refl))
 closure_of_list n (x ∷ xs) splittable =
     let rest = closure_of_list n xs (λ a i. splittable a (inr i)) in
@@ -42,9 +45,11 @@ closure_of_list n (x ∷ xs) splittable =
     )
 
 -- with any set of splittable triangles
-pub least_closed_of : (n : ℕ) (wanted : ℕ → Bool) → ((a : ℕ) → IsTrue (wanted a) → IsSplittable n a) → (has : ℕ → Bool) × IsLeastClosed n wanted has
+pub least_closed_of : (n : ℕ) (wanted : ℕ → Bool) → ((a : ℕ) → IsTrue (wanted a) → IsSplittable n a) →
+    (has : ℕ → Bool) × IsLeastClosed n wanted has
 least_closed_of n wanted splittable =
-    let r = closure_of_list n (list_of n wanted) (λ a i. splittable a (list_of-among n wanted a (among-in a (list_of n wanted) i))) in (
+    let r = closure_of_list n (list_of n wanted)
+    (λ a i. splittable a (list_of-among n wanted a (among-in a (list_of n wanted) i))) in (
       r.0,
       record {
         closed = r.1.closed;
@@ -54,19 +59,22 @@ least_closed_of n wanted splittable =
     )
 
 -- with a closed set and one triangle more, as a list
-pub forced_list : (n : ℕ) (before : List ℕ) (t : ℕ) → IsClosed n (among before) → IsSplittable n t → (after : List ℕ) × IsForced n before t after
+pub forced_list : (n : ℕ) (before : List ℕ) (t : ℕ) → IsClosed n (among before) → IsSplittable n t →
+    (after : List ℕ) × IsForced n before t after
 forced_list n before t closed splittable =
     let next = closure_of n (among before) t closed splittable in (
       list_of n next.0,
       record {
         ascending = ascending-list_of n next.0;
-        least = IsLeastClosed-same n (with_triangle (among before) t) next.0 (among (list_of n next.0)) (among-list_of n next.0 next.1.closed) next.1;
+        least = IsLeastClosed-same n (with_triangle (among before) t) next.0 (among (list_of n next.0))
+            (among-list_of n next.0 next.1.closed) next.1;
       },
     )
 
 -- rank closures
 
-module _ (n budget : ℕ) (priority : ℕ → ℕ) (ranking : List ℕ) (ranked : IsRanking n priority ranking) (low : 2 ≤ budget) where
+module _ (n budget : ℕ) (priority : ℕ → ℕ) (ranking : List ℕ) (ranked : IsRanking n priority ranking)
+    (low : 2 ≤ budget) where
   -- each prefix has a closure
   pub prefix_closure : (k : ℕ) → (has : ℕ → Bool) × IsPrefixClosure n ranking k has
   prefix_closure k = closure_of_list n (take k ranking) (λ a i.
@@ -80,7 +88,8 @@ module _ (n budget : ℕ) (priority : ℕ → ℕ) (ranking : List ℕ) (ranked 
     has : ℕ → Bool
     closure : IsPrefixClosure n ranking chosen has
     fits : length (leaves_of n has) ≤ budget
-    longest : (k : ℕ) (other : ℕ → Bool) → chosen < k → k ≤ most → IsPrefixClosure n ranking k other → budget < length (leaves_of n other)
+    longest : (k : ℕ) (other : ℕ → Bool) → chosen < k → k ≤ most → IsPrefixClosure n ranking k other →
+        budget < length (leaves_of n other)
 
   longest_prefix : (most : ℕ) → most ≤ length ranking → Longest most
   longest_prefix zero le = record {
@@ -112,7 +121,14 @@ module _ (n budget : ℕ) (priority : ℕ → ℕ) (ranking : List ℕ) (ranked 
             (cases_lt k (suc most));
       })
       (λ (fits : length (leaves_of n top.0) ≤ budget).
-      record { chosen = suc most; prefix = omega arith; has = top.0; closure = top.1; fits = fits; longest = λ k other more within. absurd (omega arith) })
+      record {
+        chosen = suc most;
+        prefix = omega arith;
+        has = top.0;
+        closure = top.1;
+        fits = fits;
+        longest = λ k other more within. absurd (omega arith);
+      })
       (cases_lt budget (length (leaves_of n top.0)))
 
   -- there is a rank closure
@@ -165,12 +181,14 @@ frame_of_test n budget priority low =
 
 -- there is one, whatever the priorities are, and its set is a list
 pub frame_of : (n budget : ℕ) (priority : ℕ → ℕ) → 2 ≤ budget →
-    (members : List ℕ) × (worst : ℕ) × (blocked : Option Blocked) × IsAscending members × IsFrame n budget priority (among members) worst blocked
+    (members : List ℕ) × (worst : ℕ) × (blocked : Option Blocked) × IsAscending members
+    × IsFrame n budget priority (among members) worst blocked
 frame_of n budget priority low =
     let r = frame_of_test n budget priority low in (
       list_of n r.0,
       r.1,
       r.2,
       ascending-list_of n r.0,
-      IsFrame-same n budget priority r.0 (among (list_of n r.0)) r.1 r.2 (among-list_of n r.0 r.3.closure.closure.closed) r.3,
+      IsFrame-same n budget priority r.0 (among (list_of n r.0)) r.1 r.2
+          (among-list_of n r.0 r.3.closure.closure.closed) r.3,
     )

@@ -1,5 +1,6 @@
 -- Forced splits: how the least closed set with a triangle comes from those with its parent and its mate's.
-use Rattle.std.proofs.Common.{◌≡◌, ℕ, ◌/◌, ◌<◌, ◌≤◌, ◌⊎◌, inl, inr, Bool, true, eqb, IsTrue, refl, sym, ◌∙◌, subst, arith, ⊎_elim, eq-eqb}
+use Rattle.std.proofs.Common.{◌≡◌, ℕ, ◌/◌, ◌<◌, ◌≤◌, ◌⊎◌, inl, inr, Bool, true, eqb, IsTrue, refl, sym, ◌∙◌, subst}
+use Rattle.std.proofs.Common.{arith, ⊎_elim, eq-eqb}
 use Rattle.std.proofs.lemmas.Bool.{or_cases, or_left, or_right, eqb-true}
 use Rattle.mesh_defs.specs.Triangle.{IsSplittable, IsMate}
 use Rattle.mesh_defs.specs.ClosedSet.{IsClosed, IsSubset, IsLeastClosed}
@@ -23,7 +24,8 @@ pub with-new : (has : ℕ → Bool) (f : ℕ) → IsTrue (with_triangle has f f)
 with-new has f = or_right (has f) (eqb f f) (eq-eqb f f refl)
 
 -- a member is forced by nothing
-pub IsLeastClosed-member : (n : ℕ) (has : ℕ → Bool) (t : ℕ) → IsClosed n has → has t ≡ true → IsLeastClosed n (with_triangle has t) has
+pub IsLeastClosed-member : (n : ℕ) (has : ℕ → Bool) (t : ℕ) → IsClosed n has → has t ≡ true →
+    IsLeastClosed n (with_triangle has t) has
 IsLeastClosed-member n has t closed is = record {
   closed = closed;
   holds = λ a h. ⊎_elim (λ old. old) (λ same. subst (λ z. IsTrue (has z)) same is) (with-cases has t a h);
@@ -40,19 +42,22 @@ IsPrepared-base n has t closed small = record {
 }
 
 -- a triangle with a parent is prepared once the parent is forced
-pub IsPrepared-parent : (n : ℕ) (before after : ℕ → Bool) (t p : ℕ) → p ≡ t / 2 → 4 ≤ t → IsLeastClosed n (with_triangle before p) after →
+pub IsPrepared-parent : (n : ℕ) (before after : ℕ → Bool) (t p : ℕ) → p ≡ t / 2 → 4 ≤ t →
+    IsLeastClosed n (with_triangle before p) after →
     IsPrepared n before after t
 IsPrepared-parent n before after t p half big g = record {
   closed = g.closed;
   holds = λ a h. g.holds a (with-old before p a h);
   parent = λ _. subst (λ z. IsTrue (after z)) half (g.holds p (with-new before p));
   least = λ other c holds parent. g.least other c
-      (λ a h. ⊎_elim (λ old. holds a old) (λ same. subst (λ z. IsTrue (other z)) (sym half ∙ same) (parent big)) (with-cases before p a h));
+      (λ a h. ⊎_elim (λ old. holds a old) (λ same. subst (λ z. IsTrue (other z)) (sym half ∙ same) (parent big))
+      (with-cases before p a h));
 }
 
 -- a triangle with no mate
 
-module _ (n : ℕ) (before prepared after : ℕ → Bool) (t : ℕ) (splittable : IsSplittable n t) (p : IsPrepared n before prepared t)
+module _ (n : ℕ) (before prepared after : ℕ → Bool) (t : ℕ) (splittable : IsSplittable n t)
+    (p : IsPrepared n before prepared t)
     (alone : (b : ℕ) → IsMate n t b → ⊥) (added : (a : ℕ) → after a ≡ with_triangle prepared t a) where
   -- a member afterwards was one before, or is t
   single_cases : (a : ℕ) → IsTrue (after a) → IsTrue (prepared a) ⊎ (t ≡ a)
@@ -75,7 +80,8 @@ module _ (n : ℕ) (before prepared after : ℕ → Bool) (t : ℕ) (splittable 
         (single_cases a h);
     parent = λ a h big. ⊎_elim
         (λ old. single_old (a / 2) (p.closed.parent a old big))
-        (λ same. single_old (a / 2) (subst (λ z. IsTrue (prepared (z / 2))) same (p.parent (let e : t ≡ a = same in omega arith))))
+        (λ same. single_old (a / 2) (subst (λ z. IsTrue (prepared (z / 2))) same
+        (p.parent (let e : t ≡ a = same in omega arith))))
         (single_cases a h);
     mate = λ a b h m. ⊎_elim
         (λ old. single_old b (p.closed.mate a b old m))
@@ -101,9 +107,11 @@ module _ (n : ℕ) (before prepared after : ℕ → Bool) (t : ℕ) (splittable 
 
 -- a triangle and its mate
 
-module _ (n : ℕ) (before first second half after : ℕ → Bool) (t u : ℕ) (splittable : IsSplittable n t) (mate : IsMate n t u)
+module _ (n : ℕ) (before first second half after : ℕ → Bool) (t u : ℕ)
+    (splittable : IsSplittable n t) (mate : IsMate n t u)
     (p : IsPrepared n before first t) (q : IsPrepared n first second u)
-    (added_mate : (a : ℕ) → half a ≡ with_triangle second u a) (added : (a : ℕ) → after a ≡ with_triangle half t a) where
+    (added_mate : (a : ℕ) → half a ≡ with_triangle second u a)
+    (added : (a : ℕ) → after a ≡ with_triangle half t a) where
   -- a member afterwards was one before, or is u or t
   pair_cases : (a : ℕ) → IsTrue (after a) → IsTrue (second a) ⊎ ((u ≡ a) ⊎ (t ≡ a))
   pair_cases a h = ⊎_elim
@@ -125,7 +133,10 @@ module _ (n : ℕ) (before first second half after : ℕ → Bool) (t u : ℕ) (
 
   -- the mate is splittable
   splittable_mate : IsSplittable n u
-  splittable_mate = let e = mate.level in let h = splittable.coarse in record { low = mate.address.low; coarse = omega arith }
+  splittable_mate =
+      let e = mate.level in
+      let h = splittable.coarse in
+      record { low = mate.address.low; coarse = omega arith }
 
   -- the set is closed
   IsClosed-pair : IsClosed n after
@@ -140,8 +151,10 @@ module _ (n : ℕ) (before first second half after : ℕ → Bool) (t u : ℕ) (
     parent = λ a h big. ⊎_elim
         (λ old. pair_old (a / 2) (q.closed.parent a old big))
         (λ new. ⊎_elim
-        (λ same. pair_old (a / 2) (subst (λ z. IsTrue (second (z / 2))) same (q.parent (let e : u ≡ a = same in omega arith))))
-        (λ same. pair_old (a / 2) (subst (λ z. IsTrue (second (z / 2))) same (q.holds (t / 2) (p.parent (let e : t ≡ a = same in omega arith)))))
+        (λ same. pair_old (a / 2) (subst (λ z. IsTrue (second (z / 2))) same
+        (q.parent (let e : u ≡ a = same in omega arith))))
+        (λ same. pair_old (a / 2) (subst (λ z. IsTrue (second (z / 2))) same
+        (q.holds (t / 2) (p.parent (let e : t ≡ a = same in omega arith)))))
         new)
         (pair_cases a h);
     mate = λ a b h m. ⊎_elim
@@ -152,7 +165,8 @@ module _ (n : ℕ) (before first second half after : ℕ → Bool) (t u : ℕ) (
         let e : t ≡ b = mate_unique n u t b mate.address back (subst (λ z. IsMate n z b) (sym same) m) in
         subst (λ z. IsTrue (after z)) e pair_new)
         (λ same.
-        let e : u ≡ b = mate_unique n t u b (IsAddress-splittable n t splittable) mate (subst (λ z. IsMate n z b) (sym same) m) in
+        let e : u ≡ b =
+        mate_unique n t u b (IsAddress-splittable n t splittable) mate (subst (λ z. IsMate n z b) (sym same) m) in
         subst (λ z. IsTrue (after z)) e pair_mate)
         new)
         (pair_cases a h);
@@ -169,7 +183,8 @@ module _ (n : ℕ) (before first second half after : ℕ → Bool) (t u : ℕ) (
     least = λ other c holds a h.
         let member : IsTrue (other t) = holds t (with-new before t) in
         let beside : IsTrue (other u) = c.mate t u member mate in
-        let within : IsSubset first other = p.least other c (λ z k. holds z (with-old before t z k)) (λ big. c.parent t member big) in
+        let within : IsSubset first other =
+        p.least other c (λ z k. holds z (with-old before t z k)) (λ big. c.parent t member big) in
         ⊎_elim
         (λ old. q.least other c within (λ big. c.parent u beside big) a old)
         (λ new. ⊎_elim

@@ -1,6 +1,8 @@
 -- The leaves of a closed set: which addresses they are, that each stands once, how many there can be, and that
 -- they determine the set.
-use Rattle.std.proofs.Common.{◌≡◌, ℕ, zero, suc, ◌+◌, ◌-◌, ◌*◌, ◌/◌, ◌^◌, ◌<◌, ◌≤◌, ◌↔◌, Bool, true, false, eqb, IsTrue, List, [], ◌∷◌, ◌++◌, length, Contains, refl, sym, subst, arith, ⊎_elim, length-append, count_by, pow_pos, pow-add, ◌∙◌, ap}
+use Rattle.std.proofs.Common.{◌≡◌, ℕ, zero, suc, ◌+◌, ◌-◌, ◌*◌, ◌/◌, ◌^◌, ◌<◌, ◌≤◌, ◌↔◌, Bool, true, false, eqb, IsTrue}
+use Rattle.std.proofs.Common.{List, [], ◌∷◌, ◌++◌, length, Contains, refl, sym, subst, arith, ⊎_elim, length-append}
+use Rattle.std.proofs.Common.{count_by, pow_pos, pow-add, ◌∙◌, ap}
 use Rattle.std.proofs.Math.Nat.{pow-succ'}
 use Rattle.std.proofs.lemmas.Bool.{cases_lt, cases_Bool, eqb-true, both_ways}
 use Rattle.std.proofs.lemmas.List.Elements.{All-contains}
@@ -8,7 +10,8 @@ use Rattle.mesh_defs.specs.Triangle.{level_of, IsAddress}
 use Rattle.mesh_defs.specs.Tiling.{is_inside}
 use Rattle.mesh_defs.specs.ClosedSet.{IsClosed, leaves_under, leaves_of}
 use Rattle.mesh_defs.proofs.ListLemmas.{IsIn, Contains-in, some-count, count-narrower}
-use Rattle.tiling_laws.proofs.DescentLemmas.{IsDown-address, IsAddress-splittable, sample_of, IsAddress-leaves_of, Tiles-leaves_of}
+use Rattle.tiling_laws.proofs.DescentLemmas.{IsDown-address, IsAddress-splittable, sample_of, IsAddress-leaves_of}
+use Rattle.tiling_laws.proofs.DescentLemmas.{Tiles-leaves_of}
 use Rattle.tiling_laws.proofs.ConformityLemmas.{IsUnder, self, below, member_above}
 use Rattle.tiling_laws.proofs.ConverseLemmas.{IsAddress-parent}
 use Rattle.mesh_defs.proofs.TestLemmas.{same_tests}
@@ -20,9 +23,11 @@ use Rattle.closure_laws.proofs.ClosureLemmas.{IsOuter, IsOuter-leaves_of, leaf-o
 pub leaf-where : (n : ℕ) (has : ℕ → Bool) (a : ℕ) → IsClosed n has →
     Contains (leaves_of n has) a ↔ (IsAddress n a × (IsTrue (has a) → ⊥) × (4 ≤ a → IsTrue (has (a / 2))))
 leaf-where n has a closed = (
-  λ leaf. let outer : IsOuter n has a = All-contains (IsOuter n has) (leaves_of n has) a (IsOuter-leaves_of n has closed) leaf in
+  λ leaf. let outer : IsOuter n has a =
+      All-contains (IsOuter n has) (leaves_of n has) a (IsOuter-leaves_of n has closed) leaf in
       (outer.address, outer.outside, outer.parent),
-  λ outer. Contains-in a (leaves_of n has) (leaf-outer n has a closed record { address = outer.0; outside = outer.1; parent = outer.2 }),
+  λ outer. Contains-in a (leaves_of n has)
+      (leaf-outer n has a closed record { address = outer.0; outside = outer.1; parent = outer.2 }),
 )
 
 -- each once
@@ -32,8 +37,10 @@ pub leaf-once : (n : ℕ) (has : ℕ → Bool) (a : ℕ) → count_by (λ t. eqb
 leaf-once n has a = ⊎_elim
     (λ none. omega arith)
     (λ some.
-    let found : (t : ℕ) × IsIn t (leaves_of n has) × (eqb t a ≡ true) = some-count (λ t. eqb t a) (leaves_of n has) some in
-    let leaf : Contains (leaves_of n has) a = Contains-in a (leaves_of n has) (subst (λ t. IsIn t (leaves_of n has)) (eqb-true found.0 a found.2) found.1) in
+    let found : (t : ℕ) × IsIn t (leaves_of n has) × (eqb t a ≡ true) =
+    some-count (λ t. eqb t a) (leaves_of n has) some in
+    let leaf : Contains (leaves_of n has) a =
+    Contains-in a (leaves_of n has) (subst (λ t. IsIn t (leaves_of n has)) (eqb-true found.0 a found.2) found.1) in
     let address : IsAddress n a = All-contains (IsAddress n) (leaves_of n has) a (IsAddress-leaves_of n has) leaf in
     let s = sample_of n (2 * n - level_of a) a (IsDown-address n a address) in
     let one : count_by (is_inside n s.0 s.1) (leaves_of n has) ≡ 1 = Tiles-leaves_of n has s.0 s.1 s.2 in
@@ -59,7 +66,8 @@ leaves_under-split (suc levels) has a some split =
 -- what is no member is its own leaf
 pub leaves_under-whole : (levels : ℕ) (has : ℕ → Bool) (a : ℕ) → has a ≡ false → leaves_under levels has a ≡ a ∷ []
 leaves_under-whole zero has a whole = refl
-leaves_under-whole (suc levels) has a whole = ap (fork (leaves_under levels has (2 * a)) (leaves_under levels has (2 * a + 1)) a) whole
+leaves_under-whole (suc levels) has a whole =
+    ap (fork (leaves_under levels has (2 * a)) (leaves_under levels has (2 * a + 1)) a) whole
 
 -- how many
 
@@ -87,28 +95,39 @@ pub leaves-most : (n : ℕ) (has : ℕ → Bool) → length (leaves_of n has) �
 unfolding leaves_of
 leaves-most n has =
     let lower = length-leaves_under (2 * n) has 2 in let upper = length-leaves_under (2 * n) has 3 in
-    let e = length-append (leaves_under (2 * n) has 2) (leaves_under (2 * n) has 3) in let p = four-power n in omega arith
+    let e = length-append (leaves_under (2 * n) has 2) (leaves_under (2 * n) has 3) in
+    let p = four-power n in
+    omega arith
 
 -- they determine the set
 
 -- a triangle that is no member lies at or below a leaf
-leaf_above : (n : ℕ) (has : ℕ → Bool) (steps a : ℕ) → a ≤ steps → IsAddress n a → has a ≡ false → (v : ℕ) × IsOuter n has v × IsUnder v a
+leaf_above : (n : ℕ) (has : ℕ → Bool) (steps a : ℕ) → a ≤ steps → IsAddress n a → has a ≡ false →
+    (v : ℕ) × IsOuter n has v × IsUnder v a
 leaf_above n has zero a enough address none = let low = address.low in absurd (omega arith)
 leaf_above n has (suc steps) a enough address none = ⊎_elim
-    (λ base. (a, record { address = address; outside = λ is. both_ways (has a) none is; parent = λ big. absurd (omega arith) }, self))
+    (λ base. (
+      a,
+      record { address = address; outside = λ is. both_ways (has a) none is; parent = λ big. absurd (omega arith) },
+      self,
+    ))
     (λ big. ⊎_elim
-    (λ (parent : has (a / 2) ≡ true). (a, record { address = address; outside = λ is. both_ways (has a) none is; parent = λ _. parent }, self))
+    (λ (parent : has (a / 2) ≡ true).
+    (a, record { address = address; outside = λ is. both_ways (has a) none is; parent = λ _. parent }, self))
     (λ (outside : has (a / 2) ≡ false).
-    let r = leaf_above n has steps (a / 2) (omega arith) (IsAddress-parent n a address big) outside in (r.0, r.1, below a big r.2))
+    let r = leaf_above n has steps (a / 2) (omega arith) (IsAddress-parent n a address big) outside in
+    (r.0, r.1, below a big r.2))
     (cases_Bool (has (a / 2))))
     (cases_lt a 4)
 
 -- where all leaves of the one are leaves of the other, all members of the other are members of the one
 within_leaves : (n : ℕ) (has other : ℕ → Bool) → IsClosed n has → IsClosed n other →
-    ((v : ℕ) → Contains (leaves_of n other) v → Contains (leaves_of n has) v) → (a : ℕ) → IsAddress n a → IsTrue (has a) → other a ≡ false → ⊥
+    ((v : ℕ) → Contains (leaves_of n other) v → Contains (leaves_of n has) v) → (a : ℕ) → IsAddress n a →
+    IsTrue (has a) → other a ≡ false → ⊥
 within_leaves n has other closed too leaves a address member none =
     let v = leaf_above n other a a (omega arith) address none in
-    let leaf : Contains (leaves_of n has) v.0 = leaves v.0 (Contains-in v.0 (leaves_of n other) (leaf-outer n other v.0 too v.1)) in
+    let leaf : Contains (leaves_of n has) v.0 =
+    leaves v.0 (Contains-in v.0 (leaves_of n other) (leaf-outer n other v.0 too v.1)) in
     ((leaf-where n has v.0 closed).0 leaf).1 (member_above has closed.parent v.0 a v.2 member)
 
 -- closed sets with the same leaves are the same set
@@ -118,7 +137,8 @@ leaves-determine n has other closed too leaves a = same_tests (has a) (other a)
     (λ is. member has other closed too (λ v. (leaves v).1) is)
     (λ is. member other has too closed (λ v. (leaves v).0) is)
   where
-    member : (one two : ℕ → Bool) → IsClosed n one → IsClosed n two → ((v : ℕ) → Contains (leaves_of n two) v → Contains (leaves_of n one) v) →
+    member : (one two : ℕ → Bool) → IsClosed n one → IsClosed n two →
+        ((v : ℕ) → Contains (leaves_of n two) v → Contains (leaves_of n one) v) →
         one a ≡ true → two a ≡ true
     member one two c d within is = ⊎_elim
         (λ yes. yes)

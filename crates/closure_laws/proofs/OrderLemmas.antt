@@ -90,7 +90,8 @@ ranks_no_later priority {a} {b} (inl same) = inr (ap priority same, omega arith)
 ranks_no_later priority (inr before) = before-no_later before
 
 -- the first entry of those that have P, in an order R of all numbers
-module _ (R : ℕ → ℕ → Type 0) (order : (a b : ℕ) → (a ≡ b) ⊎ (R a b ⊎ R b a)) (trans : (a b c : ℕ) → R a b → R b c → R a c) (P : ℕ → Type 0) where
+module _ (R : ℕ → ℕ → Type 0) (order : (a b : ℕ) → (a ≡ b) ⊎ (R a b ⊎ R b a))
+    (trans : (a b c : ℕ) → R a b → R b c → R a c) (P : ℕ → Type 0) where
   -- f is one of them, and the others come after it
   pub record IsFirstOf (xs : List ℕ) (f : ℕ) : Type 0 where
     pub entry : IsIn f xs
@@ -98,21 +99,57 @@ module _ (R : ℕ → ℕ → Type 0) (order : (a b : ℕ) → (a ≡ b) ⊎ (R 
     pub first : (a : ℕ) → IsIn a xs → P a → (a ≡ f) ⊎ R f a
 
   -- a first one, or none
-  pub first_of : (xs : List ℕ) → ((a : ℕ) → IsIn a xs → P a ⊎ (P a → ⊥)) → ((f : ℕ) × IsFirstOf xs f) ⊎ ((a : ℕ) → IsIn a xs → P a → ⊥)
+  pub first_of : (xs : List ℕ) → ((a : ℕ) → IsIn a xs → P a ⊎ (P a → ⊥)) →
+      ((f : ℕ) × IsFirstOf xs f) ⊎ ((a : ℕ) → IsIn a xs → P a → ⊥)
   first_of [] decide = inr (λ a h. absurd h)
   first_of (x ∷ xs) decide = ⊎_elim
       (λ (yes : P x). ⊎_elim
       (λ (r : (f : ℕ) × IsFirstOf xs f). ⊎_elim
-      (λ (same : x ≡ r.0). inl (x, record { entry = inl refl; is = yes; first = λ a h k. tail_or_head a h (λ e. inl (sym e)) (λ i. follow a r.0 (inl same) (r.1.first a i k)) }))
+      (λ (same : x ≡ r.0). inl (
+        x,
+        record {
+          entry = inl refl;
+          is = yes;
+          first = λ a h k. tail_or_head a h (λ e. inl (sym e)) (λ i. follow a r.0 (inl same) (r.1.first a i k));
+        },
+      ))
       (λ differ. ⊎_elim
-      (λ (before : R x r.0). inl (x, record { entry = inl refl; is = yes; first = λ a h k. tail_or_head a h (λ e. inl (sym e)) (λ i. follow a r.0 (inr before) (r.1.first a i k)) }))
-      (λ (after : R r.0 x). inl (r.0, record { entry = inr r.1.entry; is = r.1.is; first = λ a h k. tail_or_head a h (λ e. inr (subst (λ z. R r.0 z) e after)) (λ i. r.1.first a i k) }))
+      (λ (before : R x r.0). inl (
+        x,
+        record {
+          entry = inl refl;
+          is = yes;
+          first = λ a h k. tail_or_head a h (λ e. inl (sym e)) (λ i. follow a r.0 (inr before) (r.1.first a i k));
+        },
+      ))
+      (λ (after : R r.0 x). inl (
+        r.0,
+        record {
+          entry = inr r.1.entry;
+          is = r.1.is;
+          first = λ a h k. tail_or_head a h (λ e. inr (subst (λ z. R r.0 z) e after)) (λ i. r.1.first a i k);
+        },
+      ))
       differ)
       (order x r.0))
-      (λ none. inl (x, record { entry = inl refl; is = yes; first = λ a h k. tail_or_head a h (λ e. inl (sym e)) (λ i. absurd (none a i k)) }))
+      (λ none. inl (
+        x,
+        record {
+          entry = inl refl;
+          is = yes;
+          first = λ a h k. tail_or_head a h (λ e. inl (sym e)) (λ i. absurd (none a i k));
+        },
+      ))
       (first_of xs (λ a i. decide a (inr i))))
       (λ (no : P x → ⊥). ⊎_elim
-      (λ (r : (f : ℕ) × IsFirstOf xs f). inl (r.0, record { entry = inr r.1.entry; is = r.1.is; first = λ a h k. tail_or_head a h (λ e. absurd (no (subst P (sym e) k))) (λ i. r.1.first a i k) }))
+      (λ (r : (f : ℕ) × IsFirstOf xs f). inl (
+        r.0,
+        record {
+          entry = inr r.1.entry;
+          is = r.1.is;
+          first = λ a h k. tail_or_head a h (λ e. absurd (no (subst P (sym e) k))) (λ i. r.1.first a i k);
+        },
+      ))
       (λ none. inr (λ a h k. tail_or_head_no a h (λ e. no (subst P (sym e) k)) (λ i. none a i k)))
       (first_of xs (λ a i. decide a (inr i))))
       (decide x (inl refl))

@@ -1,5 +1,7 @@
 -- For every priority there is a ranking: the splittable addresses, placed one after the other by insertion.
-use Rattle.std.proofs.Common.{◌≡◌, ℕ, zero, suc, ◌*◌, ◌^◌, ◌<◌, ◌≤◌, ◌⊎◌, inl, inr, List, [], ◌∷◌, Bool, true, cond, ◌&&◌, ltb, sym, ◌∙◌, subst, arith, ltb-true, ltb-false, lt-ltb, ⊎_elim, All, AllPairs, get_or}
+use Rattle.std.proofs.Common.{◌≡◌, ℕ, zero, suc, ◌*◌, ◌^◌, ◌<◌, ◌≤◌, ◌⊎◌, inl, inr, List, [], ◌∷◌, Bool, true, cond}
+use Rattle.std.proofs.Common.{◌&&◌, ltb, sym, ◌∙◌, subst, arith, ltb-true, ltb-false, lt-ltb, ⊎_elim, All, AllPairs}
+use Rattle.std.proofs.Common.{get_or}
 use Rattle.std.proofs.lemmas.Bool.{cases_lt, cond_both, and_parts, and_from, false≢true}
 use Rattle.std.proofs.lemmas.List.Elements.{All-cons, All-nil, All-head, All-tail, All-weaker, Contains-get_or}
 use Rattle.mesh_defs.specs.Triangle.{IsSplittable, level_of}

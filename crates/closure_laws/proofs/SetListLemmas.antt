@@ -1,5 +1,8 @@
--- Sets as ascending lists: what a filter keeps, how long a list with fewer members is, and that each closed set is such a list.
-use Rattle.std.proofs.Common.{◌≡◌, ℕ, zero, suc, ◌+◌, ◌*◌, ◌^◌, ◌<◌, ◌≤◌, ◌⊎◌, ◌||◌, ◌↔◌, inl, inr, Bool, true, false, not, nat_eq, IsTrue, List, [], ◌∷◌, length, count_by, All, refl, sym, ◌∙◌, ap, ap₂, subst, arith, ⊎_elim}
+-- Sets as ascending lists: what a filter keeps, how long a list with fewer members is, and that each closed set is such
+-- a list.
+use Rattle.std.proofs.Common.{◌≡◌, ℕ, zero, suc, ◌+◌, ◌*◌, ◌^◌, ◌<◌, ◌≤◌, ◌⊎◌, ◌||◌, ◌↔◌, inl, inr, Bool, true, false}
+use Rattle.std.proofs.Common.{not, nat_eq, IsTrue, List, [], ◌∷◌, length, count_by, All, refl, sym, ◌∙◌, ap, ap₂, subst}
+use Rattle.std.proofs.Common.{arith, ⊎_elim}
 use Rattle.std.specs.List.{filter, range_with_len, IsDistinct}
 use Rattle.std.specs.Set.{is_member}
 use Rattle.std.proofs.lemmas.Bool.{cases_lt, cases_Bool, cond_both, both_ways, not_from_false}
@@ -10,7 +13,8 @@ use Rattle.std.proofs.lemmas.Map.Made.{length-le_from_is_member}
 use Rattle.mesh_defs.specs.Triangle.{IsSplittable}
 use Rattle.mesh_defs.specs.ClosedSet.{IsClosed, IsSubset, among}
 use Rattle.bintree_laws.proofs.LevelLemmas.{splittable-below}
-use Rattle.mesh_defs.proofs.ListLemmas.{IsIn, Contains-in, IsIn-among, among-in, count-cons, count-yes, count-no, count-narrower}
+use Rattle.mesh_defs.proofs.ListLemmas.{IsIn, Contains-in, IsIn-among, among-in, count-cons, count-yes, count-no}
+use Rattle.mesh_defs.proofs.ListLemmas.{count-narrower}
 use Rattle.mesh_defs.specs.GridSet.{IsAscending}
 use Rattle.mesh_defs.proofs.TestLemmas.{same_tests}
 use Rattle.closure_laws.proofs.MemberLemmas.{ascending_unique}
@@ -46,11 +50,13 @@ filter-in p a (x ∷ xs) h passes =
     h)
 
 -- the same for the test of membership
-pub among-filter : (p : ℕ → Bool) (a : ℕ) (xs : List ℕ) → IsTrue (among (filter p xs) a) → IsTrue (among xs a) × (p a ≡ true)
+pub among-filter : (p : ℕ → Bool) (a : ℕ) (xs : List ℕ) → IsTrue (among (filter p xs) a) →
+    IsTrue (among xs a) × (p a ≡ true)
 among-filter p a xs h = let r = in-filter p a xs (IsIn-among a (filter p xs) h) in (among-in a xs r.0, r.1)
 
 -- an entry that passes stays
-pub filter-among : (p : ℕ → Bool) (a : ℕ) (xs : List ℕ) → IsTrue (among xs a) → p a ≡ true → IsTrue (among (filter p xs) a)
+pub filter-among : (p : ℕ → Bool) (a : ℕ) (xs : List ℕ) → IsTrue (among xs a) → p a ≡ true →
+    IsTrue (among (filter p xs) a)
 filter-among p a xs h passes = among-in a (filter p xs) (filter-in p a xs (IsIn-among a xs h) passes)
 
 -- a filter of an ascending list is ascending
@@ -64,7 +70,8 @@ ascending-filter p (x ∷ xs) h =
 -- lists with the same members
 
 -- two ascending lists with the same members are one
-pub same_list : (xs ys : List ℕ) → IsAscending xs → IsAscending ys → IsSubset (among xs) (among ys) → IsSubset (among ys) (among xs) → xs ≡ ys
+pub same_list : (xs ys : List ℕ) → IsAscending xs → IsAscending ys → IsSubset (among xs) (among ys) →
+    IsSubset (among ys) (among xs) → xs ≡ ys
 same_list xs ys rises climbs there back =
     ascending_unique xs ys rises climbs (λ a. same_tests (among xs a) (among ys a) (there a) (back a))
 
@@ -81,7 +88,8 @@ length-parts part whole rises climbs sub =
     omega arith
 
 -- with fewer members it is no longer
-pub length-subset : (part whole : List ℕ) → IsAscending part → IsAscending whole → IsSubset (among part) (among whole) → length part ≤ length whole
+pub length-subset : (part whole : List ℕ) → IsAscending part → IsAscending whole → IsSubset (among part) (among whole) →
+    length part ≤ length whole
 length-subset part whole rises climbs sub = omega (arith, length-parts part whole rises climbs sub)
 
 -- a list with an entry is not empty
@@ -90,7 +98,8 @@ length-some a [] h = absurd h
 length-some a (x ∷ xs) h = omega arith
 
 -- where a member is missing it is shorter
-pub length-less : (part whole : List ℕ) (a : ℕ) → IsAscending part → IsAscending whole → IsSubset (among part) (among whole) →
+pub length-less : (part whole : List ℕ) (a : ℕ) → IsAscending part → IsAscending whole →
+    IsSubset (among part) (among whole) →
     IsTrue (among whole a) → (IsTrue (among part a) → ⊥) → length part < length whole
 length-less part whole a rises climbs sub member outside =
     let out : among part a ≡ false = ⊎_elim (λ is. absurd (outside is)) (λ no. no) (cases_Bool (among part a)) in
@@ -115,7 +124,11 @@ entries_without P (x ∷ xs) rises decide =
     ))
     (λ (lacks : P x → ⊥). (
       x ∷ rest.0,
-      (All-in (λ y. x < y) rest.0 (λ a i. All-contains (λ y. x < y) xs a rises.0 (Contains-in a xs ((rest.2 a).0 i).0)), rest.1),
+      (
+        All-in (λ y. x < y) rest.0
+            (λ a i. All-contains (λ y. x < y) xs a rises.0 (Contains-in a xs ((rest.2 a).0 i).0)),
+        rest.1,
+      ),
       λ a. (
         (λ i. ⊎_elim
             (λ (same : x ≡ a). (inl same, λ (k : P a). lacks (subst P (sym same) k)))
@@ -134,12 +147,14 @@ is_member-among a (x ∷ xs) = ap₂ (λ (b c : Bool). b || c) (nat_eq_equiv.sym
 -- a list in which no entry stands twice is no longer than a list with its entries
 pub length-distinct : (xs ys : List ℕ) → IsDistinct nat_eq xs → IsSubset (among xs) (among ys) → length xs ≤ length ys
 length-distinct xs ys distinct sub =
-    length-le_from_is_member nat_eq_equiv xs ys distinct (λ a h. is_member-among a ys ∙ sub a (sym (is_member-among a xs) ∙ h))
+    length-le_from_is_member nat_eq_equiv xs ys distinct
+    (λ a h. is_member-among a ys ∙ sub a (sym (is_member-among a xs) ∙ h))
 
 -- counts
 
 -- a test that passes at no more entries counts no more
-pub count-no_more : (p q : ℕ → Bool) (xs : List ℕ) → ((t : ℕ) → IsIn t xs → p t ≡ true → q t ≡ true) → count_by p xs ≤ count_by q xs
+pub count-no_more : (p q : ℕ → Bool) (xs : List ℕ) → ((t : ℕ) → IsIn t xs → p t ≡ true → q t ≡ true) →
+    count_by p xs ≤ count_by q xs
 count-no_more p q [] narrow = omega arith
 count-no_more p q (x ∷ xs) narrow =
     let rest = count-no_more p q xs (λ t i. narrow t (inr i)) in
@@ -149,7 +164,8 @@ count-no_more p q (x ∷ xs) narrow =
     (cases_Bool (p x))
 
 -- a test that passes at fewer entries counts fewer
-pub count-less : (p q : ℕ → Bool) (a : ℕ) (xs : List ℕ) → ((t : ℕ) → p t ≡ true → q t ≡ true) → IsIn a xs → p a ≡ false → q a ≡ true → count_by p xs < count_by q xs
+pub count-less : (p q : ℕ → Bool) (a : ℕ) (xs : List ℕ) → ((t : ℕ) → p t ≡ true → q t ≡ true) → IsIn a xs →
+    p a ≡ false → q a ≡ true → count_by p xs < count_by q xs
 count-less p q a [] narrow i fails passes = absurd i
 count-less p q a (x ∷ xs) narrow (inl same) fails passes =
     let no = count-no p x xs (subst (λ z. p z ≡ false) (sym same) fails) in
@@ -195,7 +211,8 @@ list_of n has = filter has (range_with_len 0 (4 * 2 ^ (2 * n)))
 -- the list of a set is ascending
 pub ascending-list_of : (n : ℕ) (has : ℕ → Bool) → IsAscending (list_of n has)
 unfolding list_of
-ascending-list_of n has = ascending-filter has (range_with_len 0 (4 * 2 ^ (2 * n))) (ascending-range 0 (4 * 2 ^ (2 * n)))
+ascending-list_of n has =
+    ascending-filter has (range_with_len 0 (4 * 2 ^ (2 * n))) (ascending-range 0 (4 * 2 ^ (2 * n)))
 
 -- what is listed is a member
 pub list_of-among : (n : ℕ) (has : ℕ → Bool) (a : ℕ) → IsTrue (among (list_of n has) a) → IsTrue (has a)

@@ -10,7 +10,8 @@ use Rattle.mesh_defs.specs.Ranking.{IsRanking, IsRankClosure, IsBlockedBy}
 
 -- The set is the rank closure of the budget, worst is the greatest priority of its leaves, and blocked is the
 -- first triangle of the ranking that is not chosen. Where nothing blocks, the whole ranking is chosen.
-pub record IsFrame (n budget : ℕ) (priority : ℕ → ℕ) (has : ℕ → Bool) (worst : ℕ) (blocked : Option Blocked) : Type 0 where
+pub record IsFrame (n budget : ℕ) (priority : ℕ → ℕ) (has : ℕ → Bool) (worst : ℕ)
+    (blocked : Option Blocked) : Type 0 where
   pub ranking : List ℕ
   pub chosen : ℕ
   pub ranked : IsRanking n priority ranking

@@ -1,5 +1,6 @@
 -- Two of the eight corners decide whether all of them, or some of them, are outside a plane.
-use Rattle.std.proofs.Common.{◌≡◌, ℕ, zero, suc, Bool, true, false, List, [], ◌∷◌, get_or, refl, sym, ◌∙◌, arith, if◌then◌else◌, ℤ, pos, ◌≤ℤ◌, int_lt}
+use Rattle.std.proofs.Common.{◌≡◌, ℕ, zero, suc, Bool, true, false, List, [], ◌∷◌, get_or, refl, sym, ◌∙◌, arith}
+use Rattle.std.proofs.Common.{if◌then◌else◌, ℤ, pos, ◌≤ℤ◌, int_lt}
 use Rattle.std.specs.List.{list_any, list_all}
 use Rattle.std.proofs.lemmas.Int.{ints}
 use Rattle.text_laws.proofs.TestLemmas.{by_bool}

@@ -1,6 +1,7 @@
 -- Boxes that lie in one another have marks that follow from each other.
 use Rattle.std.proofs.lemmas.Bool.{or_parts}
-use Rattle.std.proofs.Common.{◌≡◌, Bool, true, false, ◌||◌, List, [], ◌∷◌, refl, sym, ◌∙◌, arith, if◌then◌else◌, ℤ, pos, ◌≤ℤ◌, int_lt}
+use Rattle.std.proofs.Common.{◌≡◌, Bool, true, false, ◌||◌, List, [], ◌∷◌, refl, sym, ◌∙◌, arith, if◌then◌else◌, ℤ, pos}
+use Rattle.std.proofs.Common.{◌≤ℤ◌, int_lt}
 use Rattle.std.specs.List.{list_any}
 use Rattle.std.proofs.lemmas.Int.{ints}
 use Rattle.mesh_defs.specs.declared.mark.Mark.{Mark}
@@ -9,7 +10,8 @@ use Rattle.mesh_defs.specs.BoundingBox.{BoundingBox}
 use Rattle.mesh_defs.specs.View.{ViewPlane, is_all_outside, is_some_outside, outside_corners, mark_of}
 use Rattle.cull_marks.specs.Plane.{far_value, near_value}
 use Rattle.cull_marks.specs.Nesting.{IsInside, IsOrdered}
-use Rattle.cull_marks.proofs.CornerLemmas.{IsPointIn, value_of-below_far, value_of-above_near, lower_is_outside, higher_is_not, all_outside-far, some_outside-near, all-false}
+use Rattle.cull_marks.proofs.CornerLemmas.{IsPointIn, value_of-below_far, value_of-above_near, lower_is_outside}
+use Rattle.cull_marks.proofs.CornerLemmas.{higher_is_not, all_outside-far, some_outside-near, all-false}
 
 -- ---- one plane
 
@@ -22,7 +24,8 @@ ordered_outer inner outer i =
 
 -- a corner of the inner box is a point of the outer one
 point_in : (inner outer : BoundingBox) (s t u : Bool) → IsInside inner outer →
-    IsPointIn outer (if s then inner.x0 else inner.x1) (if t then inner.y0 else inner.y1) (if u then inner.z0 else inner.z1)
+    IsPointIn outer (if s then inner.x0 else inner.x1) (if t then inner.y0 else inner.y1)
+    (if u then inner.z0 else inner.z1)
 point_in inner outer s t u i = record {
   x_low = low s outer.x0 inner.x0 inner.x1 i.x_low i.x_order;
   x_high = high s inner.x0 inner.x1 outer.x1 i.x_order i.x_high;
@@ -128,7 +131,8 @@ pub mark_of-Outside : (planes : List ViewPlane) (inner outer : BoundingBox) → 
 unfolding mark_of
 mark_of-Outside planes inner outer i e =
     let out : list_any (is_all_outside outer) planes ≡ true = outside_by _ _ e in
-    rw (list_any-kept (is_all_outside outer) (is_all_outside inner) (λ p. all_outside-inner p inner outer i) planes out) refl
+    rw (list_any-kept (is_all_outside outer) (is_all_outside inner)
+    (λ p. all_outside-inner p inner outer i) planes out) refl
 
 -- a box in one that is Inside is Inside
 pub mark_of-Inside : (planes : List ViewPlane) (inner outer : BoundingBox) → IsInside inner outer →
@@ -137,5 +141,6 @@ unfolding mark_of
 mark_of-Inside planes inner outer i e =
     let none : list_any (is_some_outside outer) planes ≡ false = inside_by _ _ e in
     let cut : list_any (is_some_outside inner) planes ≡ false =
-    list_any-none (is_some_outside outer) (is_some_outside inner) (λ p. some_outside-inner p inner outer i) planes none in
+    list_any-none (is_some_outside outer) (is_some_outside inner)
+    (λ p. some_outside-inner p inner outer i) planes none in
     rw (list_any-none (is_some_outside inner) (is_all_outside inner) (all_outside-none inner) planes cut, cut) refl

@@ -1,11 +1,13 @@
 -- The loop: that it ends, and what it leaves.
-use Rattle.std.proofs.Common.{◌≡◌, ℕ, ◌+◌, ◌-◌, ◌*◌, ◌^◌, ◌<◌, ◌≤◌, inl, inr, false, IsTrue, List, length, sym, ◌∙◌, subst, arith, ⊎_elim, Some}
+use Rattle.std.proofs.Common.{◌≡◌, ℕ, ◌+◌, ◌-◌, ◌*◌, ◌^◌, ◌<◌, ◌≤◌, inl, inr, false, IsTrue, List, length, sym, ◌∙◌}
+use Rattle.std.proofs.Common.{subst, arith, ⊎_elim, Some}
 use Rattle.mesh_defs.specs.ClosedSet.{among}
 use Rattle.deferred_loop.specs.Seen.{PoolSet, SeenMesh, IsForgotten, IsCountedBy}
 use Rattle.mesh_defs.proofs.ListLemmas.{among-in}
 use Rattle.closure_laws.proofs.SizeLemmas.{length-members}
 use Rattle.frame_steps.specs.Steps.{IsSplitStep, IsMergeStep, IsFinished, IsFrameRun}
-use Rattle.frame_steps.specs.Deferred.{IsEntry, leaf, member, DeferredFrame, IsDeferredFrame, IsOpen, due_entry, open_leaf, open_member}
+use Rattle.frame_steps.specs.Deferred.{IsEntry, leaf, member, DeferredFrame, IsDeferredFrame, IsOpen, due_entry}
+use Rattle.frame_steps.specs.Deferred.{open_leaf, open_member}
 use Rattle.frame_steps.proofs.MeasureLemmas.{steps_left, split_steps_left, merge_steps_left, run_small}
 use Rattle.closure_laws.proofs.SetListLemmas.{length-distinct}
 use Rattle.deferred_loop.proofs.ChoiceLemmas.{leaves_small}
@@ -31,7 +33,8 @@ module _ (w : DeferredFrame) (is : IsDeferredFrame w) where
       (subst (λ (z : PoolSet). IsMergeStep w.n w.budget w.priority z.members after.set.members) same step)
 
   -- the counts have room
-  pub charged_small : (s : SeenMesh) (evaluations added removed count : ℕ) → IsCharged w evaluations s added removed count → (added ≤ 2 ^ 25) × (removed ≤ 2 ^ 24)
+  pub charged_small : (s : SeenMesh) (evaluations added removed count : ℕ) →
+      IsCharged w evaluations s added removed count → (added ≤ 2 ^ 25) × (removed ≤ 2 ^ 24)
   charged_small s evaluations added removed count c =
       run_small w.n w.budget w.priority is.falling is.low w.start s.set.members added removed is.set c.run
 
@@ -42,7 +45,8 @@ module _ (w : DeferredFrame) (is : IsDeferredFrame w) where
   open_entry a (open_member h undue straddles) = member h
 
   -- and so is the count of evaluations
-  pub count_small : (s : SeenMesh) (evaluations added removed count : ℕ) → IsCharged w evaluations s added removed count → evaluations < 2 ^ 61 → count < 2 ^ 64 - 1
+  pub count_small : (s : SeenMesh) (evaluations added removed count : ℕ) →
+      IsCharged w evaluations s added removed count → evaluations < 2 ^ 61 → count < 2 ^ 64 - 1
   count_small s evaluations added removed count c room =
       let few = charged_small s evaluations added removed count c in
       let added_few = few.0 in let removed_few = few.1 in
@@ -52,31 +56,43 @@ module _ (w : DeferredFrame) (is : IsDeferredFrame w) where
       omega (arith, c.total, leaves_small w.n w.start is.set, length-members w.n w.start is.set)
 
   -- the run at the end
-  pub end_run : (s mid after : SeenMesh) (evaluations added removed count : ℕ) → IsCharged w evaluations s added removed count → mid.set ≡ s.set → after.set ≡ mid.set →
-      IsFinished w.n w.budget w.priority s.set.members → IsFrameRun w.n w.budget w.priority w.start after.set.members added removed
+  pub end_run : (s mid after : SeenMesh) (evaluations added removed count : ℕ) →
+      IsCharged w evaluations s added removed count → mid.set ≡ s.set → after.set ≡ mid.set →
+      IsFinished w.n w.budget w.priority s.set.members →
+      IsFrameRun w.n w.budget w.priority w.start after.set.members added removed
   end_run s mid after evaluations added removed count c asked forgotten finished =
-      subst (λ (z : PoolSet). IsFrameRun w.n w.budget w.priority w.start z.members added removed) (sym (forgotten ∙ asked)) record { run = c.run; finished = finished }
+      subst (λ (z : PoolSet). IsFrameRun w.n w.budget w.priority w.start z.members added removed)
+      (sym (forgotten ∙ asked)) record { run = c.run; finished = finished }
 
   -- the evaluations
   pub end_most : (s : SeenMesh) (evaluations added removed count : ℕ) → IsCharged w evaluations s added removed count →
-      (all_open : List ℕ) → ((a : ℕ) → IsOpen w a → IsTrue (among all_open a)) → count ≤ evaluations + 2 * length all_open + 6 * (added + removed)
+      (all_open : List ℕ) → ((a : ℕ) → IsOpen w a → IsTrue (among all_open a)) →
+      count ≤ evaluations + 2 * length all_open + 6 * (added + removed)
   end_most s evaluations added removed count c all_open all =
       omega (arith, c.total, length-distinct c.asked all_open c.distinct (λ a i. all a (c.each a i)))
 
 -- the counters of the pool have room for one step more
-pub counters_small : (start now : PoolSet) (added removed : ℕ) → IsCountedBy start now added removed → (start.splits < 2 ^ 61) × (start.merges < 2 ^ 61) → added ≤ 2 ^ 25 → removed ≤ 2 ^ 24 →
+pub counters_small : (start now : PoolSet) (added removed : ℕ) → IsCountedBy start now added removed →
+    (start.splits < 2 ^ 61) × (start.merges < 2 ^ 61) → added ≤ 2 ^ 25 → removed ≤ 2 ^ 24 →
     (now.splits + 48 < 2 ^ 62) × (now.merges < 2 ^ 62)
 counters_small start now added removed c small few less =
-    let splits = c.splits_rose in let merges = c.merges_rose in let low = small.0 in let high = small.1 in (omega arith, omega arith)
+    let splits = c.splits_rose in
+    let merges = c.merges_rose in
+    let low = small.0 in
+    let high = small.1 in
+    (omega arith, omega arith)
 
 -- forgetting leaves the stamps
-pub forgotten_stamped : (r : Readings) (odometer : ℕ) (start : SeenMesh) (first : ℕ) (before after : SeenMesh) (count : ℕ) → IsForgotten before after →
+pub forgotten_stamped : (r : Readings) (odometer : ℕ) (start : SeenMesh) (first : ℕ) (before after : SeenMesh)
+    (count : ℕ) → IsForgotten before after →
     IsStamped r odometer start first before count → IsStamped r odometer start first after count
 forgotten_stamped r odometer start first before after count gone s = record {
   read = s.read;
   counted = s.counted;
   each = λ a entry. ⊎_elim
-      (λ (kept : (before.stamps a ≡ start.stamps a) × (is_due odometer (start.stamps a) ≡ false)). inl (gone.stamp a ∙ kept.0, kept.1))
-      (λ (taken : (before.stamps a ≡ Some (stamp_now r odometer a)) × IsTrue (among s.read a)). inr (gone.stamp a ∙ taken.0, taken.1))
+      (λ (kept : (before.stamps a ≡ start.stamps a) × (is_due odometer (start.stamps a) ≡ false)).
+      inl (gone.stamp a ∙ kept.0, kept.1))
+      (λ (taken : (before.stamps a ≡ Some (stamp_now r odometer a)) × IsTrue (among s.read a)).
+      inr (gone.stamp a ∙ taken.0, taken.1))
       (s.each a (subst (λ (z : PoolSet). IsEntry z.n (among z.members) a) gone.set entry));
 }

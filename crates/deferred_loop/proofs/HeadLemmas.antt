@@ -1,5 +1,6 @@
 -- What the heads of the queues tell.
-use Rattle.std.proofs.Common.{◌≡◌, ℕ, ◌*◌, ◌<◌, ◌≤◌, inl, inr, true, false, None, Some, IsTrue, Contains, All, MatchOption, refl, sym, ◌∙◌, ap, subst, arith, ⊎_elim}
+use Rattle.std.proofs.Common.{◌≡◌, ℕ, ◌*◌, ◌<◌, ◌≤◌, inl, inr, true, false, None, Some, IsTrue, Contains, All}
+use Rattle.std.proofs.Common.{MatchOption, refl, sym, ◌∙◌, ap, subst, arith, ⊎_elim}
 use Rattle.std.proofs.lemmas.Bool.{cases_lt, cases_eq}
 use Rattle.mesh_defs.specs.Triangle.{level_of, IsAddress, IsMate}
 use Rattle.mesh_defs.specs.ClosedSet.{leaves_of, among}
@@ -14,7 +15,8 @@ use Rattle.frame_steps.specs.Deferred.{IsEntry, leaf, member, DeferredFrame, IsD
 use Rattle.frame_steps.specs.Keys.{upper_key, lower_key, IsLastKey}
 use Rattle.closure_laws.proofs.DiamondLemmas.{diamond_trans, diamond_symmetric, leaf_outside}
 use Rattle.frame_steps.proofs.NextLemmas.{some_lead}
-use Rattle.frame_steps.proofs.KeyLemmas.{IsAddress-entry, first_known, zero_head, lead_no_later_key, all_before, all_positive, upper_key-known}
+use Rattle.frame_steps.proofs.KeyLemmas.{IsAddress-entry, first_known, zero_head, lead_no_later_key, all_before}
+use Rattle.frame_steps.proofs.KeyLemmas.{all_positive, upper_key-known}
 use Rattle.deferred_loop.specs.Choice.{Priorities, IsFirstRank, IsLastRank}
 use Rattle.deferred_loop.specs.Seen.{SeenMesh, best_key, worst_key, sure, IsDecided, IsToAsk, IsHead, IsLastHead}
 use Rattle.deferred_loop.specs.Kept.{frame_priorities, IsSettled, IsMet, IsAllowed, IsNoneMet}
@@ -23,19 +25,22 @@ use Rattle.deferred_loop.specs.declared.queued.Last.{Last}
 use Rattle.deferred_loop.specs.declared.queued.Located.{Located}
 use Rattle.deferred_loop.specs.declared.limit.Limit.{Limit}
 use Rattle.deferred_loop.specs.declared.limit.Limit.TheVariants.{Over, After, Zero}
-use Rattle.deferred_loop.proofs.KeyLemmas.{present, present_is, best_key-upper, worst_key-lower, sure_key, unsure, best_key-above, no_later_by, can_merge_with}
+use Rattle.deferred_loop.proofs.KeyLemmas.{present, present_is, best_key-upper, worst_key-lower, sure_key, unsure}
+use Rattle.deferred_loop.proofs.KeyLemmas.{best_key-above, no_later_by, can_merge_with}
 
 -- the grid of a frame's gauge
 pub told_grid : (w : DeferredFrame) (told : Priorities) → told ≡ frame_priorities w → told.n ≡ w.n
 told_grid w told same = ap (λ (z : Priorities). z.n) same
 
 -- an address may be asked
-pub asked_level : (w : DeferredFrame) (told : Priorities) (a : ℕ) → told ≡ frame_priorities w → IsAddress w.n a → level_of a ≤ 2 * told.n
+pub asked_level : (w : DeferredFrame) (told : Priorities) (a : ℕ) → told ≡ frame_priorities w →
+    IsAddress w.n a → level_of a ≤ 2 * told.n
 asked_level w told a same address = omega (arith, level-le w.n a address, told_grid w told same)
 
 -- a head with no triangle to ask is decided
 pub last_decided : (s : SeenMesh) (h : Last) → IsLastHead s h → h.unasked ≡ None → IsDecided s h.rank.tri
-last_decided s h last none = subst (λ z. MatchOption z (IsDecided s h.rank.tri) (λ (t : Located). IsToAsk s h.rank.tri t.tri)) none
+last_decided s h last none =
+    subst (λ z. MatchOption z (IsDecided s h.rank.tri) (λ (t : Located). IsToAsk s h.rank.tri t.tri)) none
     last.unasked
 
 -- the triangle to ask
@@ -43,7 +48,8 @@ pub last_part : (s : SeenMesh) (h : Last) (t : Located) → IsLastHead s h → h
     IsInDiamond s.set.n h.rank.tri t.tri × (s.known t.tri ≡ false)
 last_part s h t last some =
     let next : IsToAsk s h.rank.tri t.tri =
-    subst (λ z. MatchOption z (IsDecided s h.rank.tri) (λ (u : Located). IsToAsk s h.rank.tri u.tri)) some last.unasked in
+    subst (λ z. MatchOption z (IsDecided s h.rank.tri) (λ (u : Located). IsToAsk s h.rank.tri u.tri))
+    some last.unasked in
     (next.in_diamond, unsure s t.tri next.not_sure)
 
 -- the set of a settled mesh is closed
@@ -52,7 +58,8 @@ grid_set_here w s settled = subst (λ z. IsGridSet z s.set.members) (sym settled
 
 -- 0 or positive
 pub positive_or_zero : (x : ℕ) → (x ≡ 0 → ⊥) → 0 < x
-positive_or_zero x some = ⊎_elim (λ (more : 0 < x). more) (λ rest. absurd (some (let e : x ≡ 0 = omega arith in e))) (cases_lt 0 x)
+positive_or_zero x some =
+    ⊎_elim (λ (more : 0 < x). more) (λ rest. absurd (some (let e : x ≡ 0 = omega arith in e))) (cases_lt 0 x)
 
 module _ (w : DeferredFrame) (is : IsDeferredFrame w) (s : SeenMesh) (settled : IsSettled w s) where
   -- the set, at the frame's grid
@@ -77,7 +84,8 @@ module _ (w : DeferredFrame) (is : IsDeferredFrame w) (s : SeenMesh) (settled : 
 
     head_first : (l : ℕ) → Contains (leaves_of w.n (among s.set.members)) l →
         IsNoLater ((upper_key p (sure s)) h.rank.tri) h.rank.tri ((upper_key p (sure s)) l) l
-    head_first l i = no_later_by (best_key s) (upper_key p (sure s)) h.rank.tri l head_key (best_key-upper w s l (settled.keys l (leaf i)))
+    head_first l i = no_later_by (best_key s) (upper_key p (sure s)) h.rank.tri l head_key
+        (best_key-upper w s l (settled.keys l (leaf i)))
         (head.first l (subst (λ z. Contains (leaves_of z (among s.set.members)) l) (sym settled.grid) i))
 
     -- the head is an entry of the mesh
@@ -86,11 +94,13 @@ module _ (w : DeferredFrame) (is : IsDeferredFrame w) (s : SeenMesh) (settled : 
 
     -- and may be asked
     pub head_level : (told : Priorities) → told ≡ frame_priorities w → level_of h.rank.tri ≤ 2 * told.n
-    head_level told same = asked_level w told h.rank.tri same (IsAddress-entry w.n s.set.members h.rank.tri set (leaf head_leaf))
+    head_level told same =
+        asked_level w told h.rank.tri same (IsAddress-entry w.n s.set.members h.rank.tri set (leaf head_leaf))
 
     -- a head of key 0
     pub head_zero : h.rank.p ≡ 0 → All (λ a. w.priority a ≡ 0) (leaves_of w.n (among s.set.members))
-    head_zero none = zero_head p p_is s.set.members (sure s) h.rank.tri (sym head_key ∙ sym head.value ∙ none) head_first
+    head_zero none =
+        zero_head p p_is s.set.members (sure s) h.rank.tri (sym head_key ∙ sym head.value ∙ none) head_first
 
     -- a head that is known
     pub head_known : h.sure ≡ true → (h.rank.p ≡ 0 → ⊥) → IsFirstRank w.n w.priority s.set.members h.rank
@@ -99,20 +109,23 @@ module _ (w : DeferredFrame) (is : IsDeferredFrame w) (s : SeenMesh) (settled : 
         ∙ upper_key-known p p_is (sure s) h.rank.tri (sym head.marked ∙ told) in
         let positive : 0 < w.priority h.rank.tri = subst (λ z. 0 < z) value (positive_or_zero h.rank.p some) in
         record {
-          first = first_known p p_is s.set.members (sure s) h.rank.tri head_leaf (sym head.marked ∙ told) positive head_first;
+          first = first_known p p_is s.set.members (sure s) h.rank.tri head_leaf
+              (sym head.marked ∙ told) positive head_first;
           value = value;
         }
 
   -- the merge queue
 
   -- nothing can be merged
-  pub none_empty : (limit : Limit) → IsAllowed w s.set.members limit → ((a : ℕ) → CanMerge s.set.n (among s.set.members) a → ⊥) →
+  pub none_empty : (limit : Limit) → IsAllowed w s.set.members limit →
+      ((a : ℕ) → CanMerge s.set.n (among s.set.members) a → ⊥) →
       IsNoneMet w s.set.members limit
   none_empty Over over none = some_lead w.n w.priority s.set.members w.budget set.closed is.low over
       (λ d lead. none d (subst (λ z. CanMerge z (among s.set.members) d) (sym settled.grid) lead.mergeable))
   none_empty (After f) first none = λ d lead. absurd
       (none d (subst (λ z. CanMerge z (among s.set.members) d) (sym settled.grid) lead.mergeable))
-  none_empty Zero _ none = λ d lead. absurd (none d (subst (λ z. CanMerge z (among s.set.members) d) (sym settled.grid) lead.mergeable))
+  none_empty Zero _ none =
+      λ d lead. absurd (none d (subst (λ z. CanMerge z (among s.set.members) d) (sym settled.grid) lead.mergeable))
 
   module _ (h : Last) (last : IsLastHead s h) where
     last_can : CanMerge w.n (among s.set.members) h.rank.tri
@@ -144,7 +157,8 @@ module _ (w : DeferredFrame) (is : IsDeferredFrame w) (s : SeenMesh) (settled : 
             e.0,
             inside,
             no_later_by (worst_key s) (lower_key p (sure s)) e.0 h.rank.tri
-                (key_of e.0 (can_merge_with w.n (among s.set.members) d e.0 set.closed lead.mergeable inside)) (key_of h.rank.tri last_can)
+                (key_of e.0 (can_merge_with w.n (among s.set.members) d e.0 set.closed lead.mergeable inside))
+                (key_of h.rank.tri last_can)
                 e.2,
           );
     }
@@ -164,7 +178,8 @@ module _ (w : DeferredFrame) (is : IsDeferredFrame w) (s : SeenMesh) (settled : 
         ⊎_elim
         (λ (early : f.tri < h.rank.tri). absurd (other (inr (tie, early))))
         (λ (late : h.rank.tri ≤ f.tri). ⊎_elim
-        (λ (same : f.tri ≡ h.rank.tri). absurd ((leaf_outside w.n (among s.set.members) f.tri set.closed first.first.leaf).outside
+        (λ (same : f.tri ≡ h.rank.tri).
+        absurd ((leaf_outside w.n (among s.set.members) f.tri set.closed first.first.leaf).outside
         (subst (λ z. IsTrue (among s.set.members z)) (sym same) last_can.member)))
         (λ differ. inr (
           sym last_value ∙ sym tie ∙ first.value,
@@ -179,20 +194,24 @@ module _ (w : DeferredFrame) (is : IsDeferredFrame w) (s : SeenMesh) (settled : 
         (cases_lt h.rank.p f.p)
 
     -- a key that does not meet the limit
-    pub none_met : (limit : Limit) → IsAllowed w s.set.members limit → (IsMet limit h.rank → ⊥) → IsNoneMet w s.set.members limit
+    pub none_met : (limit : Limit) → IsAllowed w s.set.members limit → (IsMet limit h.rank → ⊥) →
+        IsNoneMet w s.set.members limit
     none_met Over over unmet = unmet tt
-    none_met (After f) first unmet = λ d lead. all_before p p_is s.set.members (sure s) h.rank.tri h.rank.tri f.tri set own_key
+    none_met (After f) first unmet =
+        λ d lead. all_before p p_is s.set.members (sure s) h.rank.tri h.rank.tri f.tri set own_key
         (key_before f first unmet) d lead
     none_met Zero _ unmet = λ d lead. all_positive p p_is s.set.members (sure s) h.rank.tri h.rank.tri set own_key
         (subst (λ z. 0 < z) last_value (positive_or_zero h.rank.p unmet)) d lead
 
     -- the triangle to ask is an entry of the mesh
     pub last_entry : (t : ℕ) → IsInDiamond s.set.n h.rank.tri t → IsEntry s.set.n (among s.set.members) t
-    last_entry t inside = member (can_merge_with s.set.n (among s.set.members) h.rank.tri t (grid_set_here w s settled).closed
+    last_entry t inside =
+        member (can_merge_with s.set.n (among s.set.members) h.rank.tri t (grid_set_here w s settled).closed
         last.mergeable inside)
 
     -- and may be asked
-    pub last_level : (told : Priorities) (t : ℕ) → told ≡ frame_priorities w → IsInDiamond s.set.n h.rank.tri t → level_of t ≤ 2 * told.n
+    pub last_level : (told : Priorities) (t : ℕ) → told ≡ frame_priorities w →
+        IsInDiamond s.set.n h.rank.tri t → level_of t ≤ 2 * told.n
     last_level told t same inside = asked_level w told t same
         (IsAddress-entry w.n s.set.members t set
         (member (last_key t (subst (λ z. IsInDiamond z h.rank.tri t) settled.grid inside)).mergeable))
@@ -209,7 +228,8 @@ module _ (w : DeferredFrame) (is : IsDeferredFrame w) (s : SeenMesh) (settled : 
               first = λ b mate. ranks_first b mate value
                   (decided.mate b (subst (λ z. IsMate z h.rank.tri b) (sym settled.grid) mate));
             };
-            last = λ d lead differ. strictly d differ value (lead_no_later_key p p_is s.set.members (sure s) h.rank.tri h.rank.tri set
+            last = λ d lead differ.
+                strictly d differ value (lead_no_later_key p p_is s.set.members (sure s) h.rank.tri h.rank.tri set
                 own_key d lead);
           };
           value = value;
@@ -224,7 +244,10 @@ module _ (w : DeferredFrame) (is : IsDeferredFrame w) (s : SeenMesh) (settled : 
             let key = last.value in
             ⊎_elim
             (λ (more : best_key s b < worst_key s h.rank.tri). inl (omega arith))
-            (λ (tie : (worst_key s h.rank.tri ≡ best_key s b) × (h.rank.tri ≤ b)). let same = tie.0 in let early = tie.1 in ⊎_elim
+            (λ (tie : (worst_key s h.rank.tri ≡ best_key s b) × (h.rank.tri ≤ b)).
+            let same = tie.0 in
+            let early = tie.1 in
+            ⊎_elim
             (λ (less : w.priority b < w.priority h.rank.tri). inl less)
             (λ (rest : w.priority h.rank.tri ≤ w.priority b). inr (
               omega arith,
@@ -238,7 +261,8 @@ module _ (w : DeferredFrame) (is : IsDeferredFrame w) (s : SeenMesh) (settled : 
 
         -- another lead ranks before it
         strictly : (d : ℕ) → (d ≡ h.rank.tri → ⊥) → h.rank.p ≡ w.priority h.rank.tri →
-            IsNoLater (w.priority d) d ((lower_key p (sure s)) h.rank.tri) h.rank.tri → RanksBefore w.priority d h.rank.tri
+            IsNoLater (w.priority d) d ((lower_key p (sure s)) h.rank.tri) h.rank.tri →
+            RanksBefore w.priority d h.rank.tri
         strictly d differ value (inl more) = inl (omega (arith, last_value))
         strictly d differ value (inr tie) = inr (
           tie.0 ∙ sym last_value ∙ value,

@@ -1,5 +1,6 @@
 -- What steps add to the log of a frame.
-use Rattle.std.proofs.Common.{◌≡◌, ℕ, ◌+◌, ◌≤◌, inl, inr, IfSome, IsSome, List, [], length, Option, None, Some, refl, sym, ◌∙◌, ap, subst, arith, ⊎_elim}
+use Rattle.std.proofs.Common.{◌≡◌, ℕ, ◌+◌, ◌≤◌, inl, inr, IfSome, IsSome, List, [], length, Option, None, Some, refl}
+use Rattle.std.proofs.Common.{sym, ◌∙◌, ap, subst, arith, ⊎_elim}
 use Rattle.mesh_defs.specs.ClosedSet.{among}
 use Rattle.deferred_loop.specs.Seen.{PoolSet, IsCountedBy}
 use Rattle.deferred_loop.specs.Log.{Log, IsListed, emptied, IsLogged, IsFrameLog}

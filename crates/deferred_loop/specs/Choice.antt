@@ -1,6 +1,6 @@
 -- Which step comes next, and that a frame changes no more than it must.
--- Source: the dual-queue algorithm of Duchaineau et al., "ROAMing Terrain", IEEE Visualization 1997; the rules for steps and
--- for the end are those of `frame_steps`.
+-- Source: the dual-queue algorithm of Duchaineau et al., "ROAMing Terrain", IEEE Visualization 1997; the rules for
+-- steps and for the end are those of `frame_steps`.
 -- Words: Priorities, IsFirstRank, IsLastRank, IsNextSplit, IsNextMerge, IsNextEnd, IsNext, IsSparing.
 use Rattle.std.specs.Prelude.{◌≡◌, ◌+◌, ◌≤◌, ℕ, List, length}
 use Rattle.mesh_defs.specs.ClosedSet.{IsSubset, among}
@@ -54,8 +54,8 @@ IsNext n budget priority members (Split f) = IsNextSplit n budget priority membe
 IsNext n budget priority members (Merge d) = IsNextMerge n budget priority members d.tri
 IsNext n budget priority members (End e) = IsNextEnd n budget priority members e
 
--- A frame changes no more than it must: nothing is merged where the set only grows, nothing split where it only shrinks, and at
--- most the members are merged whose diamond holds no chosen triangle.
+-- A frame changes no more than it must: nothing is merged where the set only grows, nothing split where it only
+-- shrinks, and at most the members are merged whose diamond holds no chosen triangle.
 pub record IsSparing (n budget : ℕ) (priority : ℕ → ℕ) (start last : List ℕ) (splits merges : ℕ) : Type 0 where
   pub size : length start + splits ≡ length last + merges
   pub no_merge : IsSubset (among start) (among last) → merges ≡ 0

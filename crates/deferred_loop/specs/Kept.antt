@@ -1,8 +1,9 @@
 -- What the loop keeps, half way through a frame: keys that are true, charges for what was asked, and stamps that hold.
 -- All of it is this project's own.
--- Words: frame_priorities, IsFrameOf, IsTrueKey, HasTrueKeys, IsSettled, IsOldLeaf, IsOldMember, IsCharged, IsAskedOnly, SplitsUnasked, IsStepAt,
--- IsCaughtUp, IsStamped, IsMet, IsAllowed, IsNoneMet.
-use Rattle.std.specs.Prelude.{◌≡◌, ℕ, ◌+◌, ◌-◌, ◌*◌, ◌^◌, ◌<◌, ◌≤◌, ◌⊎◌, ⊤, true, false, cond, nat_eq, IsTrue, List, [], length, Contains, Some}
+-- Words: frame_priorities, IsFrameOf, IsTrueKey, HasTrueKeys, IsSettled, IsOldLeaf, IsOldMember, IsCharged,
+-- IsAskedOnly, SplitsUnasked, IsStepAt, IsCaughtUp, IsStamped, IsMet, IsAllowed, IsNoneMet.
+use Rattle.std.specs.Prelude.{◌≡◌, ℕ, ◌+◌, ◌-◌, ◌*◌, ◌^◌, ◌<◌, ◌≤◌, ◌⊎◌, ⊤, true, false, cond, nat_eq, IsTrue, List, []}
+use Rattle.std.specs.Prelude.{length, Contains, Some}
 use Rattle.std.specs.List.{IsDistinct}
 use Rattle.mesh_defs.specs.ClosedSet.{leaves_of, among}
 use Rattle.mesh_defs.specs.Ranking.{RanksBefore}
@@ -64,8 +65,9 @@ pub record IsOldMember (w : DeferredFrame) (s : SeenMesh) (asked : List ℕ) (a 
   pub unasked : IsTrue (among asked a) → ⊥
   pub lower : (b : ℕ) → IsInDiamond w.n a b → lower_of (s.stamps b) ≡ w.lower b
 
--- Every evaluation so far is charged, and so is one more for each entry of the reserve: the entries that were due, and the roles
--- that steps of this frame gave out. An entry that is not known is in the reserve, or has the role that it had at the start.
+-- Every evaluation so far is charged, and so is one more for each entry of the reserve: the entries that were due, and
+-- the roles that steps of this frame gave out. An entry that is not known is in the reserve, or has the role that it
+-- had at the start.
 pub record IsCharged (w : DeferredFrame) (evaluations : ℕ) (s : SeenMesh) (added removed count : ℕ) : Type 0 where
   pub run : StepRun w.n w.budget w.priority w.start s.set.members added removed
   pub asked : List ℕ
@@ -74,7 +76,8 @@ pub record IsCharged (w : DeferredFrame) (evaluations : ℕ) (s : SeenMesh) (add
   pub reserve : List ℕ
   pub leaf : (a : ℕ) → Contains (leaves_of w.n (among s.set.members)) a → s.known a ≡ false → IsTrue (among reserve a)
       ⊎ IsOldLeaf w s asked a
-  pub member : (a : ℕ) → CanMerge w.n (among s.set.members) a → s.known a ≡ false → IsTrue (among reserve a) ⊎ IsOldMember w s asked a
+  pub member : (a : ℕ) → CanMerge w.n (among s.set.members) a → s.known a ≡ false →
+      IsTrue (among reserve a) ⊎ IsOldMember w s asked a
   pub total : count + length reserve ≤ evaluations + 2 * length asked + 6 * (added + removed)
 
 -- priorities were asked, and nothing else was done: what is charged before is charged after
@@ -105,8 +108,10 @@ pub record IsCaughtUp (w : DeferredFrame) (r : Readings) (odometer : ℕ) (befor
   pub known : (a : ℕ) → after.known a ≡ before.known a
   pub stamp : (a : ℕ) → after.stamps a ≡ cond (among before.fresh a) (Some (stamp_now r odometer a)) (before.stamps a)
 
--- Each entry has a stamp that is not due: that of the start, or one that was taken now. The latter were counted, while the count had room.
-pub record IsStamped (r : Readings) (odometer : ℕ) (start : SeenMesh) (first : ℕ) (now : SeenMesh) (count : ℕ) : Type 0 where
+-- Each entry has a stamp that is not due: that of the start, or one that was taken now. The latter were counted, while
+-- the count had room.
+pub record IsStamped (r : Readings) (odometer : ℕ) (start : SeenMesh) (first : ℕ) (now : SeenMesh)
+    (count : ℕ) : Type 0 where
   pub read : List ℕ
   pub counted : count < 2 ^ 64 - 1 → length read + first ≤ count
   pub each : (a : ℕ) → IsEntry now.set.n (among now.set.members) a →

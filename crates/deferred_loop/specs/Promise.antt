@@ -24,8 +24,8 @@ frame_of told readings odometer s budget ranking chosen best = record {
   lower = λ a. (counted_stamp readings odometer s.stamps a).lower;
 }
 
--- The evaluations rise by at most two for each entry of the old set that is due or straddles, each once, and six for each
--- triangle that is split or merged.
+-- The evaluations rise by at most two for each entry of the old set that is due or straddles, each once, and six for
+-- each triangle that is split or merged.
 abbrev pub IsAtMost : Priorities → Readings → ℕ → SeenMesh → ℕ → ℕ → ℕ → ℕ → Type 0
 IsAtMost told readings odometer s budget steps count more =
     (ranking : List ℕ) (chosen : ℕ) (best : ℕ → Bool) (all_open : List ℕ) →
@@ -37,7 +37,8 @@ IsAtMost told readings odometer s budget steps count more =
 abbrev pub IsAtLeast : SeenMesh → SeenMesh → ℕ → ℕ → Type 0
 IsAtLeast before after count more =
     (changed : List ℕ) → IsDistinct nat_eq changed →
-    ((a : ℕ) → IsTrue (among changed a) → IsEntry after.set.n (among after.set.members) a × (after.stamps a ≢ before.stamps a)) →
+    ((a : ℕ) → IsTrue (among changed a) →
+    IsEntry after.set.n (among after.set.members) a × (after.stamps a ≢ before.stamps a)) →
     count + length changed ≤ more
 
 -- each entry has a stamp that is not due, and it is the one from before or was taken now

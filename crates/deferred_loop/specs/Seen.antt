@@ -1,10 +1,13 @@
--- A mesh as its loop sees it: the set, the stamps of its entries, what was told in this frame, and what is still to be entered;
+-- A mesh as its loop sees it: the set, the stamps of its entries, what was told in this frame, and what is still to be
+-- entered;
 -- and what each call of the mesh does to these.
 -- Source: Duchaineau et al., "ROAMing Terrain", IEEE Visualization 1997, the parts on the two queues and on deferred
 -- priority lists; the list of fresh entries is this project's own.
--- Words: PoolSet, SeenMesh, upper_of, lower_of, best_key, worst_key, sure, IsHead, IsDecided, IsToAsk, IsLastHead, IsRated,
--- IsEntered, IsSame, IsNewEntry, IsRenewed, HasRoom, IsCountedBy, IsSplitOf, IsMergeOf, IsQuiet, IsBegun, IsForgotten.
-use Rattle.std.specs.Prelude.{◌≡◌, ◌≢◌, ℕ, ◌+◌, ◌-◌, ◌*◌, ◌^◌, ◌≤◌, ◌⊎◌, Bool, true, false, cond, nat_eq, ◌||◌, IsTrue, List, [], ◌∷◌, length, Contains, Option, None, Some, MatchOption}
+-- Words: PoolSet, SeenMesh, upper_of, lower_of, best_key, worst_key, sure, IsHead, IsDecided, IsToAsk, IsLastHead,
+-- IsRated, IsEntered, IsSame, IsNewEntry, IsRenewed, HasRoom, IsCountedBy, IsSplitOf, IsMergeOf, IsQuiet, IsBegun,
+-- IsForgotten.
+use Rattle.std.specs.Prelude.{◌≡◌, ◌≢◌, ℕ, ◌+◌, ◌-◌, ◌*◌, ◌^◌, ◌≤◌, ◌⊎◌, Bool, true, false, cond, nat_eq, ◌||◌, IsTrue}
+use Rattle.std.specs.Prelude.{List, [], ◌∷◌, length, Contains, Option, None, Some, MatchOption}
 use Rattle.std.specs.List.{IsDistinct}
 use Rattle.mesh_defs.specs.Triangle.{IsMate}
 use Rattle.mesh_defs.specs.ClosedSet.{leaves_of, among}
@@ -28,8 +31,8 @@ pub record PoolSet : Type 0 where
   pub splits : ℕ
   pub merges : ℕ
 
--- the set; which priorities were told in this frame, and what they are; the stamps; and the entries that are still to be
--- entered, the next one first
+-- the set; which priorities were told in this frame, and what they are; the stamps; and the entries that are still to
+-- be entered, the next one first
 pub record SeenMesh : Type 0 where
   pub set : PoolSet
   pub known : ℕ → Bool
@@ -64,27 +67,31 @@ pub record IsHead (s : SeenMesh) (h : Head) : Type 0 where
   pub leaf : Contains (leaves_of s.set.n (among s.set.members)) h.rank.tri
   pub value : h.rank.p ≡ best_key s h.rank.tri
   pub marked : h.sure ≡ sure s h.rank.tri
-  pub first : (l : ℕ) → Contains (leaves_of s.set.n (among s.set.members)) l → IsNoLater (best_key s h.rank.tri) h.rank.tri (best_key s l) l
+  pub first : (l : ℕ) → Contains (leaves_of s.set.n (among s.set.members)) l →
+      IsNoLater (best_key s h.rank.tri) h.rank.tri (best_key s l) l
 
--- c is known to be the better triangle of its diamond: it is sure, and no later than its mate by the best that this can be
+-- c is known to be the better triangle of its diamond: it is sure, and no later than its mate by the best that this can
+-- be
 pub record IsDecided (s : SeenMesh) (c : ℕ) : Type 0 where
   pub own : sure s c ≡ true
   pub mate : (b : ℕ) → IsMate s.set.n c b → IsNoLater (worst_key s c) c (best_key s b) b
 
--- t is the triangle to ask next of the diamond of c, the better one by its key: that is not decided yet, and t is not sure. It is
--- c itself, unless c is sure, or its mate comes first by the best that each can be.
+-- t is the triangle to ask next of the diamond of c, the better one by its key: that is not decided yet, and t is not
+-- sure. It is c itself, unless c is sure, or its mate comes first by the best that each can be.
 pub record IsToAsk (s : SeenMesh) (c t : ℕ) : Type 0 where
   pub in_diamond : IsInDiamond s.set.n c t
   pub not_sure : sure s t ≡ false
   pub undecided : IsDecided s c → ⊥
   pub turn : t ≢ c → (sure s c ≡ true) ⊎ IsBefore (best_key s t) t (best_key s c) c
 
--- The head of the merge queue: the better by its key of the triangles of a diamond. Each diamond that can be merged has a
--- triangle that comes no later. Where the head is not decided it names the triangle of its diamond that is to be asked next.
+-- The head of the merge queue: the better by its key of the triangles of a diamond. Each diamond that can be merged has
+-- a triangle that comes no later. Where the head is not decided it names the triangle of its diamond that is to be
+-- asked next.
 pub record IsLastHead (s : SeenMesh) (h : Last) : Type 0 where
   pub mergeable : CanMerge s.set.n (among s.set.members) h.rank.tri
   pub value : h.rank.p ≡ worst_key s h.rank.tri
-  pub better : (b : ℕ) → IsInDiamond s.set.n h.rank.tri b → IsNoLater (worst_key s h.rank.tri) h.rank.tri (worst_key s b) b
+  pub better : (b : ℕ) → IsInDiamond s.set.n h.rank.tri b →
+      IsNoLater (worst_key s h.rank.tri) h.rank.tri (worst_key s b) b
   pub last : (a : ℕ) → CanMerge s.set.n (among s.set.members) a →
       (e : ℕ) × IsInDiamond s.set.n a e × IsNoLater (worst_key s e) e (worst_key s h.rank.tri) h.rank.tri
   pub unasked : MatchOption h.unasked
@@ -106,7 +113,13 @@ pub record IsEntered (before after : SeenMesh) (t : ℕ) (reading : Reading) (od
   pub known : (a : ℕ) → after.known a ≡ before.known a
   pub exact : (a : ℕ) → after.exact a ≡ before.exact a
   pub stamp : (a : ℕ) → after.stamps a ≡ cond (nat_eq t a)
-      (Some (record { odometer = odometer; slack = reading.slack; upper = reading.hi.p; lower = reading.lo.p; expired = false }))
+      (Some (record {
+        odometer = odometer;
+        slack = reading.slack;
+        upper = reading.hi.p;
+        lower = reading.lo.p;
+        expired = false;
+      }))
       (before.stamps a)
 
 -- an entry is as it was
@@ -119,11 +132,12 @@ pub record IsSame (before after : SeenMesh) (a : ℕ) : Type 0 where
 abbrev pub IsNewEntry : ℕ → (ℕ → Bool) → (ℕ → Bool) → ℕ → Type 0
 IsNewEntry n before after a = IsEntry n after a × (IsEntry n before a → ⊥)
 
--- The fresh entries are new ones, each once and not known. All others were entries and are as they were, also a leaf that can be
--- merged now, and a triangle of a merged diamond that is a leaf now.
+-- The fresh entries are new ones, each once and not known. All others were entries and are as they were, also a leaf
+-- that can be merged now, and a triangle of a merged diamond that is a leaf now.
 pub record IsRenewed (before after : SeenMesh) : Type 0 where
   pub distinct : IsDistinct nat_eq after.fresh
-  pub each : (a : ℕ) → IsTrue (among after.fresh a) → IsNewEntry after.set.n (among before.set.members) (among after.set.members) a
+  pub each : (a : ℕ) → IsTrue (among after.fresh a) →
+      IsNewEntry after.set.n (among before.set.members) (among after.set.members) a
   pub unknown : (a : ℕ) → IsTrue (among after.fresh a) → after.known a ≡ false
   pub kept : (a : ℕ) → IsEntry after.set.n (among after.set.members) a → among after.fresh a ≡ false →
       IsEntry after.set.n (among before.set.members) a × IsSame before after a

@@ -2,7 +2,8 @@
 -- total at the corners of a child: the lesser weight of the base's ends, twice, goes to the midpoint. The mean
 -- of the corners' heights changes by at most half the total times the deviation at the midpoint. At the finest
 -- level all weight is at one corner, and the point is that corner.
-use Rattle.std.proofs.Common.{◌≡◌, ℕ, zero, suc, ◌+◌, ◌-◌, ◌*◌, ◌/◌, ◌<◌, ◌≤◌, ◌⊎◌, inl, inr, max, List, sym, ap, subst, arith, ⊎_elim, mul-le-mul_left}
+use Rattle.std.proofs.Common.{◌≡◌, ℕ, zero, suc, ◌+◌, ◌-◌, ◌*◌, ◌/◌, ◌<◌, ◌≤◌, ◌⊎◌, inl, inr, max, List, sym, ap, subst}
+use Rattle.std.proofs.Common.{arith, ⊎_elim, mul-le-mul_left}
 use Rattle.std.proofs.lemmas.Bool.{cases_lt}
 use Rattle.mesh_defs.specs.declared.point.Point.{Point}
 use Rattle.mesh_defs.specs.declared.point.Corners.{Corners}
@@ -23,7 +24,8 @@ mean f c u v w = u * f c.apex + v * f c.v0 + w * f c.v1
 -- ---- from a triangle to a child
 
 -- in one coordinate: the lesser weight w of the ends p and q goes twice to their midpoint m
-to_child : (t u v w d a p q m : ℕ) → v ≡ w + d → p + q ≡ 2 * m → t ≡ u * a + v * p + w * q → t ≡ 2 * w * m + u * a + d * p
+to_child : (t u v w d a p q m : ℕ) → v ≡ w + d → p + q ≡ 2 * m → t ≡ u * a + v * p + w * q →
+    t ≡ 2 * w * m + u * a + d * p
 to_child t u v w d a p q m e f h = omega (arith, ap (λ z. z * p) e, ap (λ z. w * z) f)
 
 -- where v0 has the greater weight the point is a mean of the left child's corners
@@ -36,15 +38,18 @@ IsMean-left total c r u v w d even e h = record {
 }
 
 -- and else of the right child's
-IsMean-right : (total : ℕ) (c : Corners) (r : Point) (u v w d : ℕ) → HasEvenBase c → w ≡ v + d → IsMean total c r u v w →
+IsMean-right : (total : ℕ) (c : Corners) (r : Point) (u v w d : ℕ) → HasEvenBase c → w ≡ v + d →
+    IsMean total c r u v w →
     IsMean total (child 1 c) r (2 * v) d u
 IsMean-right total c r u v w d even e h = record {
   sum = omega (arith, h.sum);
   x = let f : total * r.x ≡ 2 * v * ((c.v0.x + c.v1.x) / 2) + u * c.apex.x + d * c.v1.x =
-      to_child (total * r.x) u w v d c.apex.x c.v1.x c.v0.x ((c.v0.x + c.v1.x) / 2) e (omega (arith, even.x)) (omega (arith, h.x)) in
+      to_child (total * r.x) u w v d c.apex.x c.v1.x c.v0.x ((c.v0.x + c.v1.x) / 2) e
+      (omega (arith, even.x)) (omega (arith, h.x)) in
       omega arith;
   y = let f : total * r.y ≡ 2 * v * ((c.v0.y + c.v1.y) / 2) + u * c.apex.y + d * c.v1.y =
-      to_child (total * r.y) u w v d c.apex.y c.v1.y c.v0.y ((c.v0.y + c.v1.y) / 2) e (omega (arith, even.y)) (omega (arith, h.y)) in
+      to_child (total * r.y) u w v d c.apex.y c.v1.y c.v0.y ((c.v0.y + c.v1.y) / 2) e
+      (omega (arith, even.y)) (omega (arith, h.y)) in
       omega arith;
 }
 
@@ -94,14 +99,21 @@ bound_step total w surface near far d thick other half differs thin bound =
 -- ---- finest triangles
 
 -- a mean of i and i + 1 is one of them, and has all weight there
-one_end : (total v i j : ℕ) → 0 < total → v ≤ total → total * j ≡ total * i + v → ((j ≡ i) × (v ≡ 0)) ⊎ ((j ≡ i + 1) × (v ≡ total))
+one_end : (total v i j : ℕ) → 0 < total → v ≤ total → total * j ≡ total * i + v →
+    ((j ≡ i) × (v ≡ 0)) ⊎ ((j ≡ i + 1) × (v ≡ total))
 one_end total v i j some most e = ⊎_elim
     (λ less. let h : total * suc j ≤ total * i = mul-le-mul_left total less in absurd (omega arith))
     (λ least. ⊎_elim
     (λ more. let h : total * suc (i + 1) ≤ total * j = mul-le-mul_left total more in absurd (omega arith))
     (λ upto. ⊎_elim
-    (λ (same : j < i + 1). let z : j ≡ i = omega arith in let f : total * j ≡ total * i = ap (λ t. total * t) z in inl (z, omega arith))
-    (λ next. let z : j ≡ i + 1 = omega arith in let f : total * j ≡ total * (i + 1) = ap (λ t. total * t) z in inr (z, omega arith))
+    (λ (same : j < i + 1).
+    let z : j ≡ i = omega arith in
+    let f : total * j ≡ total * i = ap (λ t. total * t) z in
+    inl (z, omega arith))
+    (λ next.
+    let z : j ≡ i + 1 = omega arith in
+    let f : total * j ≡ total * (i + 1) = ap (λ t. total * t) z in
+    inr (z, omega arith))
     (cases_lt j (i + 1)))
     (cases_lt (i + 1) j))
     (cases_lt j i)
@@ -145,28 +157,34 @@ one_below total u v w a p q r some sum e f h =
     one_end total v r a some (omega arith) (omega (arith, ap (λ z. v * z) e, ap (λ z. w * z) f, ap (λ z. z * a) sum))
 
 -- the weights of a point of a finest triangle
-IsPlacedBy-finest : (way : Way) (total : ℕ) (c : Corners) (r : Point) (u v w : ℕ) → IsAxis way → IsTurned way 1 c → 0 < total →
+IsPlacedBy-finest : (way : Way) (total : ℕ) (c : Corners) (r : Point) (u v w : ℕ) → IsAxis way →
+    IsTurned way 1 c → 0 < total →
     IsMean total c r u v w → IsPlacedBy total c r v w
 IsPlacedBy-finest east total c r u v w a t some h =
     let x = one_above total u v w c.apex.x c.v0.x c.v1.x r.x some h.sum t.0.0 t.1.0 h.x in
-    let y = one_above total u w v c.apex.y c.v1.y c.v0.y r.y some (omega (arith, h.sum)) t.1.1 t.0.1 (omega (arith, h.y)) in
+    let y =
+    one_above total u w v c.apex.y c.v1.y c.v0.y r.y some (omega (arith, h.sum)) t.1.1 t.0.1 (omega (arith, h.y)) in
     grind arith
 IsPlacedBy-finest north total c r u v w a t some h =
-    let x = one_below total u w v c.apex.x c.v1.x c.v0.x r.x some (omega (arith, h.sum)) t.1.0 t.0.0 (omega (arith, h.x)) in
+    let x =
+    one_below total u w v c.apex.x c.v1.x c.v0.x r.x some (omega (arith, h.sum)) t.1.0 t.0.0 (omega (arith, h.x)) in
     let y = one_above total u v w c.apex.y c.v0.y c.v1.y r.y some h.sum t.0.1 t.1.1 h.y in
     grind arith
 IsPlacedBy-finest west total c r u v w a t some h =
     let x = one_below total u v w c.apex.x c.v0.x c.v1.x r.x some h.sum t.0.0 t.1.0 h.x in
-    let y = one_below total u w v c.apex.y c.v1.y c.v0.y r.y some (omega (arith, h.sum)) t.1.1 t.0.1 (omega (arith, h.y)) in
+    let y =
+    one_below total u w v c.apex.y c.v1.y c.v0.y r.y some (omega (arith, h.sum)) t.1.1 t.0.1 (omega (arith, h.y)) in
     grind arith
 IsPlacedBy-finest south total c r u v w a t some h =
-    let x = one_above total u w v c.apex.x c.v1.x c.v0.x r.x some (omega (arith, h.sum)) t.1.0 t.0.0 (omega (arith, h.x)) in
+    let x =
+    one_above total u w v c.apex.x c.v1.x c.v0.x r.x some (omega (arith, h.sum)) t.1.0 t.0.0 (omega (arith, h.x)) in
     let y = one_below total u v w c.apex.y c.v0.y c.v1.y r.y some h.sum t.0.1 t.1.1 h.y in
     grind arith
 IsPlacedBy-finest _ total c r u v w a t some h = absurd a
 
 -- with all weight at one corner the mean is that corner's height
-mean-corner : (f : Point → ℕ) (total : ℕ) (c : Corners) (r : Point) (u v w : ℕ) → u + v + w ≡ total → IsOneCorner c r u v w →
+mean-corner : (f : Point → ℕ) (total : ℕ) (c : Corners) (r : Point) (u v w : ℕ) →
+    u + v + w ≡ total → IsOneCorner c r u v w →
     total * f r ≡ mean f c u v w
 mean-corner f total c r u v w sum (inl (e, v0, w0)) = rw (← sum, e, v0, w0) (omega arith)
 mean-corner f total c r u v w sum (inr (inl (e, u0, w0))) = rw (← sum, e, u0, w0) (omega arith)
@@ -200,12 +218,14 @@ mean-le n heights (suc levels) a total r u v w some d h =
     right (max left right) (omega arith) (differ-right f c u v w (w - v) e) (omega arith)
     (subst (λ z. 2 * apart (total * f r) (mean f z (2 * v) (w - v) u) ≤ total * right) (corners_of-right n a d.low)
     (mean-le n heights levels (2 * a + 1) total r (2 * v) (w - v) u some (IsDown-right n levels a d)
-    (subst (λ z. IsMean total z r (2 * v) (w - v) u) (sym (corners_of-right n a d.low)) (IsMean-right total c r u v w (w - v) even e h)))))
+    (subst (λ z. IsMean total z r (2 * v) (w - v) u) (sym (corners_of-right n a d.low))
+    (IsMean-right total c r u v w (w - v) even e h)))))
     (λ least.
     let e : v ≡ w + (v - w) = omega arith in
     bound_step total w (total * f r) (mean f (child 0 c) (2 * w) u (v - w)) (mean f c u v w) (deviation n heights c)
     left (max left right) (omega arith) (differ-left f c u v w (v - w) e) (omega arith)
     (subst (λ z. 2 * apart (total * f r) (mean f z (2 * w) u (v - w)) ≤ total * left) (corners_of-left n a d.low)
     (mean-le n heights levels (2 * a) total r (2 * w) u (v - w) some (IsDown-left n levels a d)
-    (subst (λ z. IsMean total z r (2 * w) u (v - w)) (sym (corners_of-left n a d.low)) (IsMean-left total c r u v w (v - w) even e h)))))
+    (subst (λ z. IsMean total z r (2 * w) u (v - w)) (sym (corners_of-left n a d.low))
+    (IsMean-left total c r u v w (v - w) even e h)))))
     (cases_lt v w)

@@ -1,5 +1,6 @@
 -- The bound for a list of triangles: the greatest over all of them and all their points.
-use Rattle.std.proofs.Common.{◌≡◌, ◌∙◌, ℕ, ◌+◌, ◌*◌, ◌/◌, ◌^◌, ◌<◌, ◌≤◌, Bool, max, List, [], ◌∷◌, ◌++◌, length, take, get_or, map, All, refl, sym, ap, subst, arith, mul-le-mul_left}
+use Rattle.std.proofs.Common.{◌≡◌, ◌∙◌, ℕ, ◌+◌, ◌*◌, ◌/◌, ◌^◌, ◌<◌, ◌≤◌, Bool, max, List, [], ◌∷◌, ◌++◌, length, take}
+use Rattle.std.proofs.Common.{get_or, map, All, refl, sym, ap, subst, arith, mul-le-mul_left}
 use Rattle.std.proofs.lemmas.List.{take_more}
 use Rattle.std.proofs.lemmas.List.Elements.{All-head, All-tail}
 use Rattle.std.specs.List.{flat_map}
@@ -19,7 +20,8 @@ greatest-append [] ys = omega arith
 greatest-append (x ∷ xs) ys = omega (arith, greatest-append xs ys)
 
 -- a triangle's bound
-offs_in-le : (n : ℕ) (heights : List ℕ) (a : ℕ) → IsAddress n a → 2 * greatest (offs_in n heights a) ≤ 2 ^ n * thickness_of n heights a
+offs_in-le : (n : ℕ) (heights : List ℕ) (a : ℕ) → IsAddress n a →
+    2 * greatest (offs_in n heights a) ≤ 2 ^ n * thickness_of n heights a
 offs_in-le n heights a address =
     let le : greatest (offs_in n heights a) ≤ 2 ^ n * thickness_of n heights a / 2 =
     greatest-le (2 ^ n * thickness_of n heights a / 2) (off_plane n heights a) (holds_point n a)
@@ -36,14 +38,16 @@ deviation_of-le n heights (a ∷ rest) addresses =
     let others = deviation_of-le n heights rest (All-tail (IsAddress n) a rest addresses) in
     let thick : ℕ = max (thickness_of n heights a) (greatest (map (thickness_of n heights) rest)) in
     let left : 2 ^ n * thickness_of n heights a ≤ 2 ^ n * thick = mul-le-mul_left (2 ^ n) (omega arith) in
-    let right : 2 ^ n * greatest (map (thickness_of n heights) rest) ≤ 2 ^ n * thick = mul-le-mul_left (2 ^ n) (omega arith) in
+    let right : 2 ^ n * greatest (map (thickness_of n heights) rest) ≤ 2 ^ n * thick =
+    mul-le-mul_left (2 ^ n) (omega arith) in
     omega (arith, greatest-append (offs_in n heights a) (flat_map (offs_in n heights) rest))
 
 -- ---- one triangle more
 
 -- of the deviation
 deviation_of-append : (n : ℕ) (heights triangles : List ℕ) (a : ℕ) →
-    deviation_of n heights (triangles ++ (a ∷ [])) ≡ max (deviation_of n heights triangles) (greatest (offs_in n heights a))
+    deviation_of n heights (triangles ++ (a ∷ []))
+    ≡ max (deviation_of n heights triangles) (greatest (offs_in n heights a))
 unfolding deviation_of
 deviation_of-append n heights [] a = omega (arith, greatest-append (offs_in n heights a) [])
 deviation_of-append n heights (b ∷ rest) a =
@@ -56,7 +60,8 @@ pub deviation_of-more : (n : ℕ) (heights triangles : List ℕ) (i d : ℕ) →
     deviation_of n heights (take (i + 1) triangles)
     ≡ max (deviation_of n heights (take i triangles)) (greatest (offs_in n heights (get_or triangles i d)))
 deviation_of-more n heights triangles i d below =
-    ap (deviation_of n heights) (take_more triangles i d below) ∙ deviation_of-append n heights (take i triangles) (get_or triangles i d)
+    ap (deviation_of n heights) (take_more triangles i d below)
+    ∙ deviation_of-append n heights (take i triangles) (get_or triangles i d)
 
 -- of the greatest thickness
 thickest_of-append : (n : ℕ) (heights triangles : List ℕ) (a : ℕ) →
@@ -69,7 +74,8 @@ pub thickest_of-more : (n : ℕ) (heights triangles : List ℕ) (i d : ℕ) → 
     thickest_of n heights (take (i + 1) triangles)
     ≡ max (thickest_of n heights (take i triangles)) (thickness_of n heights (get_or triangles i d))
 thickest_of-more n heights triangles i d below =
-    ap (thickest_of n heights) (take_more triangles i d below) ∙ thickest_of-append n heights (take i triangles) (get_or triangles i d)
+    ap (thickest_of n heights) (take_more triangles i d below)
+    ∙ thickest_of-append n heights (take i triangles) (get_or triangles i d)
 
 -- of none
 pub deviation_of-none : (n : ℕ) (heights : List ℕ) → deviation_of n heights [] ≡ 0
@@ -84,5 +90,6 @@ thickest_of-none n heights = refl
 pub level-leaf : (n : ℕ) (has : ℕ → Bool) (leaves : List ℕ) (i a : ℕ) → leaves ≡ leaves_of n has → i < length leaves →
     a ≡ get_or leaves i a → level_of a ≤ 2 * n
 level-leaf n has leaves i a is below at =
-    let addresses : All (IsAddress n) leaves = subst (λ (xs : List ℕ). All (IsAddress n) xs) (sym is) (IsAddress-leaves_of n has) in
+    let addresses : All (IsAddress n) leaves =
+    subst (λ (xs : List ℕ). All (IsAddress n) xs) (sym is) (IsAddress-leaves_of n has) in
     subst (λ z. level_of z ≤ 2 * n) (sym at) (level-le n (get_or leaves i a) (addresses i a below))

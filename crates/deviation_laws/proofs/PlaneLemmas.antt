@@ -1,5 +1,6 @@
 -- Plane heights are exact, and the areas across from its corners make a held point the mean of the corners.
-use Rattle.std.proofs.Common.{◌≡◌, ℕ, ◌+◌, ◌-◌, ◌*◌, ◌/◌, ◌^◌, ◌<◌, ◌≤◌, true, ◌&&◌, List, refl, sym, ◌∙◌, ap, arith, inl, inr, mul-le-mul_left, pow_pos, pow-add}
+use Rattle.std.proofs.Common.{◌≡◌, ℕ, ◌+◌, ◌-◌, ◌*◌, ◌/◌, ◌^◌, ◌<◌, ◌≤◌, true, ◌&&◌, List, refl, sym, ◌∙◌, ap, arith}
+use Rattle.std.proofs.Common.{inl, inr, mul-le-mul_left, pow_pos, pow-add}
 use Rattle.std.proofs.Math.Nat.{mul-sub, le_of_mul-le-mul_left}
 use Rattle.std.proofs.lemmas.Bool.{and_parts, leb-true}
 use Rattle.std.proofs.lemmas.Nat.{div-mul-add}
@@ -9,7 +10,8 @@ use Rattle.mesh_defs.specs.Triangle.{level_of, IsAddress, corners_of, IsCorner}
 use Rattle.mesh_defs.specs.Thickness.{height_of, apart, thickness_under, thickness_of}
 use Rattle.mesh_defs.specs.BoundingBox.{point, is_left_or_on, is_in_closed, holds_point}
 use Rattle.bintree_laws.proofs.LevelLemmas.{level-le}
-use Rattle.bintree_laws.proofs.LatticeLemmas.{multiple, scaled, lattice, halved, halved-half, step_of, step_of-power, corners_of-lattice}
+use Rattle.bintree_laws.proofs.LatticeLemmas.{multiple, scaled, lattice, halved, halved-half, step_of, step_of-power}
+use Rattle.bintree_laws.proofs.LatticeLemmas.{corners_of-lattice}
 use Rattle.bintree_laws.proofs.MateLemmas.{cancel}
 use Rattle.tiling_laws.proofs.DescentLemmas.{IsDown-address}
 use Rattle.deviation_laws.specs.PlaneHeight.{doubled_area, area_of, weighted, plane_height, off_plane}
@@ -25,7 +27,10 @@ area_of-power n a address =
 
 -- and so it is positive
 pub area_of-some : (n a : ℕ) → IsAddress n a → 0 < area_of (corners_of n a)
-area_of-some n a address = let e = area_of-power n a address in let p : 0 < 2 ^ (2 * n - level_of a) = pow_pos (2 * n - level_of a) in omega arith
+area_of-some n a address =
+    let e = area_of-power n a address in
+    let p : 0 < 2 ^ (2 * n - level_of a) = pow_pos (2 * n - level_of a) in
+    omega arith
 
 -- ---- exact quotients
 
@@ -63,7 +68,8 @@ unfolding plane_height
 plane_height-exact n heights a r address =
     let fits : level_of a ≤ 2 * n = level-le n a address in
     let half : halved (level_of a) ≡ (level_of a + 1) / 2 = halved-half (level_of a) in
-    let step : step_of n (level_of a) ≡ 2 ^ (n - halved (level_of a)) = step_of-power n (level_of a) (n - halved (level_of a)) refl in
+    let step : step_of n (level_of a) ≡ 2 ^ (n - halved (level_of a)) =
+    step_of-power n (level_of a) (n - halved (level_of a)) refl in
     let t : ℕ = n + halved (level_of a) - level_of a in
     let q : ℕ = level_of a - halved (level_of a) in
     let k = weighted-multiple (step_of n (level_of a)) (lattice (level_of a) a) (height_of n heights) r in
@@ -71,7 +77,8 @@ plane_height-exact n heights a r address =
     let whole : n ≡ t + q = omega arith in
     exact_quotient (area_of (corners_of n a)) (2 ^ n) (weighted (corners_of n a) (height_of n heights) r)
     (step_of n (level_of a)) (2 ^ t) (2 ^ q) k.0 (area_of-some n a address)
-    (area_of-power n a address ∙ ap (λ z. 2 ^ z) parts ∙ pow-add 2 (n - halved (level_of a)) t ∙ ap (λ z. z * 2 ^ t) (sym step))
+    (area_of-power n a address ∙ ap (λ z. 2 ^ z) parts ∙ pow-add 2 (n - halved (level_of a)) t
+    ∙ ap (λ z. z * 2 ^ t) (sym step))
     (ap (λ z. 2 ^ z) whole ∙ pow-add 2 t q)
     (ap (λ c. weighted c (height_of n heights) r) (corners_of-lattice n a fits) ∙ k.1)
 
@@ -85,13 +92,16 @@ difference r p q h =
 -- a held point is the mean of the corners by these areas
 pub IsMean-held : (n a : ℕ) (r : Point) → IsAddress n a → holds_point n a r ≡ true →
     IsMean (area_of (corners_of n a)) (corners_of n a) r (doubled_area r (corners_of n a).v0 (corners_of n a).v1)
-    (doubled_area r (corners_of n a).v1 (corners_of n a).apex) (doubled_area r (corners_of n a).apex (corners_of n a).v0)
+    (doubled_area r (corners_of n a).v1 (corners_of n a).apex)
+    (doubled_area r (corners_of n a).apex (corners_of n a).v0)
 IsMean-held n a r address held =
     let c : Corners = corners_of n a in
-    let legs = and_parts (is_left_or_on r c.apex c.v0) (is_left_or_on r c.v0 c.v1 && is_left_or_on r c.v1 c.apex) held in
+    let legs =
+    and_parts (is_left_or_on r c.apex c.v0) (is_left_or_on r c.v0 c.v1 && is_left_or_on r c.v1 c.apex) held in
     let rest = and_parts (is_left_or_on r c.v0 c.v1) (is_left_or_on r c.v1 c.apex) legs.1 in
     let area : HasArea c (area_of c) = rw (area_of-power n a address) (HasArea-corners_of n a (level-le n a address)) in
-    IsMean-across c r (area_of c) (doubled_area r c.v0 c.v1) (doubled_area r c.v1 c.apex) (doubled_area r c.apex c.v0) area
+    IsMean-across c r (area_of c) (doubled_area r c.v0 c.v1) (doubled_area r c.v1 c.apex)
+    (doubled_area r c.apex c.v0) area
     (difference r c.v0 c.v1 rest.0) (difference r c.v1 c.apex rest.1) (difference r c.apex c.v0 legs.0)
 
 -- ---- the bound
@@ -105,8 +115,10 @@ scaled_bound : (area m surface weight z thick : ℕ) → 0 < area → area * z �
     2 * apart (area * surface) weight ≤ area * thick → 2 * apart (m * surface) z ≤ m * thick
 scaled_bound area m surface weight z thick some exact bound =
     let more : m * (2 * apart (area * surface) weight) ≤ m * (area * thick) = mul-le-mul_left m bound in
-    let near : m * apart (area * surface) weight ≡ apart (m * (area * surface)) (m * weight) = apart-scaled m (area * surface) weight in
-    let far : area * apart (m * surface) z ≡ apart (area * (m * surface)) (area * z) = apart-scaled area (m * surface) z in
+    let near : m * apart (area * surface) weight ≡ apart (m * (area * surface)) (m * weight) =
+    apart-scaled m (area * surface) weight in
+    let far : area * apart (m * surface) z ≡ apart (area * (m * surface)) (area * z) =
+    apart-scaled area (m * surface) z in
     let same : apart (area * (m * surface)) (area * z) ≡ apart (m * (area * surface)) (m * weight) = omega arith in
     le_of_mul-le-mul_left {k = area} (omega arith) some
 
@@ -116,10 +128,13 @@ pub off_plane-le : (n : ℕ) (heights : List ℕ) (a : ℕ) (r : Point) → IsAd
 unfolding thickness_of
 off_plane-le n heights a r address held =
     let c : Corners = corners_of n a in
-    scaled_bound (area_of c) (2 ^ n) (height_of n heights r) (weighted c (height_of n heights) r) (plane_height n heights a r)
-    (thickness_under (2 * n - level_of a) n heights a) (area_of-some n a address) (plane_height-exact n heights a r address)
+    scaled_bound (area_of c) (2 ^ n) (height_of n heights r) (weighted c (height_of n heights) r)
+    (plane_height n heights a r)
+    (thickness_under (2 * n - level_of a) n heights a) (area_of-some n a address)
+    (plane_height-exact n heights a r address)
     (mean-le n heights (2 * n - level_of a) a (area_of c) r (doubled_area r c.v0 c.v1) (doubled_area r c.v1 c.apex)
-    (doubled_area r c.apex c.v0) (area_of-some n a address) (IsDown-address n a address) (IsMean-held n a r address held))
+    (doubled_area r c.apex c.v0) (area_of-some n a address) (IsDown-address n a address)
+    (IsMean-held n a r address held))
 
 -- ---- running differences
 
@@ -137,14 +152,16 @@ area-row x y p q h0 h1 h2 =
 pub left_or_on-held : (c : Corners) (r : Point) → is_in_closed c r ≡ true →
     (is_left_or_on r c.apex c.v0 ≡ true) × (is_left_or_on r c.v0 c.v1 ≡ true) × (is_left_or_on r c.v1 c.apex ≡ true)
 left_or_on-held c r held =
-    let legs = and_parts (is_left_or_on r c.apex c.v0) (is_left_or_on r c.v0 c.v1 && is_left_or_on r c.v1 c.apex) held in
+    let legs =
+    and_parts (is_left_or_on r c.apex c.v0) (is_left_or_on r c.v0 c.v1 && is_left_or_on r c.v1 c.apex) held in
     let rest = and_parts (is_left_or_on r c.v0 c.v1) (is_left_or_on r c.v1 c.apex) legs.1 in
     (legs.0, rest.0, rest.1)
 
 -- so along a row each plane height differs from the one before by the same number
 pub plane_height-row : (n : ℕ) (heights : List ℕ) (a x y : ℕ) → IsAddress n a → holds_point n a (point x y) ≡ true →
     holds_point n a (point (x + 1) y) ≡ true → holds_point n a (point (x + 2) y) ≡ true →
-    plane_height n heights a (point x y) + plane_height n heights a (point (x + 2) y) ≡ 2 * plane_height n heights a (point (x + 1) y)
+    plane_height n heights a (point x y) + plane_height n heights a (point (x + 2) y)
+    ≡ 2 * plane_height n heights a (point (x + 1) y)
 plane_height-row n heights a x y address h0 h1 h2 =
     let c : Corners = corners_of n a in
     let f : Point → ℕ = height_of n heights in

@@ -1,5 +1,7 @@
 -- Ascending lists: what a binary search finds in them, and an insert at its place.
-use Rattle.std.proofs.Common.{◌≡◌, ℕ, zero, suc, ◌<◌, ◌≤◌, inl, inr, Bool, true, false, eqb, ◌||◌, List, [], ◌∷◌, length, take, drop, get_or, All, Result, Ok, Err, is_ok, refl, sym, ◌∙◌, ap, subst, arith, ⊎_elim, take-append-drop}
+use Rattle.std.proofs.Common.{◌≡◌, ℕ, zero, suc, ◌<◌, ◌≤◌, inl, inr, Bool, true, false, eqb, ◌||◌, List, [], ◌∷◌}
+use Rattle.std.proofs.Common.{length, take, drop, get_or, All, Result, Ok, Err, is_ok, refl, sym, ◌∙◌, ap, subst, arith}
+use Rattle.std.proofs.Common.{⊎_elim, take-append-drop}
 use Rattle.std.proofs.lemmas.Bool.{cases_lt, false≢true, false_from_ne_true, eqb-true}
 use Rattle.std.proofs.lemmas.List.Elements.{All-nil, All-cons, All-head, All-tail}
 use Rattle.std.proofs.lemmas.List.Folds.{list_any-append}
@@ -25,7 +27,9 @@ ascending-at (x ∷ xs) o (suc i) (suc j) h k = ascending-at xs o.1 i j (omega a
 rising-at : (xs : List ℕ) → IsAscending xs → (i j : ℕ) → i ≤ j → j < length xs → get_or xs i 0 ≤ get_or xs j 0
 rising-at xs o i j h k = ⊎_elim
     (λ less. let step = ascending-at xs o i j less k in omega arith)
-    (λ same. let e : get_or xs i 0 ≡ get_or xs j 0 = ap (λ z. get_or xs z 0) (let f : i ≡ j = omega arith in f) in omega arith)
+    (λ same.
+    let e : get_or xs i 0 ≡ get_or xs j 0 = ap (λ z. get_or xs z 0) (let f : i ≡ j = omega arith in f) in
+    omega arith)
     (cases_lt i j)
 
 -- an entry has a place
@@ -33,7 +37,8 @@ place_of : (a : ℕ) (xs : List ℕ) → IsIn a xs → (k : ℕ) × (k < length 
 place_of a [] h = absurd h
 place_of a (x ∷ xs) (inl e) = (zero, omega arith, e)
 place_of a (x ∷ xs) (inr h) =
-    let rest : (k : ℕ) × (k < length xs) × (get_or xs k 0 ≡ a) = place_of a xs h in (suc rest.0, (let b = rest.1 in omega arith), rest.2)
+    let rest : (k : ℕ) × (k < length xs) × (get_or xs k 0 ≡ a) = place_of a xs h in
+    (suc rest.0, (let b = rest.1 in omega arith), rest.2)
 
 -- what stands at a place is an entry
 at_place : (k : ℕ) (xs : List ℕ) → k < length xs → IsIn (get_or xs k 0) xs
@@ -48,7 +53,8 @@ pub record IsPlaceFor (xs : List ℕ) (t i : ℕ) : Type 0 where
   pub after : (k : ℕ) → i ≤ k → k < length xs → t < get_or xs k 0
 
 -- a search that fails gives the place
-pub IsPlaceFor-searched : (xs : List ℕ) (t i : ℕ) → IsAscending xs → IsBinarySearchResult (λ y. nat_cmp y t) xs (Err i) → IsPlaceFor xs t i
+pub IsPlaceFor-searched : (xs : List ℕ) (t i : ℕ) → IsAscending xs →
+    IsBinarySearchResult (λ y. nat_cmp y t) xs (Err i) → IsPlaceFor xs t i
 IsPlaceFor-searched xs t i o r =
     let h = searched xs t (Err i) r (rising-at xs o) in record { within = h.0; before = h.1; after = h.2 }
 
@@ -62,14 +68,16 @@ not_there xs t i p = false_from_ne_true (among xs t) (λ is.
     (cases_lt at.0 i))
 
 -- a search finds what is there
-pub is_ok-searched : (xs : List ℕ) (t : ℕ) (r : Result ℕ ℕ) → IsAscending xs → IsBinarySearchResult (λ y. nat_cmp y t) xs r → is_ok r ≡ among xs t
+pub is_ok-searched : (xs : List ℕ) (t : ℕ) (r : Result ℕ ℕ) → IsAscending xs →
+    IsBinarySearchResult (λ y. nat_cmp y t) xs r → is_ok r ≡ among xs t
 is_ok-searched xs t (Ok i) o r =
     let h = searched xs t (Ok i) r (rising-at xs o) in
     sym (among-in t xs (subst (λ z. IsIn z xs) h.1 (at_place i xs h.0)))
 is_ok-searched xs t (Err i) o r = sym (not_there xs t i (IsPlaceFor-searched xs t i o r))
 
 -- what a search finds is an entry
-pub found-searched : (xs : List ℕ) (t i : ℕ) → IsAscending xs → IsBinarySearchResult (λ y. nat_cmp y t) xs (Ok i) → IsIn t xs
+pub found-searched : (xs : List ℕ) (t i : ℕ) → IsAscending xs →
+    IsBinarySearchResult (λ y. nat_cmp y t) xs (Ok i) → IsIn t xs
 found-searched xs t i o r =
     let h = searched xs t (Ok i) r (rising-at xs o) in subst (λ z. IsIn z xs) h.1 (at_place i xs h.0)
 
@@ -99,7 +107,8 @@ ascending-insert (x ∷ xs) t (suc i) o p =
     All-insert P [] zero y all q = All-cons P y [] q (All-nil P)
     All-insert P [] (suc j) y all q = All-cons P y [] q (All-nil P)
     All-insert P (z ∷ ys) zero y all q = All-cons P y (z ∷ ys) q all
-    All-insert P (z ∷ ys) (suc j) y all q = All-cons P z (insert ys j y) (All-head P z ys all) (All-insert P ys j y (All-tail P z ys all) q)
+    All-insert P (z ∷ ys) (suc j) y all q =
+        All-cons P z (insert ys j y) (All-head P z ys all) (All-insert P ys j y (All-tail P z ys all) q)
 
 -- three tests in another order
 or_turned : (x y z : Bool) → (x || (y || z)) ≡ ((x || z) || y)
@@ -114,7 +123,8 @@ pub among-insert : (xs : List ℕ) (t i a : ℕ) → among (insert xs i t) a ≡
 among-insert xs t i a =
     list_any-append (λ z. eqb z a) (take i xs) (t ∷ drop i xs)
     ∙ or_turned (among (take i xs) a) (eqb t a) (among (drop i xs) a)
-    ∙ ap (λ b. b || eqb t a) (sym (list_any-append (λ z. eqb z a) (take i xs) (drop i xs)) ∙ ap (λ l. among l a) (take-append-drop i xs))
+    ∙ ap (λ b. b || eqb t a) (sym (list_any-append (λ z. eqb z a) (take i xs) (drop i xs))
+    ∙ ap (λ l. among l a) (take-append-drop i xs))
 
 -- what is there is added by nothing
 pub among-there : (xs : List ℕ) (t a : ℕ) → IsIn t xs → among xs a ≡ with_triangle (among xs) t a

@@ -1,9 +1,11 @@
 -- What each change of a buffer in the middle of a patch keeps.
-use Rattle.std.proofs.Common.{◌≡◌, ◌≢◌, ℕ, ◌+◌, ◌-◌, ◌*◌, ◌^◌, ◌<◌, ◌≤◌, List, [], ◌∷◌, ◌++◌, length, map, get_or, set, take, sum, refl, sym, ap, ap₂, ◌∙◌, subst, arith, ⊎_elim}
+use Rattle.std.proofs.Common.{◌≡◌, ◌≢◌, ℕ, ◌+◌, ◌-◌, ◌*◌, ◌^◌, ◌<◌, ◌≤◌, List, [], ◌∷◌, ◌++◌, length, map, get_or, set}
+use Rattle.std.proofs.Common.{take, sum, refl, sym, ap, ap₂, ◌∙◌, subst, arith, ⊎_elim}
 use Rattle.std.specs.List.{swap_remove}
 use Rattle.std.proofs.Math.Pow.{pow_mono}
 use Rattle.std.proofs.lemmas.Bool.{cases_eq, cases_lt}
-use Rattle.std.proofs.lemmas.List.{length-set, length-map, length_push, map_push, map-set, take-map, get_or-map, get_or_append_left, get_or_push}
+use Rattle.std.proofs.lemmas.List.{length-set, length-map, length_push, map_push, map-set, take-map, get_or-map}
+use Rattle.std.proofs.lemmas.List.{get_or_append_left, get_or_push}
 use Rattle.mesh_defs.specs.Triangle.{level_of}
 use Rattle.bintree_laws.proofs.LevelLemmas.{lt-pow-level}
 use Rattle.draw_buffer.specs.declared.indices.Indices.{Indices}
@@ -13,8 +15,10 @@ use Rattle.draw_buffer.specs.Places.{PlaceState}
 use Rattle.draw_buffer.specs.Vertices.{VertexState, AreTaken}
 use Rattle.draw_buffer.specs.Corners.{grid_indices, shown, corner_uses, uses_in}
 use Rattle.draw_buffer.specs.Exchange.{addresses_of, waiting_uses, IsReadyToWrite, IsWholeBuffer}
-use Rattle.draw_buffer.proofs.TimesLemmas.{same-one, same-other, times-none, times-push, times-set, times-swap_remove, length-swap_remove}
-use Rattle.draw_buffer.proofs.UseLemmas.{shown-stay, map-shown, uses_in-push, uses_in-set, uses_in-swap_remove, uses_in-at, waiting_uses-none, waiting_uses-push, waiting_uses-at}
+use Rattle.draw_buffer.proofs.TimesLemmas.{same-one, same-other, times-none, times-push, times-set, times-swap_remove}
+use Rattle.draw_buffer.proofs.TimesLemmas.{length-swap_remove}
+use Rattle.draw_buffer.proofs.UseLemmas.{shown-stay, map-shown, uses_in-push, uses_in-set, uses_in-swap_remove}
+use Rattle.draw_buffer.proofs.UseLemmas.{uses_in-at, waiting_uses-none, waiting_uses-push, waiting_uses-at}
 
 -- the table of a grid
 pub end-small : (n : ℕ) → n ≤ 11 → 4 * 2 ^ (2 * n) ≤ 2 ^ 24
@@ -23,7 +27,10 @@ end-small n small = let wide : 2 * n ≤ 22 = omega arith in let h : 2 ^ (2 * n)
 -- an address of the grid is in the table
 pub address-low : (n a : ℕ) → level_of a ≤ 2 * n → a < 4 * 2 ^ (2 * n)
 address-low n a fine = ⊎_elim
-    (λ (h : a < 2). let least : 0 ≤ 2 * n = omega arith in let some : 2 ^ 0 ≤ 2 ^ (2 * n) = pow_mono least in omega arith)
+    (λ (h : a < 2).
+    let least : 0 ≤ 2 * n = omega arith in
+    let some : 2 ^ 0 ≤ 2 ^ (2 * n) = pow_mono least in
+    omega arith)
     (λ (h : 2 ≤ a).
     let below = lt-pow-level a h in
     let wide : 2 ^ level_of a ≤ 2 ^ (2 * n) = pow_mono fine in
@@ -32,7 +39,8 @@ address-low n a fine = ⊎_elim
 
 -- ---- what waits
 
-pub addresses-push : (waiting : List Waiting) (w : Waiting) → addresses_of (waiting ++ w ∷ []) ≡ addresses_of waiting ++ w.tri ∷ []
+pub addresses-push : (waiting : List Waiting) (w : Waiting) →
+    addresses_of (waiting ++ w ∷ []) ≡ addresses_of waiting ++ w.tri ∷ []
 addresses-push waiting w = map_push (λ w. w.tri) waiting w
 
 pub waiting-push : (waiting : List Waiting) (w : Waiting) (a : ℕ)
@@ -56,7 +64,8 @@ map-swap_remove f xs k d e inside =
 module _ (n : ℕ) (places : PlaceState) (vertices : VertexState) (corners : List Indices) (waiting : List Waiting)
     (r s w : ℕ) (whole : IsWholeBuffer n places vertices corners waiting r s w) where
   pub whole-long : length corners ≡ length places.triangles
-  whole-long = sym (length-map corners (shown vertices.points)) ∙ ap length whole.drawn ∙ length-map places.triangles (grid_indices n)
+  whole-long = sym (length-map corners (shown vertices.points)) ∙ ap length whole.drawn
+      ∙ length-map places.triangles (grid_indices n)
 
   -- the numbers at a place are in use
   pub whole-used : (k : ℕ) (x : Indices) → k < length places.triangles → x ≡ get_or corners k x → (v : ℕ)
@@ -70,12 +79,17 @@ module _ (n : ℕ) (places : PlaceState) (vertices : VertexState) (corners : Lis
   -- there is room for three uses more
   pub whole-room : length waiting < places.most → sum vertices.uses + 3 ≤ vertices.most
   whole-room some =
-      let long = whole-long in let total = whole.total in let few = whole.few in let most = whole.point_most in omega arith
+      let long = whole-long in
+      let total = whole.total in
+      let few = whole.few in
+      let most = whole.point_most in
+      omega arith
 
   -- a triangle comes, and waits
   pub whole-admit : (after : VertexState) (x : Waiting) (s' : ℕ) → s ≤ s' → x.tri < places.end
       → AreTaken vertices after (grid_indices n x.tri) x.corners
-      → times places.triangles x.tri + times (addresses_of waiting) x.tri ≡ 0 → IsWholeBuffer n places after corners (waiting ++ x ∷ []) r s' w
+      → times places.triangles x.tri + times (addresses_of waiting) x.tri ≡ 0 →
+      IsWholeBuffer n places after corners (waiting ++ x ∷ []) r s' w
   whole-admit after x s' ls low taken away =
       let all : (v : ℕ) → uses_in corners v ≤ get_or vertices.uses v 0 = λ v. omega (arith, whole.used v) in
       record {
@@ -92,7 +106,8 @@ module _ (n : ℕ) (places : PlaceState) (vertices : VertexState) (corners : Lis
             (λ v. omega (arith, whole.used v, waiting_uses-at waiting k d v h)) taken.stay in
             let still : IsReadyToWrite n places.end after.points (get_or waiting k d) =
             record { drawn = same_here ∙ before.drawn; low = before.low } in
-            subst (λ y. IsReadyToWrite n places.end after.points y) (sym (get_or_append_left waiting (x ∷ []) d k h)) still)
+            subst (λ y. IsReadyToWrite n places.end after.points y)
+            (sym (get_or_append_left waiting (x ∷ []) d k h)) still)
             (λ (h : length waiting ≤ k).
             let last : length waiting ≡ k = omega (arith, length_push waiting x) in
             let new : IsReadyToWrite n places.end after.points x = record { drawn = taken.here; low = low } in
@@ -145,10 +160,12 @@ module _ (n : ℕ) (places : PlaceState) (vertices : VertexState) (corners : Lis
         (whole.ready k d (let long = next-long in omega arith))
 
     -- it takes the place of another, whose numbers have a use less
-    pub whole-put : (after : PlaceState) (less : VertexState) (at s' w' : ℕ) (x : Indices) → s ≤ s' → w ≤ w' → at < length places.triangles
+    pub whole-put : (after : PlaceState) (less : VertexState) (at s' w' : ℕ) (x : Indices) → s ≤ s' →
+        w ≤ w' → at < length places.triangles
         → after ≡ record places { triangles = set places.triangles at next.tri } → x ≡ get_or corners at x
         → less ≡ record vertices { uses = less.uses }
-        → ((v : ℕ) → get_or less.uses v 0 + corner_uses x v ≡ get_or vertices.uses v 0) → sum less.uses + 3 ≡ sum vertices.uses
+        → ((v : ℕ) → get_or less.uses v 0 + corner_uses x v ≡ get_or vertices.uses v 0) →
+        sum less.uses + 3 ≡ sum vertices.uses
         → IsWholeBuffer n after less (set corners at next.corners) rest r s' w'
     whole-put after less at s' w' x ls lw inside is_after is_x is_less uses total =
         let points : less.points ≡ vertices.points = ap (λ (t : VertexState). t.points) is_less in
@@ -162,8 +179,10 @@ module _ (n : ℕ) (places : PlaceState) (vertices : VertexState) (corners : Lis
           point_most = ap (λ (t : VertexState). t.most) is_less ∙ whole.point_most;
           drawn =
               ap (λ ps. map (shown ps) (set corners at next.corners)) points ∙ map-set f corners at next.corners
-              ∙ ap₂ (λ xs y. set xs at y) whole.drawn next-ready.drawn ∙ sym (map-set (grid_indices n) places.triangles at next.tri);
-          ready = λ k d h. subst (λ ps. IsReadyToWrite n places.end ps (get_or rest k d)) (sym points) (rest-ready k d h);
+              ∙ ap₂ (λ xs y. set xs at y) whole.drawn next-ready.drawn
+              ∙ sym (map-set (grid_indices n) places.triangles at next.tri);
+          ready =
+              λ k d h. subst (λ ps. IsReadyToWrite n places.end ps (get_or rest k d)) (sym points) (rest-ready k d h);
           used = λ v.
               let change = uses_in-set corners at next.corners x v (omega arith) in
               let here = ap (λ y. corner_uses y v) is_x in
@@ -188,7 +207,8 @@ module _ (n : ℕ) (places : PlaceState) (vertices : VertexState) (corners : Lis
       point_end = whole.point_end;
       point_most = whole.point_most;
       drawn =
-          map_push (shown vertices.points) corners next.corners ∙ ap₂ (λ ys y. ys ++ y ∷ []) whole.drawn next-ready.drawn
+          map_push (shown vertices.points) corners next.corners
+          ∙ ap₂ (λ ys y. ys ++ y ∷ []) whole.drawn next-ready.drawn
           ∙ sym (map_push (grid_indices n) places.triangles next.tri);
       ready = rest-ready;
       used = λ v. omega (arith, whole.used v, next-uses v, uses_in-push corners next.corners v);
@@ -203,9 +223,11 @@ module _ (n : ℕ) (places : PlaceState) (vertices : VertexState) (corners : Lis
   -- a triangle goes, and the last closes the gap
   pub whole-close : (after : PlaceState) (less : VertexState) (xs : List Indices) (x : Indices) (at r' s' w' : ℕ)
       (none : List Waiting) → none ≡ [] → waiting ≡ []
-      → r ≤ r' → s ≤ s' → w ≤ w' → at < length places.triangles → after ≡ record places { triangles = swap_remove places.triangles at 0 }
+      → r ≤ r' → s ≤ s' → w ≤ w' → at < length places.triangles →
+      after ≡ record places { triangles = swap_remove places.triangles at 0 }
       → xs ≡ swap_remove corners at x → x ≡ get_or corners at x → less ≡ record vertices { uses = less.uses }
-      → ((v : ℕ) → get_or less.uses v 0 + corner_uses x v ≡ get_or vertices.uses v 0) → sum less.uses + 3 ≡ sum vertices.uses
+      → ((v : ℕ) → get_or less.uses v 0 + corner_uses x v ≡ get_or vertices.uses v 0) →
+      sum less.uses + 3 ≡ sum vertices.uses
       → IsWholeBuffer n after less xs none r' s' w'
   whole-close after less xs x at r' s' w' none is_none was_none lr ls lw inside is_after is_xs is_x is_less uses total =
       let points : less.points ≡ vertices.points = ap (λ (t : VertexState). t.points) is_less in
@@ -220,7 +242,8 @@ module _ (n : ℕ) (places : PlaceState) (vertices : VertexState) (corners : Lis
         point_most = ap (λ (t : VertexState). t.most) is_less ∙ whole.point_most;
         drawn =
             ap (λ ps. map (shown ps) (swap_remove corners at x)) points ∙ sym (map-swap_remove f corners at x (f x) low)
-            ∙ ap (λ ys. swap_remove ys at (f x)) whole.drawn ∙ map-swap_remove (grid_indices n) places.triangles at 0 (f x) inside;
+            ∙ ap (λ ys. swap_remove ys at (f x)) whole.drawn
+            ∙ map-swap_remove (grid_indices n) places.triangles at 0 (f x) inside;
         ready = λ k d h. absurd (omega arith);
         used = λ v.
             let change = uses_in-swap_remove corners at x v low in
@@ -228,8 +251,11 @@ module _ (n : ℕ) (places : PlaceState) (vertices : VertexState) (corners : Lis
             let before = ap (λ ws. waiting_uses ws v) was_none in
             let empty = waiting_uses-none v in
             omega (arith, whole.used v, uses v);
-        total = (let h = whole.total in let before = ap length was_none in omega (arith, length-swap_remove corners at x low));
-        once = λ a. let empty = times-none a in omega (arith, whole.once a, times-swap_remove places.triangles at 0 a inside);
+        total = (let h = whole.total in let before = ap length was_none in
+            omega (arith, length-swap_remove corners at x low));
+        once = λ a.
+            let empty = times-none a in
+            omega (arith, whole.once a, times-swap_remove places.triangles at 0 a inside);
         few = (let h = whole.few in omega (arith, length-swap_remove places.triangles at 0 inside));
         corner_space = (let h = whole.corner_space in omega arith);
         waiting_space = (let h = whole.waiting_space in omega arith);

@@ -1,14 +1,17 @@
 -- What each change of a table keeps of the links between triangles and places.
-use Rattle.std.proofs.Common.{◌≡◌, ◌≢◌, ℕ, ◌+◌, ◌-◌, ◌<◌, ◌≤◌, List, [], ◌∷◌, ◌++◌, Bool, true, eqb, eqb-true, eq-eqb, ◌↔◌, length, get_or, set, take, sym, ap, ◌∙◌, arith, ⊎_elim}
+use Rattle.std.proofs.Common.{◌≡◌, ◌≢◌, ℕ, ◌+◌, ◌-◌, ◌<◌, ◌≤◌, List, [], ◌∷◌, ◌++◌, Bool, true, eqb, eqb-true, eq-eqb}
+use Rattle.std.proofs.Common.{◌↔◌, length, get_or, set, take, sym, ap, ◌∙◌, arith, ⊎_elim}
 use Rattle.std.specs.List.{swap_remove}
 use Rattle.std.proofs.lemmas.Bool.{cases_eq}
-use Rattle.std.proofs.lemmas.List.{length-set, length_push, get_or-set_same, get_or-set_other, get_or_append_left, get_or_push, get_or-take, get_or_default}
+use Rattle.std.proofs.lemmas.List.{length-set, length_push, get_or-set_same, get_or-set_other, get_or_append_left}
+use Rattle.std.proofs.lemmas.List.{get_or_push, get_or-take, get_or_default}
 use Rattle.draw_buffer.specs.Times.{times}
 use Rattle.draw_buffer.specs.Places.{IsPlaceOfEach}
 use Rattle.draw_buffer.proofs.TimesLemmas.{times-at, times-place, length-swap_remove}
 
 -- what a link says of equal numbers
-moved : (ps : List ℕ) (s t k : ℕ) → s ≡ t → (t < length ps) × (get_or ps t 0 ≡ k) → (s < length ps) × (get_or ps s 0 ≡ k)
+moved : (ps : List ℕ) (s t k : ℕ) → s ≡ t → (t < length ps) × (get_or ps t 0 ≡ k) →
+    (s < length ps) × (get_or ps s 0 ≡ k)
 moved ps s t k e h = (omega (arith, h.0), ap (λ j. get_or ps j 0) e ∙ h.1)
 
 -- the triangle that stands at a place after the last took that of another
@@ -16,19 +19,22 @@ pub swap_remove-same : (ts : List ℕ) (k d e : ℕ) → k < length ts → swap_
 swap_remove-same ts k d e within =
     ap (λ t. take (length ts - 1) (set ts k t)) (get_or_default ts (length ts - 1) d e (omega arith))
 
-pub swap_remove-here : (ts : List ℕ) (k : ℕ) → k < length ts - 1 → get_or (swap_remove ts k 0) k 0 ≡ get_or ts (length ts - 1) 0
+pub swap_remove-here : (ts : List ℕ) (k : ℕ) → k < length ts - 1 →
+    get_or (swap_remove ts k 0) k 0 ≡ get_or ts (length ts - 1) 0
 swap_remove-here ts k within =
     get_or-take (length ts - 1) (set ts k (get_or ts (length ts - 1) 0)) k 0 within
     ∙ get_or-set_same ts k (get_or ts (length ts - 1) 0) 0 (omega arith)
 
-pub swap_remove-other : (ts : List ℕ) (k j : ℕ) → j < length ts - 1 → j ≢ k → get_or (swap_remove ts k 0) j 0 ≡ get_or ts j 0
+pub swap_remove-other : (ts : List ℕ) (k j : ℕ) → j < length ts - 1 → j ≢ k →
+    get_or (swap_remove ts k 0) j 0 ≡ get_or ts j 0
 swap_remove-other ts k j within apart =
     get_or-take (length ts - 1) (set ts k (get_or ts (length ts - 1) 0)) j 0 within
     ∙ get_or-set_other ts k j (get_or ts (length ts - 1) 0) 0 apart
 
 module _ (ts ps : List ℕ) (linked : IsPlaceOfEach ts ps) where
   -- the place of a triangle that stands somewhere
-  pub linked-place : (a : ℕ) → 0 < times ts a → (a < length ps) × (get_or ps a 0 < length ts) × (get_or ts (get_or ps a 0) 0 ≡ a)
+  pub linked-place : (a : ℕ) → 0 < times ts a →
+      (a < length ps) × (get_or ps a 0 < length ts) × (get_or ts (get_or ps a 0) 0 ≡ a)
   linked-place a some =
       let there = times-place ts a some in
       let k = there.0 in
@@ -51,24 +57,29 @@ module _ (ts ps : List ℕ) (linked : IsPlaceOfEach ts ps) where
   distinct : (i j : ℕ) → i < length ts → j < length ts → i ≢ j → get_or ts i 0 ≢ get_or ts j 0
   distinct i j hi hj u e = u (sym (linked i hi).1 ∙ ap (λ s. get_or ps s 0) e ∙ (linked j hj).1)
 
-  pub IsLinked-put : (at t : ℕ) → at < length ts → t < length ps → times ts t ≡ 0 → IsPlaceOfEach (set ts at t) (set ps t at)
+  pub IsLinked-put : (at t : ℕ) → at < length ts → t < length ps → times ts t ≡ 0 →
+      IsPlaceOfEach (set ts at t) (set ps t at)
   IsLinked-put at t inside within away k hk = ⊎_elim
       (λ (e : k ≡ at). moved (set ps t at) (get_or (set ts at t) k 0) t k
       (ap (λ j. get_or (set ts at t) j 0) e ∙ get_or-set_same ts at t 0 inside)
       (omega (arith, length-set ps t at), get_or-set_same ps t at 0 within ∙ sym e))
       (λ (u : k ≢ at).
       let h : k < length ts = omega (arith, length-set ts at t) in
-      moved (set ps t at) (get_or (set ts at t) k 0) (get_or ts k 0) k (get_or-set_other ts at k t 0 u)
-      (omega (arith, length-set ps t at, (linked k h).0), get_or-set_other ps t (get_or ts k 0) at 0 (apart t k away h) ∙ (linked k h).1))
+      moved (set ps t at) (get_or (set ts at t) k 0) (get_or ts k 0) k (get_or-set_other ts at k t 0 u) (
+        omega (arith, length-set ps t at, (linked k h).0),
+        get_or-set_other ps t (get_or ts k 0) at 0 (apart t k away h) ∙ (linked k h).1,
+      ))
       (cases_eq k at)
 
   pub IsLinked-push : (t : ℕ) → t < length ps → times ts t ≡ 0 → IsPlaceOfEach (ts ++ t ∷ []) (set ps t (length ts))
   IsLinked-push t within away k hk = ⊎_elim
-      (λ (e : k ≡ length ts). moved (set ps t (length ts)) (get_or (ts ++ t ∷ []) k 0) t k (get_or_push ts t 0 k (sym e))
+      (λ (e : k ≡ length ts).
+      moved (set ps t (length ts)) (get_or (ts ++ t ∷ []) k 0) t k (get_or_push ts t 0 k (sym e))
       (omega (arith, length-set ps t (length ts)), get_or-set_same ps t (length ts) 0 within ∙ sym e))
       (λ (u : k ≢ length ts).
       let h : k < length ts = omega (arith, length_push ts t) in
-      moved (set ps t (length ts)) (get_or (ts ++ t ∷ []) k 0) (get_or ts k 0) k (get_or_append_left ts (t ∷ []) 0 k h) (
+      moved (set ps t (length ts)) (get_or (ts ++ t ∷ []) k 0) (get_or ts k 0) k
+      (get_or_append_left ts (t ∷ []) 0 k h) (
         omega (arith, length-set ps t (length ts), (linked k h).0),
         get_or-set_other ps t (get_or ts k 0) (length ts) 0
             (apart t k away h) ∙ (linked k h).1,
@@ -97,8 +108,10 @@ module _ (ts ps : List ℕ) (linked : IsPlaceOfEach ts ps) where
       (λ (u : k ≢ at).
       let h : k < length ts = omega arith in
       let not_last : k ≢ end = omega arith in
-      moved (set ps last at) (get_or (swap_remove ts at 0) k 0) (get_or ts k 0) k (swap_remove-other ts at k (omega arith) u) (
+      moved (set ps last at) (get_or (swap_remove ts at 0) k 0) (get_or ts k 0) k
+      (swap_remove-other ts at k (omega arith) u) (
         omega (arith, length-set ps last at, (linked k h).0),
-        get_or-set_other ps last (get_or ts k 0) at 0 (λ f. distinct k end h (omega arith) not_last (f ∙ here)) ∙ (linked k h).1,
+        get_or-set_other ps last (get_or ts k 0) at 0 (λ f. distinct k end h (omega arith) not_last (f ∙ here))
+            ∙ (linked k h).1,
       ))
       (cases_eq k at)

@@ -1,11 +1,14 @@
 -- What a use more and a use less of a vertex number leave, of the fields and of what is seen.
-use Rattle.std.proofs.Common.{◌≡◌, ◌≢◌, ℕ, ◌+◌, ◌^◌, ◌<◌, ◌≤◌, List, [], ◌∷◌, ◌++◌, length, get_or, set, sum, refl, sym, ap, ◌∙◌, subst, arith, ⊎_elim}
+use Rattle.std.proofs.Common.{◌≡◌, ◌≢◌, ℕ, ◌+◌, ◌^◌, ◌<◌, ◌≤◌, List, [], ◌∷◌, ◌++◌, length, get_or, set, sum, refl, sym}
+use Rattle.std.proofs.Common.{ap, ◌∙◌, subst, arith, ⊎_elim}
 use Rattle.std.proofs.lemmas.Bool.{cases_eq}
 use Rattle.std.proofs.lemmas.List.{length-set, length_push, get_or-set_other}
 use Rattle.draw_buffer.specs.Times.{times, same}
 use Rattle.draw_buffer.specs.Vertices.{VertexState, AreSound, IsTaken}
 use Rattle.draw_buffer.proofs.TimesLemmas.{same-one, same-other, times-none, times-push}
-use Rattle.draw_buffer.proofs.VertexLemmas.{busy-none, used-within, sum-set, set-here, push-here, push-other, AreFree-stay, AreFree-leave, last-low, AreFree-give, all-busy, AreFree-new, IsNumbered-fewer, IsNumbered-give}
+use Rattle.draw_buffer.proofs.VertexLemmas.{busy-none, used-within, sum-set, set-here, push-here, push-other}
+use Rattle.draw_buffer.proofs.VertexLemmas.{AreFree-stay, AreFree-leave, last-low, AreFree-give, all-busy, AreFree-new}
+use Rattle.draw_buffer.proofs.VertexLemmas.{IsNumbered-fewer, IsNumbered-give}
 
 -- ---- the fields
 
@@ -72,15 +75,19 @@ module _ (ps us ns free : List ℕ) (most r1 r2 r3 r4 : ℕ) (sound : AreSound p
   new-room none room = let all = all-busy us free sound.vacant none in let long = sound.long in omega arith
 
   -- and it is given
-  pub sound-new : (qs vs none : List ℕ) (v p s1 s2 s3 s4 : ℕ) → free ≡ [] → none ≡ [] → sum us < most → v ≡ length ps → p < length ns
-      → ((w : ℕ) → 0 < get_or us w 0 → get_or ps w 0 ≢ p) → qs ≡ ps ++ p ∷ [] → vs ≡ us ++ 1 ∷ [] → r1 ≤ s1 → r2 ≤ s2 → r3 ≤ s3 → r4 ≤ s4
+  pub sound-new : (qs vs none : List ℕ) (v p s1 s2 s3 s4 : ℕ) → free ≡ [] → none ≡ [] → sum us < most →
+      v ≡ length ps → p < length ns
+      → ((w : ℕ) → 0 < get_or us w 0 → get_or ps w 0 ≢ p) → qs ≡ ps ++ p ∷ [] → vs ≡ us ++ 1 ∷ [] → r1 ≤ s1 →
+      r2 ≤ s2 → r3 ≤ s3 → r4 ≤ s4
       → AreSound qs vs (set ns p v) none most s1 s2 s3 s4
   sound-new qs vs none v p s1 s2 s3 s4 is_free is_none room is_v within away is_qs is_vs l1 l2 l3 l4 =
       let long = sound.long in
       let some = new-room is_free room in
       rw (is_qs, is_vs) (record {
-        numbered = IsNumbered-give ps us (ps ++ p ∷ []) (us ++ 1 ∷ []) ns p v sound.numbered within away (push-here ps p v is_v)
-            (λ w u. push-other ps p w (λ e. u (e ∙ sym is_v))) (λ w u. push-other us 1 w (λ e. u (e ∙ sym long ∙ sym is_v)));
+        numbered = IsNumbered-give ps us (ps ++ p ∷ [])
+            (us ++ 1 ∷ []) ns p v sound.numbered within away (push-here ps p v is_v)
+            (λ w u. push-other ps p w (λ e. u (e ∙ sym is_v)))
+            (λ w u. push-other us 1 w (λ e. u (e ∙ sym long ∙ sym is_v)));
         vacant = AreFree-new us free none sound.vacant is_free is_none;
         long = omega (arith, length_push ps p, length_push us 1);
         few = omega (arith, length_push ps p);
@@ -128,7 +135,8 @@ pub taken-again : (before after : VertexState) (p v : ℕ) → 0 < get_or before
 taken-again before after p v used is_p is_after = rw is_after (record {
   here = is_p;
   uses = uses-more before.uses v _ used refl;
-  total = (let change = sum-set before.uses v (get_or before.uses v 0 + 1) (used-within before.uses v used) in omega arith);
+  total =
+      (let change = sum-set before.uses v (get_or before.uses v 0 + 1) (used-within before.uses v used) in omega arith);
   stay = λ w some. refl;
   told = λ w none. refl;
   grows = λ w none. none;
@@ -141,7 +149,8 @@ taken-again before after p v used is_p is_after = rw is_after (record {
 pub taken-first : (before after : VertexState) (p v : ℕ) → get_or before.uses v 0 ≡ 0 → get_or after.uses v 0 ≡ 1
     → ((w : ℕ) → w ≢ v → get_or after.uses w 0 ≡ get_or before.uses w 0) → sum after.uses ≡ sum before.uses + 1
     → get_or after.points v 0 ≡ p → ((w : ℕ) → w ≢ v → get_or after.points w 0 ≡ get_or before.points w 0)
-    → after.given ≡ before.given ++ v ∷ [] → after.end ≡ before.end → after.most ≡ before.most → IsTaken before after p v
+    → after.given ≡ before.given ++ v ∷ [] → after.end ≡ before.end → after.most ≡ before.most →
+    IsTaken before after p v
 taken-first before after p v unused first others total is_p points given end most = record {
   here = is_p;
   uses = λ w. ⊎_elim

@@ -1,11 +1,14 @@
 -- How often a number stands in a list, after a change of the list.
-use Rattle.std.proofs.Common.{◌≡◌, ◌≢◌, ℕ, suc, ◌+◌, ◌-◌, ◌<◌, ◌≤◌, cond, List, [], ◌∷◌, ◌++◌, length, get_or, set, take, drop, refl, sym, ap, ◌∙◌, arith, ⊎_elim}
+use Rattle.std.proofs.Common.{◌≡◌, ◌≢◌, ℕ, suc, ◌+◌, ◌-◌, ◌<◌, ◌≤◌, cond, List, [], ◌∷◌, ◌++◌, length, get_or, set}
+use Rattle.std.proofs.Common.{take, drop, refl, sym, ap, ◌∙◌, arith, ⊎_elim}
 use Rattle.std.specs.List.{swap_remove}
 use Rattle.std.specs.List.Sorted.{IsPermutation}
 use Rattle.std.proofs.lemmas.Bool.{cases_eq, eq-eqb, ne_eqb}
 use Rattle.std.proofs.lemmas.List.{length-set, length-take-le, get_or_default}
-use Rattle.std.proofs.lemmas.List.Sorted.{IsPermutation-refl, IsPermutation-sym, IsPermutation-cons, IsPermutation-swap_remove, IsPermutation-trans}
-use Rattle.std.proofs.lemmas.List.Sums.{sum_by-cons, sum_by-set, sum_by_push, sum_by-swap_remove, sum_by-drop_more, sum_by_more, sum_by-take-le, get_or-le-sum_by}
+use Rattle.std.proofs.lemmas.List.Sorted.{IsPermutation-refl, IsPermutation-sym, IsPermutation-cons}
+use Rattle.std.proofs.lemmas.List.Sorted.{IsPermutation-swap_remove, IsPermutation-trans}
+use Rattle.std.proofs.lemmas.List.Sums.{sum_by-cons, sum_by-set, sum_by_push, sum_by-swap_remove, sum_by-drop_more}
+use Rattle.std.proofs.lemmas.List.Sums.{sum_by_more, sum_by-take-le, get_or-le-sum_by}
 use Rattle.draw_buffer.specs.Times.{times, same}
 
 -- ---- two numbers
@@ -19,7 +22,8 @@ unfolding same
 same-other t a u = ap (λ b. cond b 1 0) (ne_eqb t a u)
 
 pub same-le : (t a : ℕ) → same t a ≤ 1
-same-le t a = ⊎_elim (λ e. let h = same-one t a e in omega arith) (λ u. let h = same-other t a u in omega arith) (cases_eq t a)
+same-le t a =
+    ⊎_elim (λ e. let h = same-one t a e in omega arith) (λ u. let h = same-other t a u in omega arith) (cases_eq t a)
 
 -- ---- a list and its changes
 
@@ -35,19 +39,23 @@ pub times-push : (ts : List ℕ) (t a : ℕ) → times (ts ++ t ∷ []) a ≡ ti
 unfolding times same
 times-push ts t a = sum_by_push (λ t. same t a) ts t
 
-pub times-set : (ts : List ℕ) (k t a : ℕ) → k < length ts → times (set ts k t) a + same (get_or ts k 0) a ≡ times ts a + same t a
+pub times-set : (ts : List ℕ) (k t a : ℕ) → k < length ts →
+    times (set ts k t) a + same (get_or ts k 0) a ≡ times ts a + same t a
 unfolding times same
 times-set ts k t a within = sum_by-set (λ t. same t a) ts k t 0 within
 
-pub times-swap_remove : (ts : List ℕ) (k d a : ℕ) → k < length ts → times (swap_remove ts k d) a + same (get_or ts k d) a ≡ times ts a
+pub times-swap_remove : (ts : List ℕ) (k d a : ℕ) → k < length ts →
+    times (swap_remove ts k d) a + same (get_or ts k d) a ≡ times ts a
 unfolding times same
 times-swap_remove ts k d a within = sum_by-swap_remove (λ t. same t a) ts k d within
 
-pub times-drop : (ts : List ℕ) (k a : ℕ) → k < length ts → times (drop k ts) a ≡ same (get_or ts k 0) a + times (drop (k + 1) ts) a
+pub times-drop : (ts : List ℕ) (k a : ℕ) → k < length ts →
+    times (drop k ts) a ≡ same (get_or ts k 0) a + times (drop (k + 1) ts) a
 unfolding times same
 times-drop ts k a within = sum_by-drop_more (λ t. same t a) ts k 0 within
 
-pub times-take : (ts : List ℕ) (k a : ℕ) → k < length ts → times (take (k + 1) ts) a ≡ times (take k ts) a + same (get_or ts k 0) a
+pub times-take : (ts : List ℕ) (k a : ℕ) → k < length ts →
+    times (take (k + 1) ts) a ≡ times (take k ts) a + same (get_or ts k 0) a
 unfolding times same
 times-take ts k a within = sum_by_more (λ t. same t a) ts k 0 within
 
@@ -84,7 +92,8 @@ times-place (t ∷ ts) a some =
 
 -- ---- one list within another
 
-pub length-swap_remove : {X : Type 0} (ts : List X) (k : ℕ) (d : X) → k < length ts → length (swap_remove ts k d) + 1 ≡ length ts
+pub length-swap_remove : {X : Type 0} (ts : List X) (k : ℕ) (d : X) → k < length ts →
+    length (swap_remove ts k d) + 1 ≡ length ts
 length-swap_remove ts k d within =
     let whole = length-set ts k (get_or ts (length ts - 1) d) in
     let short = length-take-le (length ts - 1) (set ts k (get_or ts (length ts - 1) d)) (omega arith) in

@@ -1,5 +1,6 @@
 -- What each change leaves as it was, where no place is told to be written.
-use Rattle.std.proofs.Common.{◌≡◌, ◌≢◌, ℕ, ◌+◌, ◌-◌, ◌<◌, ◌≤◌, List, [], ◌∷◌, ◌++◌, length, get_or, set, refl, sym, ap, ◌∙◌, arith}
+use Rattle.std.proofs.Common.{◌≡◌, ◌≢◌, ℕ, ◌+◌, ◌-◌, ◌<◌, ◌≤◌, List, [], ◌∷◌, ◌++◌, length, get_or, set, refl, sym, ap}
+use Rattle.std.proofs.Common.{◌∙◌, arith}
 use Rattle.std.specs.List.{swap_remove}
 use Rattle.std.proofs.lemmas.List.{length-set, length_push, get_or-set_other, get_or_append_left, get_or-take}
 use Rattle.draw_buffer.specs.declared.indices.Indices.{Indices}
@@ -41,7 +42,8 @@ told-trans e f g first second = record {
 
 -- a triangle is put behind the last
 pub told-push : (e f : ExchangeState) (t : ℕ) (x : Indices) → length e.corners ≡ length e.triangles
-    → f.written ≡ e.written ++ length e.triangles ∷ [] → f.triangles ≡ e.triangles ++ t ∷ [] → f.corners ≡ e.corners ++ x ∷ [] → KeepsUntold e f
+    → f.written ≡ e.written ++ length e.triangles ∷ [] → f.triangles ≡ e.triangles ++ t ∷ [] →
+    f.corners ≡ e.corners ++ x ∷ [] → KeepsUntold e f
 told-push e f t x long told triangles corners =
     let before : (k : ℕ) → k < length f.triangles → times f.written k ≡ 0 → k < length e.triangles = λ k inside none.
     let u = apart e.written (length e.triangles) k (rw (← told) none) in
@@ -58,20 +60,25 @@ told-push e f t x long told triangles corners =
     }
 
 -- a triangle is put at a place
-pub told-put : (e f : ExchangeState) (at t : ℕ) (x : Indices) → f.written ≡ e.written ++ at ∷ [] → f.triangles ≡ set e.triangles at t
+pub told-put : (e f : ExchangeState) (at t : ℕ) (x : Indices) → f.written ≡ e.written ++ at ∷ [] →
+    f.triangles ≡ set e.triangles at t
     → f.corners ≡ set e.corners at x → KeepsUntold e f
 told-put e f at t x told triangles corners =
     let other : (k : ℕ) → times f.written k ≡ 0 → k ≢ at = λ k none. apart e.written at k (rw (← told) none) in
     record {
       grows = λ k none. fewer e.written at k (rw (← told) none);
       within = λ k inside none. let same_length = ap length triangles ∙ length-set e.triangles at t in omega arith;
-      triangles_stay = λ k inside none. ap (λ ts. get_or ts k 0) triangles ∙ get_or-set_other e.triangles at k t 0 (other k none);
-      corners_stay = λ k d inside none. ap (λ xs. get_or xs k d) corners ∙ get_or-set_other e.corners at k x d (other k none);
+      triangles_stay =
+          λ k inside none. ap (λ ts. get_or ts k 0) triangles ∙ get_or-set_other e.triangles at k t 0 (other k none);
+      corners_stay =
+          λ k d inside none. ap (λ xs. get_or xs k d) corners ∙ get_or-set_other e.corners at k x d (other k none);
     }
 
 -- the last takes the place of another, which is told where it is not the last itself
-pub told-close : (e f : ExchangeState) (at : ℕ) (x : Indices) → at < length e.triangles → length e.corners ≡ length e.triangles
-    → ((k : ℕ) → times f.written k ≡ 0 → times e.written k ≡ 0) → ((k : ℕ) → k + 1 < length e.triangles → times f.written k ≡ 0 → k ≢ at)
+pub told-close : (e f : ExchangeState) (at : ℕ) (x : Indices) → at < length e.triangles →
+    length e.corners ≡ length e.triangles
+    → ((k : ℕ) → times f.written k ≡ 0 → times e.written k ≡ 0) →
+    ((k : ℕ) → k + 1 < length e.triangles → times f.written k ≡ 0 → k ≢ at)
     → f.triangles ≡ swap_remove e.triangles at 0 → f.corners ≡ swap_remove e.corners at x → KeepsUntold e f
 told-close e f at x inside long grows other triangles corners =
     let short : length f.triangles + 1 ≡ length e.triangles =
@@ -85,15 +92,18 @@ told-close e f at x inside long grows other triangles corners =
           ∙ swap_remove-rest e.corners at x k d (omega arith) (other k (omega arith) none);
     }
 
-pub told-gap : (e f : ExchangeState) (at : ℕ) (x : Indices) → at < length e.triangles → length e.corners ≡ length e.triangles
-    → f.written ≡ e.written ++ at ∷ [] → f.triangles ≡ swap_remove e.triangles at 0 → f.corners ≡ swap_remove e.corners at x → KeepsUntold e f
+pub told-gap : (e f : ExchangeState) (at : ℕ) (x : Indices) → at < length e.triangles →
+    length e.corners ≡ length e.triangles
+    → f.written ≡ e.written ++ at ∷ [] → f.triangles ≡ swap_remove e.triangles at 0 →
+    f.corners ≡ swap_remove e.corners at x → KeepsUntold e f
 told-gap e f at x inside long told triangles corners =
     told-close e f at x inside long (λ k none. fewer e.written at k (rw (← told) none))
     (λ k low none. apart e.written at k (rw (← told) none)) triangles corners
 
 pub told-last : (e f : ExchangeState) (at : ℕ) (x : Indices) → at < length e.triangles → length e.triangles ≤ at + 1
     → length e.corners ≡ length e.triangles
-    → f.written ≡ e.written → f.triangles ≡ swap_remove e.triangles at 0 → f.corners ≡ swap_remove e.corners at x → KeepsUntold e f
+    → f.written ≡ e.written → f.triangles ≡ swap_remove e.triangles at 0 →
+    f.corners ≡ swap_remove e.corners at x → KeepsUntold e f
 told-last e f at x inside last long told triangles corners =
     told-close e f at x inside long (λ k none. rw (← told) none) (λ k low none. omega arith) triangles corners
 

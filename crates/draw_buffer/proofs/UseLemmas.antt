@@ -1,5 +1,6 @@
 -- How often corners have a vertex number, and what three uses more or less leave.
-use Rattle.std.proofs.Common.{◌≡◌, ℕ, ◌+◌, ◌<◌, ◌≤◌, List, [], ◌∷◌, ◌++◌, length, map, get_or, set, refl, ap, ap₂, ◌∙◌, arith}
+use Rattle.std.proofs.Common.{◌≡◌, ℕ, ◌+◌, ◌<◌, ◌≤◌, List, [], ◌∷◌, ◌++◌, length, map, get_or, set, refl, ap, ap₂, ◌∙◌}
+use Rattle.std.proofs.Common.{arith}
 use Rattle.std.specs.List.{swap_remove}
 use Rattle.std.proofs.lemmas.List.Sums.{sum_by-cons, sum_by-set, sum_by_push, sum_by-swap_remove, get_or-le-sum_by}
 use Rattle.draw_buffer.specs.declared.indices.Indices.{Indices}
@@ -59,7 +60,8 @@ pub uses_in-swap_remove : (xs : List Indices) (k : ℕ) (d : Indices) (v : ℕ) 
 unfolding uses_in
 uses_in-swap_remove xs k d v inside = sum_by-swap_remove (λ y. corner_uses y v) xs k d inside
 
-pub uses_in-at : (xs : List Indices) (k : ℕ) (d : Indices) (v : ℕ) → k < length xs → corner_uses (get_or xs k d) v ≤ uses_in xs v
+pub uses_in-at : (xs : List Indices) (k : ℕ) (d : Indices) (v : ℕ) → k < length xs →
+    corner_uses (get_or xs k d) v ≤ uses_in xs v
 unfolding uses_in
 uses_in-at xs k d v inside = get_or-le-sum_by (λ y. corner_uses y v) xs k d inside
 
@@ -95,18 +97,23 @@ taken-three a b c d places apex v0 v1 first second third = record {
   here =
       let one = same-one apex apex refl in
       let two = same-one v0 v0 refl in
-      let at_c : get_or c.points apex 0 ≡ places.apex = second.stay apex (omega (arith, first.uses apex)) ∙ first.here in
-      let at_d : get_or d.points apex 0 ≡ places.apex = third.stay apex (omega (arith, first.uses apex, second.uses apex)) ∙ at_c in
+      let at_c : get_or c.points apex 0 ≡ places.apex =
+      second.stay apex (omega (arith, first.uses apex)) ∙ first.here in
+      let at_d : get_or d.points apex 0 ≡ places.apex =
+      third.stay apex (omega (arith, first.uses apex, second.uses apex)) ∙ at_c in
       let mid : get_or d.points v0 0 ≡ places.v0 = third.stay v0 (omega (arith, second.uses v0)) ∙ second.here in
       let built : ℕ → ℕ → ℕ → Indices = λ i j k. record { apex = i; v0 = j; v1 = k } in
-      ap (λ i. built i (get_or d.points v0 0) (get_or d.points v1 0)) at_d ∙ ap (λ j. built places.apex j (get_or d.points v1 0)) mid
+      ap (λ i. built i (get_or d.points v0 0) (get_or d.points v1 0)) at_d
+      ∙ ap (λ j. built places.apex j (get_or d.points v1 0)) mid
       ∙ ap (λ k. built places.apex places.v0 k) third.here;
   uses = λ w. let is = corner_uses-is (record { apex = apex; v0 = v0; v1 = v1 }) w in
       omega (arith, first.uses w, second.uses w, third.uses w);
   total = (let h = first.total in let i = second.total in let j = third.total in omega arith);
   stay = λ w some.
-      third.stay w (omega (arith, first.uses w, second.uses w)) ∙ second.stay w (omega (arith, first.uses w)) ∙ first.stay w some;
-  told = λ w none. third.told w none ∙ second.told w (third.grows w none) ∙ first.told w (second.grows w (third.grows w none));
+      third.stay w (omega (arith, first.uses w, second.uses w))
+      ∙ second.stay w (omega (arith, first.uses w)) ∙ first.stay w some;
+  told = λ w none. third.told w none ∙ second.told w (third.grows w none)
+      ∙ first.told w (second.grows w (third.grows w none));
   grows = λ w none. first.grows w (second.grows w (third.grows w none));
   few = (let h = first.few in let i = second.few in let j = third.few in omega arith);
   end = third.end ∙ second.end ∙ first.end;

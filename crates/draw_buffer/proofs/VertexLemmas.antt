@@ -1,7 +1,9 @@
 -- What each change of a table of vertices keeps.
-use Rattle.std.proofs.Common.{◌≡◌, ◌≢◌, ℕ, ◌+◌, ◌<◌, ◌≤◌, cond, ltb, List, [], ◌∷◌, ◌++◌, length, get_or, set, sum, refl, sym, ap, ◌∙◌, subst, arith, ⊎_elim}
+use Rattle.std.proofs.Common.{◌≡◌, ◌≢◌, ℕ, ◌+◌, ◌<◌, ◌≤◌, cond, ltb, List, [], ◌∷◌, ◌++◌, length, get_or, set, sum}
+use Rattle.std.proofs.Common.{refl, sym, ap, ◌∙◌, subst, arith, ⊎_elim}
 use Rattle.std.proofs.lemmas.Bool.{cases_eq, cases_lt, lt-ltb, le-ltb}
-use Rattle.std.proofs.lemmas.List.{length-set, length_push, get_or-set_same, get_or-set_other, get_or_append_left, get_or_push, get_or_past}
+use Rattle.std.proofs.lemmas.List.{length-set, length_push, get_or-set_same, get_or-set_other, get_or_append_left}
+use Rattle.std.proofs.lemmas.List.{get_or_push, get_or_past}
 use Rattle.std.proofs.lemmas.List.Sums.{sum_by-set, sum_by_push, sum_by-le-sum_by, get_or-le-sum_by}
 use Rattle.draw_buffer.specs.Times.{times, same}
 use Rattle.draw_buffer.specs.Vertices.{busy, IsNumbered, AreFree}
@@ -83,23 +85,27 @@ push-here us u w e = get_or_push us u 0 w (sym e)
 pub push-other : (us : List ℕ) (u w : ℕ) → w ≢ length us → get_or (us ++ u ∷ []) w 0 ≡ get_or us w 0
 push-other us u w apart = ⊎_elim
     (λ (h : w < length us). get_or_append_left us (u ∷ []) 0 w h)
-    (λ (h : length us ≤ w). get_or_past (us ++ u ∷ []) w 0 (omega (arith, length_push us u)) ∙ sym (get_or_past us w 0 h))
+    (λ (h : length us ≤ w). get_or_past (us ++ u ∷ []) w 0 (omega (arith, length_push us u))
+    ∙ sym (get_or_past us w 0 h))
     (cases_lt w (length us))
 
 -- ---- the free numbers
 
 -- a free number is not in use
-pub free-apart : (us free : List ℕ) (v i : ℕ) → AreFree us free → 0 < get_or us v 0 → i < length free → get_or free i 0 ≢ v
+pub free-apart : (us free : List ℕ) (v i : ℕ) → AreFree us free → 0 < get_or us v 0 →
+    i < length free → get_or free i 0 ≢ v
 free-apart us free v i vacant some within e =
     let none = vacant.unused i within in let same_use = ap (λ k. get_or us k 0) e in absurd (omega arith)
 
 -- another number of uses of a number that stays in use
-pub AreFree-stay : (us free : List ℕ) (v u : ℕ) → AreFree us free → 0 < get_or us v 0 → 0 < u → AreFree (set us v u) free
+pub AreFree-stay : (us free : List ℕ) (v u : ℕ) → AreFree us free → 0 < get_or us v 0 → 0 < u →
+    AreFree (set us v u) free
 AreFree-stay us free v u vacant some more =
     let within = used-within us v some in
     record {
       low = λ i h. omega (arith, vacant.low i h, length-set us v u);
-      unused = λ i h. get_or-set_other us v (get_or free i 0) u 0 (free-apart us free v i vacant some h) ∙ vacant.unused i h;
+      unused =
+          λ i h. get_or-set_other us v (get_or free i 0) u 0 (free-apart us free v i vacant some h) ∙ vacant.unused i h;
       distinct = vacant.distinct;
       count =
           let change = busy-set us v u within in
@@ -110,7 +116,8 @@ AreFree-stay us free v u vacant some more =
     }
 
 -- a number goes out of use
-pub AreFree-leave : (us free : List ℕ) (v : ℕ) → AreFree us free → 0 < get_or us v 0 → AreFree (set us v 0) (free ++ v ∷ [])
+pub AreFree-leave : (us free : List ℕ) (v : ℕ) → AreFree us free → 0 < get_or us v 0 →
+    AreFree (set us v 0) (free ++ v ∷ [])
 AreFree-leave us free v vacant some =
     let within = used-within us v some in
     let long = length_push free v in
@@ -133,12 +140,16 @@ AreFree-leave us free v vacant some =
           let early : i < length free = omega arith in
           let other = push-other free v i u in
           ap (λ k. get_or (set us v 0) k 0) other
-          ∙ get_or-set_other us v (get_or free i 0) 0 0 (free-apart us free v i vacant some early) ∙ vacant.unused i early)
+          ∙ get_or-set_other us v (get_or free i 0) 0 0 (free-apart us free v i vacant some early)
+          ∙ vacant.unused i early)
           (cases_eq i (length free));
       distinct = λ w.
           let more = times-push free v w in
           ⊎_elim
-          (λ (e : v ≡ w). let none : times free w ≡ 0 = subst (λ k. times free k ≡ 0) e away in let one = same-one v w e in omega arith)
+          (λ (e : v ≡ w).
+          let none : times free w ≡ 0 = subst (λ k. times free k ≡ 0) e away in
+          let one = same-one v w e in
+          omega arith)
           (λ (u : v ≢ w). let none = same-other v w u in omega (arith, vacant.distinct w))
           (cases_eq v w);
       count =
@@ -165,12 +176,15 @@ module _ (us free rest : List ℕ) (v : ℕ) (vacant : AreFree us free) (split :
   last-low = let long = last-long in let read = last-read in omega (arith, vacant.low (length rest) (omega arith))
 
   pub last-unused : get_or us v 0 ≡ 0
-  last-unused = let long = last-long in ap (λ k. get_or us k 0) (sym last-read) ∙ vacant.unused (length rest) (omega arith)
+  last-unused =
+      let long = last-long in
+      ap (λ k. get_or us k 0) (sym last-read) ∙ vacant.unused (length rest) (omega arith)
 
   pub AreFree-give : AreFree (set us v 1) rest
   AreFree-give =
       let long = last-long in
-      let split_times : (w : ℕ) → times free w ≡ times rest w + same v w = λ w. ap (λ xs. times xs w) split ∙ times-push rest v w in
+      let split_times : (w : ℕ) → times free w ≡ times rest w + same v w =
+      λ w. ap (λ xs. times xs w) split ∙ times-push rest v w in
       let read : (i : ℕ) → i < length rest → get_or rest i 0 ≡ get_or free i 0 = λ i h.
       sym (ap (λ xs. get_or xs i 0) split ∙ push-other rest v i (omega arith)) in
       record {
@@ -180,7 +194,8 @@ module _ (us free rest : List ℕ) (v : ℕ) (vacant : AreFree us free) (split :
             let some = times-at rest i v h e in
             let one = same-one v v refl in
             absurd (omega (arith, vacant.distinct v, split_times v)) in
-            get_or-set_other us v (get_or rest i 0) 1 0 apart ∙ ap (λ k. get_or us k 0) (read i h) ∙ vacant.unused i (omega arith);
+            get_or-set_other us v (get_or rest i 0) 1 0 apart ∙ ap (λ k. get_or us k 0) (read i h)
+            ∙ vacant.unused i (omega arith);
         distinct = λ w. omega (arith, vacant.distinct w, split_times w);
         count =
             let change = busy-set us v 1 last-low in
@@ -220,7 +235,8 @@ IsNumbered-fewer ps us vs ns numbered less w some = numbered w (less w some)
 -- a number v is given to a point that has none
 pub IsNumbered-give : (ps us qs vs ns : List ℕ) (p v : ℕ) → IsNumbered ps us ns → p < length ns
     → ((w : ℕ) → 0 < get_or us w 0 → get_or ps w 0 ≢ p) → get_or qs v 0 ≡ p
-    → ((w : ℕ) → w ≢ v → get_or qs w 0 ≡ get_or ps w 0) → ((w : ℕ) → w ≢ v → get_or vs w 0 ≡ get_or us w 0) → IsNumbered qs vs (set ns p v)
+    → ((w : ℕ) → w ≢ v → get_or qs w 0 ≡ get_or ps w 0) → ((w : ℕ) → w ≢ v → get_or vs w 0 ≡ get_or us w 0) →
+    IsNumbered qs vs (set ns p v)
 IsNumbered-give ps us qs vs ns p v numbered within away here others uses w some = ⊎_elim
     (λ (e : w ≡ v).
     let point : get_or qs w 0 ≡ p = ap (λ k. get_or qs k 0) e ∙ here in
@@ -230,6 +246,7 @@ IsNumbered-give ps us qs vs ns p v numbered within away here others uses w some 
     let point : get_or qs w 0 ≡ get_or ps w 0 = others w u in
     let old = numbered w used in (
       omega (arith, length-set ns p v, old.0),
-      get_or-set_other ns p (get_or qs w 0) v 0 (λ e. away w used (sym point ∙ e)) ∙ ap (λ k. get_or ns k 0) point ∙ old.1,
+      get_or-set_other ns p (get_or qs w 0) v 0 (λ e. away w used (sym point ∙ e))
+          ∙ ap (λ k. get_or ns k 0) point ∙ old.1,
     ))
     (cases_eq w v)

@@ -4,9 +4,9 @@ use Rattle.draw_buffer.specs.declared.indices.Indices.{Indices}
 use Rattle.draw_buffer.specs.Exchange.{ExchangeState}
 use Rattle.draw_buffer.specs.Times.{times}
 
--- What a contract sees of a drawing buffer: the grid, the greatest number of triangles, the triangle at each place and the vertex numbers
--- of its corners, the places that the last patch wrote, the grid point of each vertex number, as its place in the list of heights, and
--- the numbers that the last patch gave out.
+-- What a contract sees of a drawing buffer: the grid, the greatest number of triangles, the triangle at each place and
+-- the vertex numbers of its corners, the places that the last patch wrote, the grid point of each vertex number, as its
+-- place in the list of heights, and the numbers that the last patch gave out.
 pub record BufferState : Type 0 where
   pub n : ℕ
   pub most : ℕ
@@ -29,7 +29,8 @@ buffer_of e = record {
   given = e.given;
 }
 
--- a place that was not written has the triangle and the corners that it had, and a number that was not given out its grid point
+-- a place that was not written has the triangle and the corners that it had, and a number that was not given out its
+-- grid point
 pub record IsKept (before after : BufferState) : Type 0 where
   pub within : (k : ℕ) → k < length after.triangles → times after.written k ≡ 0 → k < length before.triangles
   pub triangle : (k : ℕ) → k < length after.triangles → times after.written k ≡ 0

@@ -1,5 +1,6 @@
 -- A buffer in the middle of a patch.
-use Rattle.std.specs.Prelude.{◌≡◌, ℕ, ◌+◌, ◌*◌, ◌^◌, ◌<◌, ◌≤◌, List, length, map, slice_index, slice_index_or, sum, sum_by}
+use Rattle.std.specs.Prelude.{◌≡◌, ℕ, ◌+◌, ◌*◌, ◌^◌, ◌<◌, ◌≤◌, List, length, map, slice_index, slice_index_or, sum}
+use Rattle.std.specs.Prelude.{sum_by}
 use Rattle.mesh_defs.specs.HeightField.{side_of}
 use Rattle.mesh_defs.specs.declared.level.TheConstants.{GREATEST_LEVEL}
 use Rattle.draw_buffer.specs.declared.indices.Indices.{Indices}
@@ -9,9 +10,9 @@ use Rattle.draw_buffer.specs.Places.{PlaceState}
 use Rattle.draw_buffer.specs.Vertices.{VertexState}
 use Rattle.draw_buffer.specs.Corners.{grid_indices, shown, corner_uses, uses_in}
 
--- What a contract sees of a buffer in the middle of a patch: the grid, the greatest number of triangles, the triangle at each place
--- and its corners, the triangles that wait for a place, the places that were written, the grid point of each vertex number, how often
--- each is in use, and the numbers that were given out.
+-- What a contract sees of a buffer in the middle of a patch: the grid, the greatest number of triangles, the triangle
+-- at each place and its corners, the triangles that wait for a place, the places that were written, the grid point of
+-- each vertex number, how often each is in use, and the numbers that were given out.
 pub record ExchangeState : Type 0 where
   pub n : ℕ
   pub most : ℕ
@@ -45,7 +46,8 @@ pub record IsWholeBuffer (n : ℕ) (places : PlaceState) (vertices : VertexState
   pub point_end : vertices.end ≡ side_of n * side_of n
   pub point_most : vertices.most ≡ 6 * places.most
   pub drawn : map (shown vertices.points) corners ≡ map (grid_indices n) places.triangles
-  pub ready : (k : ℕ) (d : Waiting) → k < length waiting → IsReadyToWrite n places.end vertices.points (slice_index_or waiting k d)
+  pub ready : (k : ℕ) (d : Waiting) → k < length waiting →
+      IsReadyToWrite n places.end vertices.points (slice_index_or waiting k d)
   pub used : (v : ℕ) → slice_index vertices.uses v ≡ uses_in corners v + waiting_uses waiting v
   pub total : sum vertices.uses ≡ 3 * (length corners + length waiting)
   pub once : (a : ℕ) → times places.triangles a + times (addresses_of waiting) a ≤ 1

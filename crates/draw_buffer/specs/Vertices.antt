@@ -4,8 +4,9 @@ use Rattle.draw_buffer.specs.Times.{times, same}
 use Rattle.draw_buffer.specs.Corners.{shown, corner_uses}
 use Rattle.draw_buffer.specs.declared.indices.Indices.{Indices}
 
--- What a contract sees of a table of vertices: the grid point of each number, how often each number is in use, the numbers that were
--- given out since the patch began, the first grid point that is past the table, and how many uses there may be.
+-- What a contract sees of a table of vertices: the grid point of each number, how often each number is in use, the
+-- numbers that were given out since the patch began, the first grid point that is past the table, and how many uses
+-- there may be.
 pub record VertexState : Type 0 where
   pub points : List ℕ
   pub uses : List ℕ
@@ -20,7 +21,8 @@ busy uses = count_by (λ u. nat_lt 0 u) uses
 -- the number that is noted for the point of each number in use is that number
 abbrev pub IsNumbered : List ℕ → List ℕ → List ℕ → Type 0
 IsNumbered points uses numbers =
-    (v : ℕ) → 0 < slice_index uses v → (slice_index points v < length numbers) × (slice_index numbers (slice_index points v) ≡ v)
+    (v : ℕ) → 0 < slice_index uses v →
+    (slice_index points v < length numbers) × (slice_index numbers (slice_index points v) ≡ v)
 
 -- the free numbers are those of no use, each once
 pub record AreFree (uses free : List ℕ) : Type 0 where
@@ -30,7 +32,8 @@ pub record AreFree (uses free : List ℕ) : Type 0 where
   pub count : busy uses + length free ≡ length uses
 
 -- points, uses and numbers agree, and there is room for as many uses as there may be
-pub record AreSound (points uses numbers free : List ℕ) (most point_room use_room free_room given_room : ℕ) : Type 0 where
+pub record AreSound (points uses numbers free : List ℕ)
+    (most point_room use_room free_room given_room : ℕ) : Type 0 where
   pub numbered : IsNumbered points uses numbers
   pub vacant : AreFree uses free
   pub long : length points ≡ length uses
@@ -41,7 +44,8 @@ pub record AreSound (points uses numbers free : List ℕ) (most point_room use_r
   pub free_space : most ≤ free_room
   pub given_space : most ≤ given_room
 
--- v has the point, and a use more; what is in use keeps its point, and so does each number that is not told to be given out
+-- v has the point, and a use more; what is in use keeps its point, and so does each number that is not told to be given
+-- out
 pub record IsTaken (before after : VertexState) (point v : ℕ) : Type 0 where
   pub here : slice_index after.points v ≡ point
   pub uses : (w : ℕ) → slice_index after.uses w ≡ slice_index before.uses w + same v w

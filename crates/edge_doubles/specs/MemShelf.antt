@@ -1,6 +1,7 @@
 -- A shelf in memory: what contracts see of it, and where a call of it fails.
 -- This project's own words.
-use Rattle.std.specs.Prelude.{ℕ, Bool, true, false, List, [], ◌∷◌, length, drop, not, ◌==◌, ◌||◌, if◌then◌else◌, bytes_eq}
+use Rattle.std.specs.Prelude.{ℕ, Bool, true, false, List, [], ◌∷◌, length, drop, not, ◌==◌, ◌||◌, if◌then◌else◌}
+use Rattle.std.specs.Prelude.{bytes_eq}
 use Rattle.std.specs.List.{list_any}
 use Rattle.roam_edge.specs.Fault.{next_count, late_after}
 use Rattle.roam_edge.specs.Shelf.{NamedFile, bytes_of}
@@ -42,8 +43,19 @@ open_fails kept name = names_call kept.fails (Open (next_count kept.opens)) || n
 abbrev pub after_open : KeptFiles → List ℕ → KeptFiles
 after_open kept name =
     if open_fails kept name
-    then record kept { opens = next_count kept.opens; unread = []; ended = true; faults = next_count kept.faults; late = late_after kept.late kept.faults }
-    else record kept { opens = next_count kept.opens; unread = bytes_of kept.files name; ended = false; late = late_after kept.late kept.faults }
+    then record kept {
+      opens = next_count kept.opens;
+      unread = [];
+      ended = true;
+      faults = next_count kept.faults;
+      late = late_after kept.late kept.faults;
+    }
+    else record kept {
+      opens = next_count kept.opens;
+      unread = bytes_of kept.files name;
+      ended = false;
+      late = late_after kept.late kept.faults;
+    }
 
 -- the next read fails: it is named
 abbrev pub read_fails : KeptFiles → Bool
@@ -53,5 +65,14 @@ read_fails kept = names_call kept.fails (Read (next_count kept.reads))
 abbrev pub after_read : KeptFiles → ℕ → KeptFiles
 after_read kept size =
     if read_fails kept
-    then record kept { reads = next_count kept.reads; faults = next_count kept.faults; late = late_after kept.late kept.faults }
-    else record kept { reads = next_count kept.reads; unread = drop size kept.unread; ended = length kept.unread == 0; late = late_after kept.late kept.faults }
+    then record kept {
+      reads = next_count kept.reads;
+      faults = next_count kept.faults;
+      late = late_after kept.late kept.faults;
+    }
+    else record kept {
+      reads = next_count kept.reads;
+      unread = drop size kept.unread;
+      ended = length kept.unread == 0;
+      late = late_after kept.late kept.faults;
+    }

@@ -1,5 +1,6 @@
 -- `mate_of` is the mate.
-use Rattle.std.proofs.Common.{◌≡◌, ◌-◌, sym, ◌⊎◌, ℕ, zero, suc, ◌+◌, ◌*◌, ◌/◌, ◌%◌, ◌^◌, ◌<◌, ◌≤◌, refl, arith, inl, inr, ⊎_elim, subst}
+use Rattle.std.proofs.Common.{◌≡◌, ◌-◌, sym, ◌⊎◌, ℕ, zero, suc, ◌+◌, ◌*◌, ◌/◌, ◌%◌, ◌^◌, ◌<◌, ◌≤◌, refl, arith, inl}
+use Rattle.std.proofs.Common.{inr, ⊎_elim, subst}
 use Rattle.std.proofs.lemmas.Bool.{cases_lt}
 use Rattle.std.proofs.Math.Pow.{pow_mono}
 use Rattle.mesh_defs.specs.Triangle.{level_of, IsMate}
@@ -51,7 +52,8 @@ pair-mate_at (suc (suc level)) e f at pair =
     let below : IsAtLevel level (f / 4) = IsAtLevel-pair level (e / 4) (f / 4) above outer.1 in
     let low = below.low in
     let ih : mate_at level (e / 4) ≡ f / 4 = pair-mate_at level (e / 4) (f / 4) above outer.1 in
-    let some : 1 ≤ f / 4 = ⊎_elim (λ z. absurd (let deeper : 1 ≤ level + 1 = omega arith in let y : 2 ^ 1 ≤ 2 ^ (level + 1) = pow_mono deeper in omega arith)) (λ z. z) (cases_lt (f / 4) 1) in
+    let some : 1 ≤ f / 4 = ⊎_elim (λ z. absurd (let deeper : 1 ≤ level + 1 = omega arith in
+    let y : 2 ^ 1 ≤ 2 ^ (level + 1) = pow_mono deeper in omega arith)) (λ z. z) (cases_lt (f / 4) 1) in
     ⊎_elim
     (λ h. let g = step.second h (omega arith) in omega arith)
     (λ h. let g = step.third h (omega arith) in omega arith)
@@ -65,21 +67,30 @@ mate_at-pair (suc (suc level)) e at some =
     let step : IsStep e (grandchild_mate (e % 4) e (mate_at level (e / 4))) (mate_at level (e / 4)) =
     IsStep-grandchild (e % 4) e (mate_at level (e / 4)) refl in
     let above : IsAtLevel level (e / 4) = IsAtLevel-quarter level e at in
-    let outer : 1 ≤ mate_at level (e / 4) → mate_at (suc (suc level)) e / 4 ≡ mate_at level (e / 4) → IsPair level (e / 4) (mate_at (suc (suc level)) e / 4) =
+    let outer : 1 ≤ mate_at level (e / 4) → mate_at (suc (suc level)) e / 4 ≡ mate_at level (e / 4) →
+    IsPair level (e / 4) (mate_at (suc (suc level)) e / 4) =
     λ more same. subst (λ t. IsPair level (e / 4) t) (sym same) (mate_at-pair level (e / 4) above more) in
     elim (four_cases e) [
-      | inl h ↦ let g = step.first h in ((let z : e % 4 + mate_at (suc (suc level)) e % 4 ≡ 3 = omega arith in z), inl (inner_0 (e % 4) h, omega arith))
+      | inl h ↦
+          let g = step.first h in (
+            (let z : e % 4 + mate_at (suc (suc level)) e % 4 ≡ 3 = omega arith in z),
+            inl (inner_0 (e % 4) h, omega arith),
+          )
       | inr (inl h) ↦ ⊎_elim (λ none. absurd (let g = step.second_none h (omega arith) in omega arith))
-          (λ more. let g = step.second h more in (omega arith, inr (outer_1 (e % 4) h, outer more (omega arith)))) (cases_lt (mate_at level (e / 4)) 1)
+          (λ more. let g = step.second h more in (omega arith, inr (outer_1 (e % 4) h, outer more (omega arith))))
+          (cases_lt (mate_at level (e / 4)) 1)
       | inr (inr (inl h)) ↦ ⊎_elim (λ none. absurd (let g = step.third_none h (omega arith) in omega arith))
-          (λ more. let g = step.third h more in (omega arith, inr (outer_2 (e % 4) h, outer more (omega arith)))) (cases_lt (mate_at level (e / 4)) 1)
+          (λ more. let g = step.third h more in (omega arith, inr (outer_2 (e % 4) h, outer more (omega arith))))
+          (cases_lt (mate_at level (e / 4)) 1)
       | inr (inr (inr h)) ↦ let g = step.last h in (omega arith, inl (inner_3 (e % 4) h, omega arith))
     ]
 
 pub IsMate-mate_of : (n e : ℕ) → 2 ≤ e → level_of e ≤ 2 * n → 1 ≤ mate_of e → IsMate n e (mate_of e)
 unfolding mate_of
-IsMate-mate_of n e low fits some = IsMate-pair n e (mate_of e) low fits (mate_at-pair (level_of e) e (IsAtLevel-level_of e low) some)
+IsMate-mate_of n e low fits some =
+    IsMate-pair n e (mate_of e) low fits (mate_at-pair (level_of e) e (IsAtLevel-level_of e low) some)
 
 pub mate_of-IsMate : (n e f : ℕ) → 2 ≤ e → level_of e ≤ 2 * n → IsMate n e f → mate_of e ≡ f
 unfolding mate_of
-mate_of-IsMate n e f low fits mate = pair-mate_at (level_of e) e f (IsAtLevel-level_of e low) (pair-IsMate n e f low fits mate)
+mate_of-IsMate n e f low fits mate =
+    pair-mate_at (level_of e) e f (IsAtLevel-level_of e low) (pair-IsMate n e f low fits mate)

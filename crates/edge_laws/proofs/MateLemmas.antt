@@ -1,4 +1,5 @@
-use Rattle.std.proofs.Common.{◌≡◌, ◌≢◌, ◌-◌, ap, sym, ◌∙◌, ◌⊎◌, ℕ, zero, suc, ◌+◌, ◌*◌, ◌/◌, ◌%◌, ◌<◌, ◌≤◌, refl, arith, inl, inr, ⊎_elim}
+use Rattle.std.proofs.Common.{◌≡◌, ◌≢◌, ◌-◌, ap, sym, ◌∙◌, ◌⊎◌, ℕ, zero, suc, ◌+◌, ◌*◌, ◌/◌, ◌%◌, ◌<◌, ◌≤◌, refl, arith}
+use Rattle.std.proofs.Common.{inl, inr, ⊎_elim}
 use Rattle.std.proofs.lemmas.Bool.{cases_eq, cases_lt}
 use Rattle.mesh_defs.specs.Triangle.{level_of}
 use Rattle.bintree_laws.proofs.LevelLemmas.{level_of-root, level_of-first, level_of-deep, level_of-left, level_of-right}
@@ -181,8 +182,10 @@ no_sibling e low some = ⊎_elim (λ first. let none = mate_of-first e low first
     (λ deep. let s = IsStep-mate_of e deep in
     elim (four_cases e) [
       | inl h ↦ let f = s.first h in λ same. omega arith
-      | inr (inl h) ↦ ⊎_elim (λ none. absurd (let f = s.second_none h (omega arith) in omega arith)) (λ g. let f = s.second h g in λ same. omega arith) (cases_lt (mate_of (e / 4)) 1)
-      | inr (inr (inl h)) ↦ ⊎_elim (λ none. absurd (let f = s.third_none h (omega arith) in omega arith)) (λ g. let f = s.third h g in λ same. omega arith) (cases_lt (mate_of (e / 4)) 1)
+      | inr (inl h) ↦ ⊎_elim (λ none. absurd (let f = s.second_none h (omega arith) in omega arith))
+          (λ g. let f = s.second h g in λ same. omega arith) (cases_lt (mate_of (e / 4)) 1)
+      | inr (inr (inl h)) ↦ ⊎_elim (λ none. absurd (let f = s.third_none h (omega arith) in omega arith))
+          (λ g. let f = s.third h g in λ same. omega arith) (cases_lt (mate_of (e / 4)) 1)
       | inr (inr (inr h)) ↦ let f = s.last h in λ same. omega arith
     ]) (cases_lt e 8)
 
@@ -193,8 +196,10 @@ mate_of-parity e low some = ⊎_elim (λ root. let f = mate_of-root e low root i
     (λ deep. let s = IsStep-mate_of e deep in
     elim (four_cases e) [
       | inl h ↦ let f = s.first h in omega arith
-      | inr (inl h) ↦ ⊎_elim (λ none. absurd (let f = s.second_none h (omega arith) in omega arith)) (λ g. let f = s.second h g in omega arith) (cases_lt (mate_of (e / 4)) 1)
-      | inr (inr (inl h)) ↦ ⊎_elim (λ none. absurd (let f = s.third_none h (omega arith) in omega arith)) (λ g. let f = s.third h g in omega arith) (cases_lt (mate_of (e / 4)) 1)
+      | inr (inl h) ↦ ⊎_elim (λ none. absurd (let f = s.second_none h (omega arith) in omega arith))
+          (λ g. let f = s.second h g in omega arith) (cases_lt (mate_of (e / 4)) 1)
+      | inr (inr (inl h)) ↦ ⊎_elim (λ none. absurd (let f = s.third_none h (omega arith) in omega arith))
+          (λ g. let f = s.third h g in omega arith) (cases_lt (mate_of (e / 4)) 1)
       | inr (inr (inr h)) ↦ let f = s.last h in omega arith
     ]) (cases_lt e 8)) (cases_lt e 4)
 
@@ -206,13 +211,15 @@ pub mate_of-3 : (a : ℕ) → 2 ≤ a → mate_of (4 * a + 3) ≡ 4 * a
 mate_of-3 a low = let s = IsStep-mate_of (4 * a + 3) (omega arith) in
     let l = s.last (omega arith) in omega arith
 
-pub mate_of-1 : (a : ℕ) → 2 ≤ a → (mate_of a ≡ 0 → mate_of (4 * a + 1) ≡ 0) × (1 ≤ mate_of a → mate_of (4 * a + 1) ≡ 4 * mate_of a + 2)
+pub mate_of-1 : (a : ℕ) → 2 ≤ a →
+    (mate_of a ≡ 0 → mate_of (4 * a + 1) ≡ 0) × (1 ≤ mate_of a → mate_of (4 * a + 1) ≡ 4 * mate_of a + 2)
 mate_of-1 a low =
     let q : (4 * a + 1) / 4 ≡ a = omega arith in
     let s : IsStep (4 * a + 1) (mate_of (4 * a + 1)) (mate_of a) = rw q at (IsStep-mate_of (4 * a + 1) (omega arith)) in
     (s.second_none (omega arith), s.second (omega arith))
 
-pub mate_of-2 : (a : ℕ) → 2 ≤ a → (mate_of a ≡ 0 → mate_of (4 * a + 2) ≡ 0) × (1 ≤ mate_of a → mate_of (4 * a + 2) ≡ 4 * mate_of a + 1)
+pub mate_of-2 : (a : ℕ) → 2 ≤ a →
+    (mate_of a ≡ 0 → mate_of (4 * a + 2) ≡ 0) × (1 ≤ mate_of a → mate_of (4 * a + 2) ≡ 4 * mate_of a + 1)
 mate_of-2 a low =
     let q : (4 * a + 2) / 4 ≡ a = omega arith in
     let s : IsStep (4 * a + 2) (mate_of (4 * a + 2)) (mate_of a) = rw q at (IsStep-mate_of (4 * a + 2) (omega arith)) in

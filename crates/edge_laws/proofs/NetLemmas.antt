@@ -1,12 +1,15 @@
 -- Links stay right when a triangle is halved, and when two children are joined; what a right link names.
-use Rattle.std.proofs.Common.{◌≡◌, ◌≢◌, ◌-◌, ap, sym, ◌∙◌, ◌⊎◌, true, false, ℕ, ◌+◌, ◌*◌, ◌/◌, ◌%◌, ◌<◌, ◌≤◌, arith, inl, inr, ⊎_elim}
+use Rattle.std.proofs.Common.{◌≡◌, ◌≢◌, ◌-◌, ap, sym, ◌∙◌, ◌⊎◌, true, false, ℕ, ◌+◌, ◌*◌, ◌/◌, ◌%◌, ◌<◌, ◌≤◌, arith}
+use Rattle.std.proofs.Common.{inl, inr, ⊎_elim}
 use Rattle.std.proofs.lemmas.Bool.{cases_eq, cases_lt, cases_Bool}
 use Rattle.mesh_defs.specs.Triangle.{level_of}
 use Rattle.bintree_laws.proofs.LevelLemmas.{level_of-parent}
 use Rattle.edge_laws.specs.Edge.{mate_of, owner}
 use Rattle.edge_laws.specs.Net.{nowhere, Net, IsJoined, IsLinked, IsTree, IsHalving, IsJoining}
-use Rattle.edge_laws.proofs.OwnerLemmas.{owner-split, owner-whole, owner_cases, owner-same, owner-low, never, owner-live}
-use Rattle.edge_laws.proofs.MateLemmas.{mate_of-back, mate_of-low, mate_of-level, no_sibling, mate_of-0, mate_of-1, mate_of-2, mate_of-3, mate_of-other, mate_of-no_child}
+use Rattle.edge_laws.proofs.OwnerLemmas.{owner-split, owner-whole, owner_cases, owner-same, owner-low, never}
+use Rattle.edge_laws.proofs.OwnerLemmas.{owner-live}
+use Rattle.edge_laws.proofs.MateLemmas.{mate_of-back, mate_of-low, mate_of-level, no_sibling, mate_of-0, mate_of-1}
+use Rattle.edge_laws.proofs.MateLemmas.{mate_of-2, mate_of-3, mate_of-other, mate_of-no_child}
 
 -- a live triangle's parent is split, so nothing below a leaf is live
 not_live_below : (m : Net) (r a : ℕ) → IsTree m → 2 ≤ m.at r → m.split a ≡ false → m.at r / 2 ≡ a → ⊥
@@ -67,8 +70,10 @@ joined_leg m w s k a e l tree h leg is j =
                         | inl u ↦ let f = u.1 in omega arith
                         | inr u ↦ let f = u.1 in omega arith
                       ] in
-                      let deep : level_of (mate_of e) ≡ level_of (mate_of e / 2) + 1 = level_of-parent (mate_of e) (omega arith) in
-                      let deeper : level_of (mate_of e / 2) ≡ level_of (mate_of e / 2 / 2) + 1 = level_of-parent (mate_of e / 2) (omega arith) in
+                      let deep : level_of (mate_of e) ≡ level_of (mate_of e / 2) + 1 =
+                      level_of-parent (mate_of e) (omega arith) in
+                      let deeper : level_of (mate_of e / 2) ≡ level_of (mate_of e / 2 / 2) + 1 =
+                      level_of-parent (mate_of e / 2) (omega arith) in
                       let there : level_of (mate_of e / 2 / 2) ≡ level_of (e / 2) = ap level_of (child ∙ sym leg) in
                       omega arith
                 ])
@@ -91,11 +96,14 @@ mate_childless m w s k a p h some child =
     let none = h.mate_childless some in
     ⊎_elim
     (λ even. let e : p ≡ 2 * mate_of a = omega arith in h.kept p (λ same. no.0 (sym e ∙ same)) ∙ ap m.split e ∙ none.0)
-    (λ odd. let e : p ≡ 2 * mate_of a + 1 = omega arith in h.kept p (λ same. no.1 (sym e ∙ same)) ∙ ap m.split e ∙ none.1)
+    (λ odd.
+    let e : p ≡ 2 * mate_of a + 1 = omega arith in
+    h.kept p (λ same. no.1 (sym e ∙ same)) ∙ ap m.split e ∙ none.1)
     (cases_lt (p % 2) 1)
 
 -- an edge inside a's half of the diamond, seen from the new slots
-joined_inner : (m w : Net) (s k a r e t : ℕ) → IsTree m → IsHalving m w s k a → mate_of e / 4 ≡ a → w.split (mate_of e / 2) ≡ false →
+joined_inner : (m w : Net) (s k a r e t : ℕ) → IsTree m → IsHalving m w s k a → mate_of e / 4 ≡ a →
+    w.split (mate_of e / 2) ≡ false →
     (mate_of e / 2) % 2 ≡ t → w.link r e ≡ 2 * k + t → IsJoined w (w.link r e) (mate_of e)
 joined_inner m w s k a r e t tree h inner whole side is =
     let low = h.low in record {
@@ -106,11 +114,13 @@ joined_inner m w s k a r e t tree h inner whole side is =
           omega arith;
     }
 
-joined_old : (m w : Net) (s k a r e : ℕ) → IsTree m → IsHalving m w s k a → 2 ≤ m.at r → owner m.split e ≡ m.at r → e / 2 ≢ a →
+joined_old : (m w : Net) (s k a r e : ℕ) → IsTree m → IsHalving m w s k a → 2 ≤ m.at r →
+    owner m.split e ≡ m.at r → e / 2 ≢ a →
     IsJoined m (m.link r e) (mate_of e) → IsJoined w (w.link r e) (mate_of e)
 joined_old m w s k a r e tree h live own apart j =
     let low = h.low in
-    let two : 2 ≤ e = ⊎_elim (λ v. let o = v.1 in omega arith) (λ v. let o = v.1 in omega arith) (owner_cases m.split e) in
+    let two : 2 ≤ e =
+    ⊎_elim (λ v. let o = v.1 in omega arith) (λ v. let o = v.1 in omega arith) (owner_cases m.split e) in
     elim (cases_lt (mate_of e) 1) [
       | inl none ↦ let is : w.link r e ≡ m.link r e = h.same r e live own apart (omega arith) (omega arith) in
           record { border = λ z. is ∙ j.border z; slot = λ q some there. absurd (omega arith) }
@@ -128,7 +138,10 @@ joined_old m w s k a r e tree h live own apart j =
           | inl inner ↦
               let back : mate_of (mate_of e) ≡ e = mate_of-back e two some in
               let whole : w.split (mate_of e / 2) ≡ false = childless m w s k a (mate_of e / 2) tree h (omega arith) in
-              let of_0 = mate_of-0 a low in let of_1 = mate_of-1 a low in let of_2 = mate_of-2 a low in let of_3 = mate_of-3 a low in
+              let of_0 = mate_of-0 a low in
+              let of_1 = mate_of-1 a low in
+              let of_2 = mate_of-2 a low in
+              let of_3 = mate_of-3 a low in
               let dead : (e / 4 ≡ a) → ⊥ = λ below. elim (owner_cases m.split e) [
                 | inl v ↦ let o = v.1 in not_live_below_2 m r a tree live low h.leaf (omega arith)
                 | inr v ↦ let o = v.1 in not_live_below m r a tree live h.leaf (omega arith)
@@ -139,17 +152,23 @@ joined_old m w s k a r e tree h live own apart j =
               let g : mate_of (mate_of e) ≡ mate_of (4 * a + 1) = ap mate_of f in
               ⊎_elim (λ lone. absurd (let z = of_1.0 (omega arith) in omega arith))
               (λ mate. let z : e ≡ 4 * mate_of a + 2 = let y = of_1.1 mate in omega arith in
-              let none : m.split (e / 2) ≡ false = ap m.split (let x : e / 2 ≡ 2 * mate_of a + 1 = omega arith in x) ∙ (h.mate_childless mate).1 in
-              let at : m.at r ≡ 2 * mate_of a + 1 = sym own ∙ owner-whole m.split e none ∙ (let x : e / 2 ≡ 2 * mate_of a + 1 = omega arith in x) in
-              joined_inner m w s k a r e 0 tree h inner whole (omega arith) (ap (w.link r) z ∙ (h.left_mate r mate at).1 ∙ (let x : 2 * k ≡ 2 * k + 0 = omega arith in x)))
+              let none : m.split (e / 2) ≡ false =
+              ap m.split (let x : e / 2 ≡ 2 * mate_of a + 1 = omega arith in x) ∙ (h.mate_childless mate).1 in
+              let at : m.at r ≡ 2 * mate_of a + 1 =
+              sym own ∙ owner-whole m.split e none ∙ (let x : e / 2 ≡ 2 * mate_of a + 1 = omega arith in x) in
+              joined_inner m w s k a r e 0 tree h inner whole (omega arith)
+              (ap (w.link r) z ∙ (h.left_mate r mate at).1 ∙ (let x : 2 * k ≡ 2 * k + 0 = omega arith in x)))
               (cases_lt (mate_of a) 1))
               (λ not_second. ⊎_elim (λ third. let f : mate_of e ≡ 4 * a + 2 = omega arith in
               let g : mate_of (mate_of e) ≡ mate_of (4 * a + 2) = ap mate_of f in
               ⊎_elim (λ lone. absurd (let z = of_2.0 (omega arith) in omega arith))
               (λ mate. let z : e ≡ 4 * mate_of a + 1 = let y = of_2.1 mate in omega arith in
-              let none : m.split (e / 2) ≡ false = ap m.split (let x : e / 2 ≡ 2 * mate_of a = omega arith in x) ∙ (h.mate_childless mate).0 in
-              let at : m.at r ≡ 2 * mate_of a = sym own ∙ owner-whole m.split e none ∙ (let x : e / 2 ≡ 2 * mate_of a = omega arith in x) in
-              joined_inner m w s k a r e 1 tree h inner whole (omega arith) (ap (w.link r) z ∙ (h.right_mate r mate at).1))
+              let none : m.split (e / 2) ≡ false =
+              ap m.split (let x : e / 2 ≡ 2 * mate_of a = omega arith in x) ∙ (h.mate_childless mate).0 in
+              let at : m.at r ≡ 2 * mate_of a =
+              sym own ∙ owner-whole m.split e none ∙ (let x : e / 2 ≡ 2 * mate_of a = omega arith in x) in
+              joined_inner m w s k a r e 1 tree h inner whole (omega arith)
+              (ap (w.link r) z ∙ (h.right_mate r mate at).1))
               (cases_lt (mate_of a) 1))
               (λ not_third. let f : mate_of e ≡ 4 * a + 3 = omega arith in
               let g : mate_of (mate_of e) ≡ 4 * a = ap mate_of f ∙ of_3 in absurd (dead (omega arith)))
@@ -179,7 +198,8 @@ joined_old m w s k a r e tree h live own apart j =
     ]
 
 -- the edge between the two halves of the diamond, at a's side
-joined_mate : (m w : Net) (s k a r e c : ℕ) → IsTree m → IsHalving m w s k a → 1 ≤ mate_of a → mate_of e ≡ 4 * mate_of a + c → c < 4 →
+joined_mate : (m w : Net) (s k a r e c : ℕ) → IsTree m → IsHalving m w s k a → 1 ≤ mate_of a →
+    mate_of e ≡ 4 * mate_of a + c → c < 4 →
     2 ≤ c / 2 + 2 → ((q : ℕ) → m.at q ≡ 2 * mate_of a + c / 2 → w.link r e ≡ q) → IsJoined w (w.link r e) (mate_of e)
 joined_mate m w s k a r e c tree h mate is small _ right =
     let low = h.low in
@@ -187,7 +207,8 @@ joined_mate m w s k a r e c tree h mate is small _ right =
     let other = mate_of-other a low mate in record {
       border = λ none. absurd (omega arith);
       slot = λ q some there.
-          let o : w.at q ≡ mate_of e / 2 = there ∙ owner-whole w.split (mate_of e) (mate_childless m w s k a (mate_of e / 2) h mate (omega arith)) in
+          let o : w.at q ≡ mate_of e / 2 =
+          there ∙ owner-whole w.split (mate_of e) (mate_childless m w s k a (mate_of e / 2) h mate (omega arith)) in
           elim (cases_eq (q / 2) k) [
             | inl new ↦ absurd (elim (halved_slot m w s k a q h new) [
               | inl u ↦ let f = u.1 in other (omega arith)
@@ -197,7 +218,8 @@ joined_mate m w s k a r e c tree h mate is small _ right =
           ];
     }
 
-joined_new : (m w : Net) (s k a r e : ℕ) → IsTree m → IsHalving m w s k a → r / 2 ≡ k → owner w.split e ≡ w.at r → e / 2 ≢ a →
+joined_new : (m w : Net) (s k a r e : ℕ) → IsTree m → IsHalving m w s k a → r / 2 ≡ k →
+    owner w.split e ≡ w.at r → e / 2 ≢ a →
     IsJoined w (w.link r e) (mate_of e)
 joined_new m w s k a r e tree h here own apart =
     let low = h.low in
@@ -208,31 +230,45 @@ joined_new m w s k a r e tree h here own apart =
       ])
       | inr v ↦ let o = v.1 in omega arith
     ] in
-    let of_0 = mate_of-0 a low in let of_1 = mate_of-1 a low in let of_2 = mate_of-2 a low in let of_3 = mate_of-3 a low in
+    let of_0 = mate_of-0 a low in
+    let of_1 = mate_of-1 a low in
+    let of_2 = mate_of-2 a low in
+    let of_3 = mate_of-3 a low in
     elim (halved_slot m w s k a r h here) [
       | inl u ↦ let is = u.0 in let f = u.1 in
           ⊎_elim (λ even. let z : e ≡ 4 * a = omega arith in let g : mate_of e ≡ 4 * a + 3 = ap mate_of z ∙ of_0 in
-          joined_inner m w s k a r e 1 tree h (omega arith) (childless m w s k a (mate_of e / 2) tree h (omega arith)) (omega arith)
+          joined_inner m w s k a r e 1 tree h (omega arith)
+          (childless m w s k a (mate_of e / 2) tree h (omega arith)) (omega arith)
           (ap (λ t. w.link t e) is ∙ ap (w.link (2 * k)) z ∙ h.left_inner))
           (λ odd. let z : e ≡ 4 * a + 1 = omega arith in let g : mate_of e ≡ mate_of (4 * a + 1) = ap mate_of z in
           ⊎_elim (λ lone. let y = of_1.0 (omega arith) in
-          record { border = λ _. ap (λ t. w.link t e) is ∙ ap (w.link (2 * k)) z ∙ (h.border (omega arith)).0; slot = λ q some there. absurd (omega arith) })
+          record {
+            border = λ _. ap (λ t. w.link t e) is ∙ ap (w.link (2 * k)) z ∙ (h.border (omega arith)).0;
+            slot = λ q some there. absurd (omega arith);
+          })
           (λ mate. let y = of_1.1 mate in
           joined_mate m w s k a r e 2 tree h mate (omega arith) (omega arith) (omega arith)
           (λ q at. ap (λ t. w.link t e) is ∙ ap (w.link (2 * k)) z ∙ (h.left_mate q mate at).0))
           (cases_lt (mate_of a) 1))
           (cases_lt (e % 2) 1)
       | inr u ↦ let is = u.0 in let f = u.1 in
-          ⊎_elim (λ even. let z : e ≡ 4 * a + 2 = omega arith in let g : mate_of e ≡ mate_of (4 * a + 2) = ap mate_of z in
+          ⊎_elim (λ even. let z : e ≡ 4 * a + 2 = omega arith in
+          let g : mate_of e ≡ mate_of (4 * a + 2) = ap mate_of z in
           ⊎_elim (λ lone. let y = of_2.0 (omega arith) in
-          record { border = λ _. ap (λ t. w.link t e) is ∙ ap (w.link (2 * k + 1)) z ∙ (h.border (omega arith)).1; slot = λ q some there. absurd (omega arith) })
+          record {
+            border = λ _. ap (λ t. w.link t e) is ∙ ap (w.link (2 * k + 1)) z ∙ (h.border (omega arith)).1;
+            slot = λ q some there. absurd (omega arith);
+          })
           (λ mate. let y = of_2.1 mate in
           joined_mate m w s k a r e 1 tree h mate (omega arith) (omega arith) (omega arith)
-          (λ q at. ap (λ t. w.link t e) is ∙ ap (w.link (2 * k + 1)) z ∙ (h.right_mate q mate (let x : m.at q ≡ 2 * mate_of a = at ∙ (let x : 2 * mate_of a + 1 / 2 ≡ 2 * mate_of a = omega arith in x) in x)).0))
+          (λ q at. ap (λ t. w.link t e) is ∙ ap (w.link (2 * k + 1)) z ∙ (h.right_mate q mate (let x : m.at q
+          ≡ 2 * mate_of a = at ∙ (let x : 2 * mate_of a + 1 / 2 ≡ 2 * mate_of a = omega arith in x) in x)).0))
           (cases_lt (mate_of a) 1))
           (λ odd. let z : e ≡ 4 * a + 3 = omega arith in let g : mate_of e ≡ 4 * a = ap mate_of z ∙ of_3 in
-          joined_inner m w s k a r e 0 tree h (omega arith) (childless m w s k a (mate_of e / 2) tree h (omega arith)) (omega arith)
-          (ap (λ t. w.link t e) is ∙ ap (w.link (2 * k + 1)) z ∙ h.right_inner ∙ (let x : 2 * k ≡ 2 * k + 0 = omega arith in x)))
+          joined_inner m w s k a r e 0 tree h (omega arith)
+          (childless m w s k a (mate_of e / 2) tree h (omega arith)) (omega arith)
+          (ap (λ t. w.link t e) is ∙ ap (w.link (2 * k + 1)) z ∙ h.right_inner
+          ∙ (let x : 2 * k ≡ 2 * k + 0 = omega arith in x)))
           (cases_lt (e % 2) 1)
     ]
 
@@ -243,7 +279,8 @@ IsLinked-halving m w s k a tree h linked = record {
     | inl leg ↦
         let o : w.at r ≡ e = sym own ∙ owner-split w.split e (ap w.split leg ∙ h.added) in
         let new : r ≡ 2 * k + w.at r % 2 = new_by_address m w s k a r tree h (omega arith) in
-        let old : IsJoined m (m.link s e) (mate_of e) = linked.joined s e (let x : 2 ≤ a = low in let y : m.at s ≡ a = h.address in omega arith)
+        let old : IsJoined m (m.link s e) (mate_of e) =
+        linked.joined s e (let x : 2 ≤ a = low in let y : m.at s ≡ a = h.address in omega arith)
         (owner-whole m.split e (ap m.split leg ∙ h.leaf) ∙ leg ∙ sym h.address) in
         joined_leg m w s k a e (w.link r e) tree h leg
         (⊎_elim (λ even. let z : e ≡ 2 * a = omega arith in let is : r ≡ 2 * k = omega arith in
@@ -284,13 +321,29 @@ IsTree-halving m w s k a tree h up =
       ];
       once = λ q r two same. elim (cases_eq (q / 2) k) [
         | inl new ↦ elim (halved_slot m w s k a q h new) [
-          | inl u ↦ let f = u.1 in let g = u.0 in let n : r ≡ 2 * k + w.at r % 2 = new_by_address m w s k a r tree h (omega arith) in omega arith
-          | inr u ↦ let f = u.1 in let g = u.0 in let n : r ≡ 2 * k + w.at r % 2 = new_by_address m w s k a r tree h (omega arith) in omega arith
+          | inl u ↦
+              let f = u.1 in
+              let g = u.0 in
+              let n : r ≡ 2 * k + w.at r % 2 = new_by_address m w s k a r tree h (omega arith) in
+              omega arith
+          | inr u ↦
+              let f = u.1 in
+              let g = u.0 in
+              let n : r ≡ 2 * k + w.at r % 2 = new_by_address m w s k a r tree h (omega arith) in
+              omega arith
         ]
         | inr other ↦ elim (cases_eq (r / 2) k) [
           | inl new ↦ elim (halved_slot m w s k a r h new) [
-            | inl u ↦ let f = u.1 in let g = u.0 in let n : q ≡ 2 * k + w.at q % 2 = new_by_address m w s k a q tree h (omega arith) in omega arith
-            | inr u ↦ let f = u.1 in let g = u.0 in let n : q ≡ 2 * k + w.at q % 2 = new_by_address m w s k a q tree h (omega arith) in omega arith
+            | inl u ↦
+                let f = u.1 in
+                let g = u.0 in
+                let n : q ≡ 2 * k + w.at q % 2 = new_by_address m w s k a q tree h (omega arith) in
+                omega arith
+            | inr u ↦
+                let f = u.1 in
+                let g = u.0 in
+                let n : q ≡ 2 * k + w.at q % 2 = new_by_address m w s k a q tree h (omega arith) in
+                omega arith
           ]
           | inr also ↦ let keep : w.at q ≡ m.at q = h.old q other in let keeps : w.at r ≡ m.at r = h.old r also in
               tree.once q r (omega arith) (omega arith)
@@ -333,7 +386,8 @@ IsLinked-joining m w s k a tree h linked = record {
               let two : 2 ≤ mate_of e = mate_of-low e (omega arith) some in
               let still : owner w.split (mate_of e) ≡ owner m.split (mate_of e) =
               owner-same w.split m.split (mate_of e) (h.kept (mate_of e / 2) (omega arith)) in
-              let q_low : 2 ≤ w.at q = let o = owner-low w.split (mate_of e) (h.kept 1 (omega arith) ∙ tree.root) two in omega arith in
+              let q_low : 2 ≤ w.at q =
+              let o = owner-low w.split (mate_of e) (h.kept 1 (omega arith) ∙ tree.root) two in omega arith in
               is_link ∙ j.slot q some (sym (joined_live m w s k a q h q_low).1 ∙ there ∙ still);
         } in
         ⊎_elim (λ even. let z : e ≡ 2 * a = omega arith in
@@ -366,10 +420,15 @@ IsLinked-joining m w s k a tree h linked = record {
               slot = λ q _ there.
                   let same : owner w.split (mate_of e) ≡ owner m.split (mate_of e) =
                   owner-same w.split m.split (mate_of e) (h.kept (mate_of e / 2) still) in
-                  let e_low : 2 ≤ e = elim (owner_cases w.split e) [ inl v ↦ let o = v.1 in omega arith | inr v ↦ let o = v.1 in omega arith ] in
+                  let e_low : 2 ≤ e = elim (owner_cases w.split e) [
+                    | inl v ↦ let o = v.1 in omega arith
+                    | inr v ↦ let o = v.1 in omega arith
+                  ] in
                   let two : 2 ≤ mate_of e = mate_of-low e e_low some in
-                  let q_low : 2 ≤ w.at q = let o = owner-low w.split (mate_of e) (h.kept 1 (omega arith) ∙ tree.root) two in omega arith in
-                  h.same r e live own apart still ∙ j.slot q some (sym (joined_live m w s k a q h q_low).1 ∙ there ∙ same);
+                  let q_low : 2 ≤ w.at q =
+                  let o = owner-low w.split (mate_of e) (h.kept 1 (omega arith) ∙ tree.root) two in omega arith in
+                  h.same r e live own apart still
+                  ∙ j.slot q some (sym (joined_live m w s k a q h q_low).1 ∙ there ∙ same);
             }
           ]
         ]
@@ -391,7 +450,8 @@ IsTree-joining m w s k a tree h =
           (cases_lt (p % 2) 1)) ∙ tree.parent p two old;
       live = λ r two.
           let keep = (joined_live m w s k a r h two).1 in
-          h.kept (w.at r / 2) (no_child m w s k a r tree h two) ∙ ap (λ t. m.split (t / 2)) keep ∙ tree.live r (omega arith);
+          h.kept (w.at r / 2) (no_child m w s k a r tree h two) ∙ ap (λ t. m.split (t / 2)) keep
+          ∙ tree.live r (omega arith);
       once = λ q r two same.
           let keep = (joined_live m w s k a q h two).1 in let keeps = (joined_live m w s k a r h (omega arith)).1 in
           tree.once q r (omega arith) (omega arith);
@@ -409,7 +469,10 @@ pub record IsWhole (m : Net) : Type 0 where
 link-live : (m : Net) (r e : ℕ) → IsWhole m → 2 ≤ m.at r → owner m.split e ≡ m.at r → 1 ≤ mate_of e →
     m.split (owner m.split (mate_of e) / 2) ≡ true
 link-live m r e whole live own some =
-    let two : 2 ≤ e = elim (owner_cases m.split e) [ inl v ↦ let o = v.1 in omega arith | inr v ↦ let o = v.1 in omega arith ] in
+    let two : 2 ≤ e = elim (owner_cases m.split e) [
+      | inl v ↦ let o = v.1 in omega arith
+      | inr v ↦ let o = v.1 in omega arith
+    ] in
     owner-live m.split e (record { root = whole.tree.root; parent = whole.tree.parent; mate = whole.mate }) two
     (ap (λ t. m.split (t / 2)) own ∙ whole.tree.live r live) some
 
@@ -418,10 +481,14 @@ pub read_link : (m : Net) (r e : ℕ) → IsWhole m → IsLinked m → 2 ≤ m.a
     ((mate_of e ≡ 0) × (m.link r e ≡ nowhere)) ⊎ ((1 ≤ mate_of e) × (m.at (m.link r e) ≡ owner m.split (mate_of e)))
 read_link m r e whole linked live own =
     let j : IsJoined m (m.link r e) (mate_of e) = linked.joined r e live own in
-    let two : 2 ≤ e = elim (owner_cases m.split e) [ inl v ↦ let o = v.1 in omega arith | inr v ↦ let o = v.1 in omega arith ] in
+    let two : 2 ≤ e = elim (owner_cases m.split e) [
+      | inl v ↦ let o = v.1 in omega arith
+      | inr v ↦ let o = v.1 in omega arith
+    ] in
     ⊎_elim (λ none. let z : mate_of e ≡ 0 = omega arith in inl (z, j.border z))
     (λ some.
-    let q = whole.slot_of (owner m.split (mate_of e)) (owner-low m.split (mate_of e) whole.tree.root (mate_of-low e two some))
+    let q = whole.slot_of (owner m.split (mate_of e))
+    (owner-low m.split (mate_of e) whole.tree.root (mate_of-low e two some))
     (link-live m r e whole live own some) in
     inr (some, ap m.at (j.slot q.0 some q.1) ∙ q.1))
     (cases_lt (mate_of e) 1)
@@ -434,7 +501,10 @@ pub read_more : (m w : Net) (r e : ℕ) → IsWhole m → IsLinked w → w.split
     ((mate_of e ≡ 0) × (w.link r e ≡ nowhere)) ⊎ ((1 ≤ mate_of e) × (w.at (w.link r e) ≡ owner w.split (mate_of e)))
 read_more m w r e whole linked root slot_of more live own w_live w_own =
     let j : IsJoined w (w.link r e) (mate_of e) = linked.joined r e w_live w_own in
-    let two : 2 ≤ e = elim (owner_cases m.split e) [ inl v ↦ let o = v.1 in omega arith | inr v ↦ let o = v.1 in omega arith ] in
+    let two : 2 ≤ e = elim (owner_cases m.split e) [
+      | inl v ↦ let o = v.1 in omega arith
+      | inr v ↦ let o = v.1 in omega arith
+    ] in
     ⊎_elim (λ none. let z : mate_of e ≡ 0 = omega arith in inl (z, j.border z))
     (λ some.
     let low : 2 ≤ owner w.split (mate_of e) = owner-low w.split (mate_of e) root (mate_of-low e two some) in
@@ -475,13 +545,15 @@ read_less m w r e a whole linked root slot_of kept was low mate half live own w_
         | inl turn ↦ let z : owner w.split (mate_of e) / 2 ≡ a / 2 = let o = v.1 in omega arith in
             ap w.split z ∙ kept (a / 2) (omega arith) ∙ whole.tree.parent a low was
         | inr still ↦
-            let old : owner m.split (mate_of e) ≡ mate_of e / 2 = owner-whole m.split (mate_of e) (sym (kept (mate_of e / 2) still) ∙ v.0) in
+            let old : owner m.split (mate_of e) ≡ mate_of e / 2 =
+            owner-whole m.split (mate_of e) (sym (kept (mate_of e / 2) still) ∙ v.0) in
             let up_old : m.split (owner m.split (mate_of e) / 2) ≡ true = link-live m r e whole live own some in
             let z : owner w.split (mate_of e) / 2 ≡ owner m.split (mate_of e) / 2 = let o = v.1 in omega arith in
             let apart : owner m.split (mate_of e) / 2 ≢ a = λ deep_is.
             let quarter : mate_of e / 2 / 2 ≡ a = omega arith in
             let l1 : level_of (mate_of e) ≡ level_of (mate_of e / 2) + 1 = level_of-parent (mate_of e) (omega arith) in
-            let l2 : level_of (mate_of e / 2) ≡ level_of (mate_of e / 2 / 2) + 1 = level_of-parent (mate_of e / 2) (omega arith) in
+            let l2 : level_of (mate_of e / 2) ≡ level_of (mate_of e / 2 / 2) + 1 =
+            level_of-parent (mate_of e / 2) (omega arith) in
             let l3 : level_of (mate_of e / 2 / 2) ≡ level_of a = ap level_of quarter in omega arith in
             ap w.split z ∙ kept (owner m.split (mate_of e) / 2) apart ∙ up_old
       ]

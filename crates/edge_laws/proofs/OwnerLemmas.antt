@@ -1,8 +1,10 @@
 -- Which leaf has an edge, and which has it reversed.
-use Rattle.std.proofs.Common.{◌≡◌, ◌≢◌, ◌-◌, ap, sym, ◌∙◌, ◌⊎◌, Bool, true, false, ℕ, ◌/◌, ◌≤◌, refl, arith, inl, inr, ⊎_elim}
+use Rattle.std.proofs.Common.{◌≡◌, ◌≢◌, ◌-◌, ap, sym, ◌∙◌, ◌⊎◌, Bool, true, false, ℕ, ◌/◌, ◌≤◌, refl, arith, inl, inr}
+use Rattle.std.proofs.Common.{⊎_elim}
 use Rattle.std.proofs.lemmas.Bool.{cases_lt, cases_Bool, true≢false}
 use Rattle.edge_laws.specs.Edge.{mate_of, owner}
-use Rattle.edge_laws.proofs.MateLemmas.{mate_of-root, mate_of-first, mate_of-back, mate_of-low, IsStep-mate_of, four_cases}
+use Rattle.edge_laws.proofs.MateLemmas.{mate_of-root, mate_of-first, mate_of-back, mate_of-low, IsStep-mate_of}
+use Rattle.edge_laws.proofs.MateLemmas.{four_cases}
 
 -- where the edge's triangle is there, it has the edge
 pub owner-split : (split : ℕ → Bool) (e : ℕ) → split (e / 2) ≡ true → owner split e ≡ e
@@ -13,8 +15,10 @@ pub owner-whole : (split : ℕ → Bool) (e : ℕ) → split (e / 2) ≡ false �
 owner-whole split e h = rw (h, owner) refl
 
 -- so there are two cases
-pub owner_cases : (split : ℕ → Bool) (e : ℕ) → ((split (e / 2) ≡ true) × (owner split e ≡ e)) ⊎ ((split (e / 2) ≡ false) × (owner split e ≡ e / 2))
-owner_cases split e = ⊎_elim (λ h. inl (h, owner-split split e h)) (λ h. inr (h, owner-whole split e h)) (cases_Bool (split (e / 2)))
+pub owner_cases : (split : ℕ → Bool) (e : ℕ) →
+    ((split (e / 2) ≡ true) × (owner split e ≡ e)) ⊎ ((split (e / 2) ≡ false) × (owner split e ≡ e / 2))
+owner_cases split e =
+    ⊎_elim (λ h. inl (h, owner-split split e h)) (λ h. inr (h, owner-whole split e h)) (cases_Bool (split (e / 2)))
 
 -- only the parent of the edge's triangle counts
 pub owner-same : (split other : ℕ → Bool) (e : ℕ) → split (e / 2) ≡ other (e / 2) → owner split e ≡ owner other e
@@ -38,15 +42,18 @@ pub record IsSplitSet (split : ℕ → Bool) : Type 0 where
   pub mate : (p : ℕ) → 2 ≤ p → split p ≡ true → 1 ≤ mate_of p → split (mate_of p) ≡ true
 
 -- the owner of the reversed edge is a triangle of the set: its parent is split
-pub owner-live : (split : ℕ → Bool) (e : ℕ) → IsSplitSet split → 2 ≤ e → split (owner split e / 2) ≡ true → 1 ≤ mate_of e →
+pub owner-live : (split : ℕ → Bool) (e : ℕ) → IsSplitSet split → 2 ≤ e →
+    split (owner split e / 2) ≡ true → 1 ≤ mate_of e →
     split (owner split (mate_of e) / 2) ≡ true
 owner-live split e whole two live some =
     elim (owner_cases split (mate_of e)) [
       | inl v ↦ ap (λ t. split (t / 2)) v.1 ∙ v.0
       | inr v ↦
           let across_low : 2 ≤ mate_of e = mate_of-low e two some in
-          ⊎_elim (λ root. absurd (let half : mate_of e / 2 ≡ 1 = omega arith in never split (mate_of e / 2) (ap split half ∙ whole.root) v.0))
-          (λ past. ⊎_elim (λ first. absurd (let back : mate_of (mate_of e) ≡ e = mate_of-back e two some in let z = mate_of-first (mate_of e) past first in omega arith))
+          ⊎_elim (λ root. absurd (let half : mate_of e / 2 ≡ 1 = omega arith in
+          never split (mate_of e / 2) (ap split half ∙ whole.root) v.0))
+          (λ past. ⊎_elim (λ first. absurd (let back : mate_of (mate_of e) ≡ e = mate_of-back e two some in
+          let z = mate_of-first (mate_of e) past first in omega arith))
           (λ deep.
           let e_deep : 8 ≤ e = ⊎_elim (λ small. absurd (⊎_elim
           (λ root. let z = mate_of-root e two root in omega arith)

@@ -34,17 +34,21 @@ pub record IsGrown (before after : ℕ → Bool) (a : ℕ) : Type 0 where
 -- What stands across the edges of the children of a, once a and its mate are split: across their bases what stood
 -- across the legs of a, across one leg the other child, and across the other leg a child of the mate, or the border.
 pub record AreAcrossChildren (before after : ℕ → Bool) (a : ℕ) : Type 0 where
-  pub left_base : 1 ≤ mate_of (2 * a) → owner (with_square after) (mate_of (2 * a)) ≡ owner (with_square before) (mate_of (2 * a))
-  pub right_base : 1 ≤ mate_of (2 * a + 1) → owner (with_square after) (mate_of (2 * a + 1)) ≡ owner (with_square before) (mate_of (2 * a + 1))
+  pub left_base : 1 ≤ mate_of (2 * a) →
+      owner (with_square after) (mate_of (2 * a)) ≡ owner (with_square before) (mate_of (2 * a))
+  pub right_base : 1 ≤ mate_of (2 * a + 1) →
+      owner (with_square after) (mate_of (2 * a + 1)) ≡ owner (with_square before) (mate_of (2 * a + 1))
   pub left_leg : owner (with_square after) (mate_of (4 * a)) ≡ 2 * a + 1
   pub right_leg : owner (with_square after) (mate_of (4 * a + 3)) ≡ 2 * a
   pub left_mate : 1 ≤ mate_of a → owner (with_square after) (mate_of (4 * a + 1)) ≡ 2 * mate_of a + 1
   pub right_mate : 1 ≤ mate_of a → owner (with_square after) (mate_of (4 * a + 2)) ≡ 2 * mate_of a
   pub border : mate_of a ≡ 0 → (mate_of (4 * a + 1) ≡ 0) × (mate_of (4 * a + 2) ≡ 0)
 
--- What stands across the edges of a, once the diamond of a is merged: across its base its mate, and across its legs what stood
--- across the bases of its children.
+-- What stands across the edges of a, once the diamond of a is merged: across its base its mate, and across its legs
+-- what stood across the bases of its children.
 pub record AreAcrossMerged (before after : ℕ → Bool) (a : ℕ) : Type 0 where
   pub base : 1 ≤ mate_of a → owner (with_square after) (mate_of a) ≡ mate_of a
-  pub left_leg : 1 ≤ mate_of (2 * a) → owner (with_square after) (mate_of (2 * a)) ≡ owner (with_square before) (mate_of (2 * a))
-  pub right_leg : 1 ≤ mate_of (2 * a + 1) → owner (with_square after) (mate_of (2 * a + 1)) ≡ owner (with_square before) (mate_of (2 * a + 1))
+  pub left_leg : 1 ≤ mate_of (2 * a) →
+      owner (with_square after) (mate_of (2 * a)) ≡ owner (with_square before) (mate_of (2 * a))
+  pub right_leg : 1 ≤ mate_of (2 * a + 1) →
+      owner (with_square after) (mate_of (2 * a + 1)) ≡ owner (with_square before) (mate_of (2 * a + 1))

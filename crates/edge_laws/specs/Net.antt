@@ -49,10 +49,14 @@ pub record IsHalving (m w : Net) (s k a : ℕ) : Type 0 where
   pub left_inner : w.link (2 * k) (4 * a) ≡ 2 * k + 1
   pub right_inner : w.link (2 * k + 1) (4 * a + 3) ≡ 2 * k
   pub border : mate_of a ≡ 0 → (w.link (2 * k) (4 * a + 1) ≡ nowhere) × (w.link (2 * k + 1) (4 * a + 2) ≡ nowhere)
-  pub left_mate : (q : ℕ) → 1 ≤ mate_of a → m.at q ≡ 2 * mate_of a + 1 → (w.link (2 * k) (4 * a + 1) ≡ q) × (w.link q (4 * mate_of a + 2) ≡ 2 * k)
-  pub right_mate : (q : ℕ) → 1 ≤ mate_of a → m.at q ≡ 2 * mate_of a → (w.link (2 * k + 1) (4 * a + 2) ≡ q) × (w.link q (4 * mate_of a + 1) ≡ 2 * k + 1)
-  pub turned : (r e : ℕ) → 2 ≤ m.at r → owner m.split e ≡ m.at r → 1 ≤ mate_of e → mate_of e / 2 ≡ a → w.link r e ≡ 2 * k + mate_of e % 2
-  pub same : (r e : ℕ) → 2 ≤ m.at r → owner m.split e ≡ m.at r → e / 2 ≢ a → mate_of e / 2 ≢ a → mate_of e / 4 ≢ a → w.link r e ≡ m.link r e
+  pub left_mate : (q : ℕ) → 1 ≤ mate_of a → m.at q ≡ 2 * mate_of a + 1 →
+      (w.link (2 * k) (4 * a + 1) ≡ q) × (w.link q (4 * mate_of a + 2) ≡ 2 * k)
+  pub right_mate : (q : ℕ) → 1 ≤ mate_of a → m.at q ≡ 2 * mate_of a →
+      (w.link (2 * k + 1) (4 * a + 2) ≡ q) × (w.link q (4 * mate_of a + 1) ≡ 2 * k + 1)
+  pub turned : (r e : ℕ) → 2 ≤ m.at r → owner m.split e ≡ m.at r → 1 ≤ mate_of e → mate_of e / 2 ≡ a →
+      w.link r e ≡ 2 * k + mate_of e % 2
+  pub same : (r e : ℕ) → 2 ≤ m.at r → owner m.split e ≡ m.at r → e / 2 ≢ a → mate_of e / 2 ≢ a →
+      mate_of e / 4 ≢ a → w.link r e ≡ m.link r e
 
 -- The two children of a, which are leaves in the pair of slots 2k and 2k + 1, are taken away: a, at slot s, is
 -- a leaf again.

@@ -1,7 +1,8 @@
 -- Triangles in pairs of slots: slots 2k and 2k + 1 have the two children of one triangle.
--- Words: address_at, has_children, IsLive, split_set, split_list, room_of, IsPool, HasLeaf, IsMateLive, IsSplit, HasTwoLeaves,
--- IsMergeReady, diamond_size, IsUnder, IsMerge.
-use Rattle.std.specs.Prelude.{◌≡◌, ◌≢◌, ◌⊎◌, ℕ, ◌+◌, ◌*◌, ◌/◌, ◌%◌, ◌^◌, ◌<◌, ◌≤◌, Bool, ◌&&◌, true, false, nat_lt, nat_eq, List, slice_index, count_by}
+-- Words: address_at, has_children, IsLive, split_set, split_list, room_of, IsPool, HasLeaf, IsMateLive, IsSplit,
+-- HasTwoLeaves, IsMergeReady, diamond_size, IsUnder, IsMerge.
+use Rattle.std.specs.Prelude.{◌≡◌, ◌≢◌, ◌⊎◌, ℕ, ◌+◌, ◌*◌, ◌/◌, ◌%◌, ◌^◌, ◌<◌, ◌≤◌, Bool, ◌&&◌, true, false, nat_lt}
+use Rattle.std.specs.Prelude.{nat_eq, List, slice_index, count_by}
 use Rattle.std.specs.List.{filter, range_with_len}
 use Rattle.mesh_defs.specs.ClosedSet.{among, IsClosed}
 use Rattle.mesh_defs.specs.declared.level.TheConstants.{GREATEST_LEVEL}
@@ -81,6 +82,7 @@ pub record IsMerge (before after : List ℕ) (a : ℕ) : Type 0 where
   pub removed : split_set after a ≡ false
   pub mate : 1 ≤ mate_of a → split_set after (mate_of a) ≡ false
   pub others : (p : ℕ) → p ≢ a → (1 ≤ mate_of a → p ≢ mate_of a) → split_set after p ≡ split_set before p
-  pub slots : (r : ℕ) → IsLive before r → (IsUnder a (address_at before r) → ⊥) → address_at after r ≡ address_at before r
+  pub slots : (r : ℕ) → IsLive before r → (IsUnder a (address_at before r) → ⊥) →
+      address_at after r ≡ address_at before r
   pub free : (r : ℕ) → IsLive before r → IsUnder a (address_at before r) → address_at after r < 2
   pub empty : (r : ℕ) → address_at before r < 2 → address_at after r < 2

@@ -1,5 +1,7 @@
--- How often a triangle stands in a mesh, before and after a frame; and a buffer that is patched by what the frame changed.
-use Rattle.std.proofs.Common.{◌≡◌, ℕ, ◌+◌, ◌≤◌, inl, inr, Bool, true, false, not, cond, eqb, List, [], ◌∷◌, ◌++◌, length, filter, count_by, refl, ap, ◌∙◌, arith, ⊎_elim}
+-- How often a triangle stands in a mesh, before and after a frame; and a buffer that is patched by what the frame
+-- changed.
+use Rattle.std.proofs.Common.{◌≡◌, ℕ, ◌+◌, ◌≤◌, inl, inr, Bool, true, false, not, cond, eqb, List, [], ◌∷◌, ◌++◌}
+use Rattle.std.proofs.Common.{length, filter, count_by, refl, ap, ◌∙◌, arith, ⊎_elim}
 use Rattle.std.specs.List.Sorted.{IsPermutation}
 use Rattle.std.proofs.lemmas.Bool.{cases_Bool, eq-eqb, eqb-true, and_left, not_from_true}
 use Rattle.std.proofs.lemmas.List.{length-append}
@@ -38,7 +40,8 @@ times-out xs a away = none_counted (λ t. eqb t a) xs away
 -- a filter that lets a go leaves none of it
 times-lost : (p : ℕ → Bool) (xs : List ℕ) (a : ℕ) → p a ≡ false → times (filter p xs) a ≡ 0
 times-lost p xs a lost =
-    times-out (filter p xs) a (any-filter_same (λ t. eqb t a) p (p a) (λ t same. ap p (eqb-true t a same)) xs ∙ and_left (p a) (among xs a) lost)
+    times-out (filter p xs) a (any-filter_same (λ t. eqb t a) p (p a) (λ t same. ap p (eqb-true t a same)) xs
+    ∙ and_left (p a) (among xs a) lost)
 
 -- what the other list has is not alone
 times-alone-in : (xs ys : List ℕ) (a : ℕ) → among ys a ≡ true → times (alone xs ys) a ≡ 0
@@ -51,7 +54,8 @@ not-not false = refl
 -- each is alone, or is in the other list
 times-parts : (xs ys : List ℕ) (a : ℕ) → times (alone xs ys) a + times (filter (among ys) xs) a ≡ times xs a
 unfolding times
-times-parts xs ys a = sum_by-filter_both (λ t. not (among ys t)) (among ys) (λ t. not-not (among ys t)) (λ t. cond (eqb t a) 1 0) xs
+times-parts xs ys a =
+    sum_by-filter_both (λ t. not (among ys t)) (among ys) (λ t. not-not (among ys t)) (λ t. cond (eqb t a) 1 0) xs
 
 -- what it has not is
 times-alone-out : (xs ys : List ℕ) (a : ℕ) → among ys a ≡ false → times (alone xs ys) a ≡ times xs a
@@ -70,7 +74,8 @@ times-gone before after a = ⊎_elim
     (cases_Bool (among after a))
 
 -- what comes was not there, and comes once
-pub times-come : (before after : List ℕ) (a : ℕ) → times before a ≤ 1 → times after a ≤ 1 → times before a + times (alone after before) a ≤ 1
+pub times-come : (before after : List ℕ) (a : ℕ) → times before a ≤ 1 → times after a ≤ 1 →
+    times before a + times (alone after before) a ≤ 1
 times-come before after a one other = ⊎_elim
     (λ yes. let none = times-alone-in after before a yes in omega arith)
     (λ no.

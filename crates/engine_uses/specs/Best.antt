@@ -10,8 +10,8 @@ use Rattle.mesh_defs.specs.Priority.{worst_of}
 use Rattle.mesh_defs.specs.BestMesh.{IsBestMesh}
 use Rattle.engine_uses.specs.declared.step.Sight.{Sight}
 
--- The triangles are a best mesh of the state: conforming, within the budget, and no conforming list within the budget has a
--- lower worst. The sight tells how many they are, and their worst.
+-- The triangles are a best mesh of the state: conforming, within the budget, and no conforming list within the budget
+-- has a lower worst. The sight tells how many they are, and their worst.
 pub record IsBestSeen (state : State) (triangles : List ℕ) (sight : Sight) : Type 0 where
   pub best : IsBestMesh state.grid.n state.budget (priority_in state) triangles
   pub count : sight.triangles ≡ length triangles

@@ -7,7 +7,8 @@ use Rattle.draw_buffer.specs.Buffer.{BufferState}
 use Rattle.frame_loop.specs.Changes.{AreChangesOf}
 use Rattle.frame_loop.specs.Engine.{EngineState, mesh_seen}
 
--- The buffer has these triangles of a grid, each as often, in some order; and what its vertex numbers show are their corners.
+-- The buffer has these triangles of a grid, each as often, in some order; and what its vertex numbers show are their
+-- corners.
 pub record AreShown (n : ℕ) (triangles : List ℕ) (b : BufferState) : Type 0 where
   pub grid : b.n ≡ n
   pub places : IsPermutation triangles b.triangles

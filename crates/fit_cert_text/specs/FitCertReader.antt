@@ -1,6 +1,8 @@
 -- What a reader of a certificate of a fitted mesh has read, line after line. This project's own format.
--- Words: FitReadSoFar, fit_read_so_far, nothing_fit_read, AreFewFitReasons, fit_line_taken, fit_line_in, FitCertReading, fit_finished.
-use Rattle.std.specs.Prelude.{ℕ, ◌≤◌, Bool, true, false, not, ◌&&◌, nat_lt, if◌then◌else◌, List, [], ◌∷◌, ◌++◌, length, Option, Some, None, is_some, Result, Ok, Err}
+-- Words: FitReadSoFar, fit_read_so_far, nothing_fit_read, AreFewFitReasons, fit_line_taken, fit_line_in,
+-- FitCertReading, fit_finished.
+use Rattle.std.specs.Prelude.{ℕ, ◌≤◌, Bool, true, false, not, ◌&&◌, nat_lt, if◌then◌else◌, List, [], ◌∷◌, ◌++◌, length}
+use Rattle.std.specs.Prelude.{Option, Some, None, is_some, Result, Ok, Err}
 use Rattle.mesh_defs.specs.declared.level.TheConstants.{GREATEST_LEVEL}
 use Rattle.fit_certificate_laws.specs.declared.reason.Off.{Off}
 use Rattle.fit_certificate_laws.specs.declared.limits.TheConstants.{MOST_REASONS}
@@ -32,19 +34,23 @@ pub record AreFewFitReasons (n : ℕ) (needed beyond : List Off) : Type 0 where
   pub few_needed : length needed ≤ MOST_REASONS
   pub few_beyond : length beyond ≤ MOST_REASONS
 
--- Behind this line, where it may stand: the tolerance first and once, the mesh once, and not too many reasons before or behind it.
+-- Behind this line, where it may stand: the tolerance first and once, the mesh once, and not too many reasons before or
+-- behind it.
 abbrev pub fit_line_taken : FitReadSoFar → FitLine → Option FitReadSoFar
-fit_line_taken read (ToleranceLine own) = if is_some read.tolerance then None else Some (record read { tolerance = Some own })
+fit_line_taken read (ToleranceLine own) =
+    if is_some read.tolerance then None else Some (record read { tolerance = Some own })
 fit_line_taken read (OffLine r) =
     if is_some read.tolerance && (not read.mesh && nat_lt (length read.needed) MOST_REASONS)
     then Some (record read { needed = read.needed ++ r ∷ [] })
     else (if is_some read.tolerance && (read.mesh && nat_lt (length read.beyond) MOST_REASONS)
     then Some (record read { beyond = read.beyond ++ r ∷ [] }) else None)
-fit_line_taken read MeshLine = if is_some read.tolerance && not read.mesh then Some (record read { mesh = true }) else None
+fit_line_taken read MeshLine =
+    if is_some read.tolerance && not read.mesh then Some (record read { mesh = true }) else None
 
 -- Behind the line that these bytes are, if they are one that may stand there; for the grid with this n.
 abbrev pub fit_line_in : ℕ → FitReadSoFar → List ℕ → Option FitReadSoFar
-fit_line_in n read bytes = elim (read_fit_line n bytes) as (λ _. Option FitReadSoFar) [ None ↦ None | Some line ↦ fit_line_taken read line ]
+fit_line_in n read bytes =
+    elim (read_fit_line n bytes) as (λ _. Option FitReadSoFar) [ None ↦ None | Some line ↦ fit_line_taken read line ]
 
 -- a reader: the n of its grid, what it has read, and its refusal, once it has refused
 pub record FitCertReading : Type 0 where
@@ -57,5 +63,6 @@ abbrev pub fit_finished : Option CertFault → FitReadSoFar → Result FitCertif
 fit_finished (Some fault) read = Err fault
 fit_finished None read = elim read.tolerance as (λ _. Result FitCertificate CertFault) [
   | None ↦ Err BadLine
-  | Some own ↦ if read.mesh then Ok (record { tolerance = own; needed = read.needed; beyond = read.beyond }) else Err BadLine
+  | Some own ↦ if read.mesh then Ok (record { tolerance = own; needed = read.needed; beyond = read.beyond })
+      else Err BadLine
 ]

@@ -1,5 +1,5 @@
--- The text of a certificate of a fitted mesh: a line for the tolerance, for each reason before the mesh, for the mesh, and for
--- each reason behind it, in order, each with an LF (10) at its end. This project's own format.
+-- The text of a certificate of a fitted mesh: a line for the tolerance, for each reason before the mesh, for the mesh,
+-- and for each reason behind it, in order, each with an LF (10) at its end. This project's own format.
 -- Words: fit_number_text, fit_line_text, ended_fit_line, off_text, fit_cert_text, fit_cert_lines.
 use Rattle.std.specs.Prelude.{ℕ, List, [], ◌∷◌, ◌++◌, map, codes, decimal}
 use Rattle.std.specs.List.{flat_map}
@@ -29,7 +29,8 @@ off_text r = ended_fit_line (OffLine r)
 -- The text of a certificate: the tolerance, each reason before the mesh, the mesh, and each reason behind it.
 abbrev pub fit_cert_text : FitCertificate → List ℕ
 fit_cert_text cert =
-    ended_fit_line (ToleranceLine cert.tolerance) ++ flat_map off_text cert.needed ++ ended_fit_line MeshLine ++ flat_map off_text cert.beyond
+    ended_fit_line (ToleranceLine cert.tolerance) ++ flat_map off_text cert.needed ++ ended_fit_line MeshLine
+    ++ flat_map off_text cert.beyond
 
 -- its lines, without their LFs
 abbrev pub fit_cert_lines : FitCertificate → List (List ℕ)

@@ -1,8 +1,10 @@
--- The line of a certificate of a fitted mesh that some bytes are. This project's own format; fields are cut as those of a script.
+-- The line of a certificate of a fitted mesh that some bytes are. This project's own format; fields are cut as those of
+-- a script.
 --
--- Words: fit_line_word, number_below, fit_address_in, tolerance_line, off_of, tolerance_fields, off_fields, mesh_fields, fit_word_line, fit_fields_line,
--- read_fit_line.
-use Rattle.std.specs.Prelude.{ℕ, ◌+◌, ◌*◌, ◌^◌, ◌&&◌, nat_le, nat_lt, if◌then◌else◌, List, [], ◌∷◌, length, Option, Some, None, codes, bytes_eq}
+-- Words: fit_line_word, number_below, fit_address_in, tolerance_line, off_of, tolerance_fields, off_fields,
+-- mesh_fields, fit_word_line, fit_fields_line, read_fit_line.
+use Rattle.std.specs.Prelude.{ℕ, ◌+◌, ◌*◌, ◌^◌, ◌&&◌, nat_le, nat_lt, if◌then◌else◌, List, [], ◌∷◌, length, Option}
+use Rattle.std.specs.Prelude.{Some, None, codes, bytes_eq}
 use Rattle.text_laws.specs.Numbers.{number_in}
 use Rattle.text_laws.specs.Fields.{fields_of, without_last_cr}
 use Rattle.roam_script.specs.declared.limits.TheConstants.{MOST_LINE_BYTES}

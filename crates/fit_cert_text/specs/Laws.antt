@@ -1,13 +1,15 @@
 -- What is written of a certificate of a fitted mesh is read back; and each line says one thing.
--- Words: IsOffOf, IsFitCertificateOf, fit_lines_read, WrittenFitLinesAreRead, WrittenFitLinesAreEnded, WrittenFitLinesAreLines, once, fit_line_count,
--- FitLinesAreCounted.
-use Rattle.std.specs.Prelude.{◌≡◌, ℕ, ◌+◌, ◌^◌, ◌<◌, ◌≤◌, All, Bool, true, false, length, List, [], ◌∷◌, ◌++◌, Option, Some, None}
+-- Words: IsOffOf, IsFitCertificateOf, fit_lines_read, WrittenFitLinesAreRead, WrittenFitLinesAreEnded,
+-- WrittenFitLinesAreLines, once, fit_line_count, FitLinesAreCounted.
+use Rattle.std.specs.Prelude.{◌≡◌, ℕ, ◌+◌, ◌^◌, ◌<◌, ◌≤◌, All, Bool, true, false, length, List, [], ◌∷◌, ◌++◌, Option}
+use Rattle.std.specs.Prelude.{Some, None}
 use Rattle.std.specs.List.{flat_map}
 use Rattle.mesh_defs.specs.Triangle.{IsSplittable}
 use Rattle.page_laws.specs.Lines.{IsOneLine, lines_from}
 use Rattle.fit_certificate_laws.specs.declared.reason.Off.{Off}
 use Rattle.fit_certificate_laws.specs.Certificate.{FitCertificate}
-use Rattle.fit_cert_text.specs.FitCertReader.{FitReadSoFar, fit_read_so_far, nothing_fit_read, fit_line_in, AreFewFitReasons}
+use Rattle.fit_cert_text.specs.FitCertReader.{FitReadSoFar, fit_read_so_far, nothing_fit_read, fit_line_in}
+use Rattle.fit_cert_text.specs.FitCertReader.{AreFewFitReasons}
 use Rattle.fit_cert_text.specs.FitCertText.{fit_cert_text, fit_cert_lines}
 
 -- a reason of a triangle that may be split and a point of the grid with this n
@@ -30,15 +32,18 @@ fit_lines_read n read lines = lines_from (fit_line_in n) read lines
 -- the lines of a certificate are read as the certificate
 abbrev pub WrittenFitLinesAreRead : Type 0
 WrittenFitLinesAreRead = (n : ℕ) (cert : FitCertificate) → IsFitCertificateOf n cert →
-    fit_lines_read n nothing_fit_read (fit_cert_lines cert) ≡ Some (fit_read_so_far (Some cert.tolerance) true cert.needed cert.beyond)
+    fit_lines_read n nothing_fit_read (fit_cert_lines cert)
+    ≡ Some (fit_read_so_far (Some cert.tolerance) true cert.needed cert.beyond)
 
 -- and its text is these lines, each with an LF (10) behind it
 abbrev pub WrittenFitLinesAreEnded : Type 0
-WrittenFitLinesAreEnded = (cert : FitCertificate) → fit_cert_text cert ≡ flat_map (λ line. line ++ 10 ∷ []) (fit_cert_lines cert)
+WrittenFitLinesAreEnded =
+    (cert : FitCertificate) → fit_cert_text cert ≡ flat_map (λ line. line ++ 10 ∷ []) (fit_cert_lines cert)
 
 -- so the text is cut into these lines again
 abbrev pub WrittenFitLinesAreLines : Type 0
-WrittenFitLinesAreLines = (n : ℕ) (cert : FitCertificate) → IsFitCertificateOf n cert → All IsOneLine (fit_cert_lines cert)
+WrittenFitLinesAreLines =
+    (n : ℕ) (cert : FitCertificate) → IsFitCertificateOf n cert → All IsOneLine (fit_cert_lines cert)
 
 -- one for a line that is there once at most
 abbrev pub once : Bool → ℕ
@@ -48,7 +53,8 @@ once false = 0
 -- how many lines say as much: one for the tolerance and one for the mesh, if they were read, and one for each reason
 abbrev pub fit_line_count : FitReadSoFar → ℕ
 fit_line_count read =
-    (elim read.tolerance as (λ _. ℕ) [ None ↦ 0 | Some own ↦ 1 ]) + (once read.mesh + (length read.needed + length read.beyond))
+    (elim read.tolerance as (λ _. ℕ) [ None ↦ 0 | Some own ↦ 1 ])
+    + (once read.mesh + (length read.needed + length read.beyond))
 
 -- each accepted line is one of them
 abbrev pub FitLinesAreCounted : Type 0

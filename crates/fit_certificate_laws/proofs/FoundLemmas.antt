@@ -1,5 +1,6 @@
 -- Each target that is possible has a sound certificate: what is off is split, leaf after leaf, until nothing is.
-use Rattle.std.proofs.Common.{◌≡◌, ℕ, zero, suc, ◌+◌, ◌-◌, ◌*◌, ◌^◌, ◌<◌, ◌≤◌, ◌⊎◌, inl, inr, Bool, true, false, cond, max, List, [], ◌∷◌, ◌++◌, map, length, Contains, refl, sym, ap, subst, arith, ⊎_elim}
+use Rattle.std.proofs.Common.{◌≡◌, ℕ, zero, suc, ◌+◌, ◌-◌, ◌*◌, ◌^◌, ◌<◌, ◌≤◌, ◌⊎◌, inl, inr, Bool, true, false, cond}
+use Rattle.std.proofs.Common.{max, List, [], ◌∷◌, ◌++◌, map, length, Contains, refl, sym, ap, subst, arith, ⊎_elim}
 use Rattle.std.specs.List.{filter, flat_map, range_with_len}
 use Rattle.std.proofs.lemmas.Bool.{cases_lt}
 use Rattle.mesh_defs.specs.declared.point.Point.{Point}
@@ -34,12 +35,15 @@ greatest-over : (f : Point → ℕ) (p : Point → Bool) (m : ℕ) (xs : List Po
     (x : Point) × IsPointIn x xs × (p x ≡ true) × (m < f x)
 greatest-over f p m [] over = absurd (omega arith)
 greatest-over f p m (x ∷ xs) over =
-    go (p x) refl (λ less. greatest-over f p m xs less) (subst (λ k. m < k) (greatest-cond f (p x) x (filter p xs)) over)
+    go (p x) refl (λ less. greatest-over f p m xs less)
+    (subst (λ k. m < k) (greatest-cond f (p x) x (filter p xs)) over)
   where
-    later : ((y : Point) × IsPointIn y xs × (p y ≡ true) × (m < f y)) → (y : Point) × IsPointIn y (x ∷ xs) × (p y ≡ true) × (m < f y)
+    later : ((y : Point) × IsPointIn y xs × (p y ≡ true) × (m < f y)) →
+        (y : Point) × IsPointIn y (x ∷ xs) × (p y ≡ true) × (m < f y)
     later rest = (rest.0, inr rest.1, rest.2, rest.3)
 
-    go : (t : Bool) → p x ≡ t → (m < greatest (map f (filter p xs)) → (y : Point) × IsPointIn y xs × (p y ≡ true) × (m < f y))
+    go : (t : Bool) → p x ≡ t →
+        (m < greatest (map f (filter p xs)) → (y : Point) × IsPointIn y xs × (p y ≡ true) × (m < f y))
         → m < cond t (max (f x) (greatest (map f (filter p xs)))) (greatest (map f (filter p xs)))
         → (y : Point) × IsPointIn y (x ∷ xs) × (p y ≡ true) × (m < f y)
     go true is others less = ⊎_elim
@@ -53,14 +57,16 @@ greatest-over f p m (x ∷ xs) over =
 in-append : (x : Point) (xs ys : List Point) → IsPointIn x (xs ++ ys) → IsPointIn x xs ⊎ IsPointIn x ys
 in-append x [] ys h = inr h
 in-append x (z ∷ zs) ys (inl e) = inl (inl e)
-in-append x (z ∷ zs) ys (inr h) = ⊎_elim (λ (a : IsPointIn x zs). inl (inr a)) (λ (b : IsPointIn x ys). inr b) (in-append x zs ys h)
+in-append x (z ∷ zs) ys (inr h) =
+    ⊎_elim (λ (a : IsPointIn x zs). inl (inr a)) (λ (b : IsPointIn x ys). inr b) (in-append x zs ys h)
 
 row-in : (y a k : ℕ) (r : Point) → IsPointIn r (map (λ i. point i y) (range_with_len a k)) → (r.x < a + k) × (r.y ≡ y)
 row-in y a zero r h = absurd h
 row-in y a (suc k) r (inl e) = (let same = ap (λ (q : Point). q.x) e in omega arith, ap (λ (q : Point). q.y) e)
 row-in y a (suc k) r (inr h) = let rest = row-in y (a + 1) k r h in (let less = rest.0 in omega arith, rest.1)
 
-rows-in : (side a k : ℕ) (r : Point) → IsPointIn r (flat_map (λ j. map (λ i. point i j) (range_with_len 0 side)) (range_with_len a k)) →
+rows-in : (side a k : ℕ) (r : Point) →
+    IsPointIn r (flat_map (λ j. map (λ i. point i j) (range_with_len 0 side)) (range_with_len a k)) →
     (r.x < side) × (r.y < a + k)
 rows-in side a zero r h = absurd h
 rows-in side a (suc k) r h = ⊎_elim
@@ -92,7 +98,8 @@ error-point n heights tolerance a over =
 
 -- from a set they lead to one without an error above the tolerance
 abbrev pub Settles : ℕ → List ℕ → ℕ → (ℕ → Bool) → Type 0
-Settles n heights tolerance has = (reasons : List Off) × (after : ℕ → Bool) × LeadsTo n heights tolerance has reasons after
+Settles n heights tolerance has =
+    (reasons : List Off) × (after : ℕ → Bool) × LeadsTo n heights tolerance has reasons after
     × (worst_of (error_of n heights) (leaves_of n after) ≤ tolerance)
 
 settles_from : (n : ℕ) (heights : List ℕ) (tolerance fuel : ℕ) (has : ℕ → Bool) → IsClosed n has →
@@ -100,11 +107,13 @@ settles_from : (n : ℕ) (heights : List ℕ) (tolerance fuel : ℕ) (has : ℕ 
 settles_from n heights tolerance zero has closed enough = let most = leaves-most n has in absurd (omega arith)
 settles_from n heights tolerance (suc fuel) has closed enough = ⊎_elim
     (λ over.
-    let t : (a : ℕ) × IsIn a (leaves_of n has) × (tolerance < error_of n heights a) = worst-over (error_of n heights) tolerance (leaves_of n has) over in
+    let t : (a : ℕ) × IsIn a (leaves_of n has) × (tolerance < error_of n heights a) =
+    worst-over (error_of n heights) tolerance (leaves_of n has) over in
     let outer : IsOuter n has t.0 = outer-leaf n has t.0 closed t.1 in
     let above : tolerance < error_of n heights t.0 = t.2 in
     let splittable = splittable-error n (error_of n heights) (error-finest n heights) t.0 outer.address (omega arith) in
-    let next : (next : ℕ → Bool) × IsLeastClosed n (with_triangle has t.0) next = closure_of n has t.0 closed splittable in
+    let next : (next : ℕ → Bool) × IsLeastClosed n (with_triangle has t.0) next =
+    closure_of n has t.0 closed splittable in
     let grown = step-grown n has next.0 t.0 closed outer next.1 in
     let r = error-point n heights tolerance t.0 above in
     let rest = settles_from n heights tolerance fuel next.0 next.1.closed (omega arith) in
@@ -128,7 +137,8 @@ settles n heights tolerance has closed = settles_from n heights tolerance (2 * 4
 -- a certificate
 
 -- the tolerance
-tolerance_found : (n : ℕ) (heights : List ℕ) (goal : Target) → IsPossible goal → (own : ℕ) × IsBestTolerance n (error_of n heights) goal own
+tolerance_found : (n : ℕ) (heights : List ℕ) (goal : Target) → IsPossible goal →
+    (own : ℕ) × IsBestTolerance n (error_of n heights) goal own
 tolerance_found n heights (Error tolerance) possible = (tolerance, refl)
 tolerance_found n heights (Budget triangles) possible =
     let found = budget_found n triangles (error_of n heights) (error-finest n heights) possible in
@@ -136,7 +146,8 @@ tolerance_found n heights (Budget triangles) possible =
     (worst_of (error_of n heights) mesh, (mesh, found.2.least, found.2.within, refl, λ some. found.2))
 
 -- for a budget nothing behind the mesh is above the next lower tolerance
-below-of : (n : ℕ) (heights : List ℕ) (goal : Target) (lower : ℕ) (leaves : List ℕ) → worst_of (error_of n heights) leaves ≤ lower →
+below-of : (n : ℕ) (heights : List ℕ) (goal : Target) (lower : ℕ) (leaves : List ℕ) →
+    worst_of (error_of n heights) leaves ≤ lower →
     IsBelow goal (error_of n heights) lower leaves
 below-of n heights (Error tolerance) lower leaves low = tt
 below-of n heights (Budget triangles) lower leaves low = low
@@ -147,7 +158,8 @@ pub sound_found : (n : ℕ) (heights : List ℕ) (goal : Target) → IsPossible 
 sound_found n heights goal possible =
     let own = tolerance_found n heights goal possible in
     let before = settles n heights own.0 (λ a. false) (nothing_closed n) in
-    let behind = settles n heights (own.0 - 1) before.1 (leads-closed n heights own.0 (λ a. false) before.0 before.1 (nothing_closed n) before.2) in
+    let behind = settles n heights (own.0 - 1) before.1
+    (leads-closed n heights own.0 (λ a. false) before.0 before.1 (nothing_closed n) before.2) in
     let cert : FitCertificate = record { tolerance = own.0; needed = before.0; beyond = behind.0 } in (
       cert,
       leaves_of n before.1,

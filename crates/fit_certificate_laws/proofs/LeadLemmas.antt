@@ -1,5 +1,6 @@
 -- Reasons one after the other: the sets that they lead to are closed and needed.
-use Rattle.std.proofs.Common.{◌≡◌, ℕ, ◌+◌, ◌<◌, ◌≤◌, ◌||◌, Bool, eqb, List, [], ◌∷◌, ◌++◌, length, Contains, refl, sym, ◌∙◌, ap, subst, arith}
+use Rattle.std.proofs.Common.{◌≡◌, ℕ, ◌+◌, ◌<◌, ◌≤◌, ◌||◌, Bool, eqb, List, [], ◌∷◌, ◌++◌, length, Contains, refl, sym}
+use Rattle.std.proofs.Common.{◌∙◌, ap, subst, arith}
 use Rattle.mesh_defs.specs.BoundingBox.{point, points_of, holds_point, greatest}
 use Rattle.mesh_defs.specs.ClosedSet.{IsClosed, IsLeastClosed, leaves_of}
 use Rattle.mesh_defs.specs.Greedy.{with_triangle}
@@ -27,7 +28,8 @@ off-error n heights tolerance r off =
 -- sets that agree
 
 -- have the same reasons
-pub reason-same : (n : ℕ) (heights : List ℕ) (tolerance : ℕ) (has other : ℕ → Bool) (r : Off) → ((a : ℕ) → has a ≡ other a) →
+pub reason-same : (n : ℕ) (heights : List ℕ) (tolerance : ℕ) (has other : ℕ → Bool) (r : Off) →
+    ((a : ℕ) → has a ≡ other a) →
     IsFitReason n heights tolerance has r → IsFitReason n heights tolerance other r
 reason-same n heights tolerance has other r same is = record {
   splittable = is.splittable;
@@ -36,7 +38,8 @@ reason-same n heights tolerance has other r same is = record {
 }
 
 -- and a split leads to the same from them
-pub closure-same : (n : ℕ) (has other next : ℕ → Bool) (t : ℕ) → ((a : ℕ) → has a ≡ other a) → IsLeastClosed n (with_triangle has t) next →
+pub closure-same : (n : ℕ) (has other next : ℕ → Bool) (t : ℕ) → ((a : ℕ) → has a ≡ other a) →
+    IsLeastClosed n (with_triangle has t) next →
     IsLeastClosed n (with_triangle other t) next
 closure-same n has other next t same least = record {
   closed = least.closed;
@@ -46,8 +49,10 @@ closure-same n has other next t same least = record {
 
 -- one reason more
 
-pub leads-next : (n : ℕ) (heights : List ℕ) (tolerance : ℕ) (has : ℕ → Bool) (reasons : List Off) (mid next : ℕ → Bool) (r : Off) →
-    LeadsTo n heights tolerance has reasons mid → IsFitReason n heights tolerance mid r → IsLeastClosed n (with_triangle mid r.triangle) next →
+pub leads-next : (n : ℕ) (heights : List ℕ) (tolerance : ℕ) (has : ℕ →
+    Bool) (reasons : List Off) (mid next : ℕ → Bool) (r : Off) →
+    LeadsTo n heights tolerance has reasons mid → IsFitReason n heights tolerance mid r →
+    IsLeastClosed n (with_triangle mid r.triangle) next →
     LeadsTo n heights tolerance has (reasons ++ r ∷ []) next
 leads-next n heights tolerance has [] mid next r leads is least = (
   next,
@@ -61,17 +66,20 @@ leads-next n heights tolerance has (s ∷ reasons) mid next r leads is least =
 -- where they lead to
 
 -- a closed set leads to a closed one
-pub leads-closed : (n : ℕ) (heights : List ℕ) (tolerance : ℕ) (has : ℕ → Bool) (reasons : List Off) (after : ℕ → Bool) → IsClosed n has →
+pub leads-closed : (n : ℕ) (heights : List ℕ) (tolerance : ℕ) (has : ℕ → Bool) (reasons : List Off) (after : ℕ → Bool) →
+    IsClosed n has →
     LeadsTo n heights tolerance has reasons after → IsClosed n after
 leads-closed n heights tolerance has [] after closed leads = closed-same n has after leads closed
 leads-closed n heights tolerance has (r ∷ reasons) after closed leads =
     leads-closed n heights tolerance leads.0 reasons after leads.2.closed leads.3
 
 -- and one that every mesh within the tolerance needs, to another
-pub leads-needed : (n : ℕ) (heights : List ℕ) (tolerance : ℕ) (has : ℕ → Bool) (reasons : List Off) (after : ℕ → Bool) → IsClosed n has →
+pub leads-needed : (n : ℕ) (heights : List ℕ) (tolerance : ℕ) (has : ℕ → Bool) (reasons : List Off) (after : ℕ → Bool) →
+    IsClosed n has →
     IsNeeded n tolerance (error_of n heights) has → LeadsTo n heights tolerance has reasons after
     → IsNeeded n tolerance (error_of n heights) after
-leads-needed n heights tolerance has [] after closed needed leads = λ other settled a h. needed other settled a (leads a ∙ h)
+leads-needed n heights tolerance has [] after closed needed leads =
+    λ other settled a h. needed other settled a (leads a ∙ h)
 leads-needed n heights tolerance has (r ∷ reasons) after closed needed leads =
     leads-needed n heights tolerance leads.0 reasons after leads.2.closed
     (needed-step n tolerance (error_of n heights) has leads.0 r.triangle needed
@@ -79,8 +87,10 @@ leads-needed n heights tolerance has (r ∷ reasons) after closed needed leads =
     (off-error n heights tolerance r leads.1.off) leads.2) leads.3
 
 -- each splits one triangle at least, so the leaves grow by as many
-pub leads-grown : (n : ℕ) (heights : List ℕ) (tolerance : ℕ) (has : ℕ → Bool) (reasons : List Off) (after : ℕ → Bool) → IsClosed n has →
-    LeadsTo n heights tolerance has reasons after → length reasons + length (leaves_of n has) ≤ length (leaves_of n after)
+pub leads-grown : (n : ℕ) (heights : List ℕ) (tolerance : ℕ) (has : ℕ → Bool) (reasons : List Off) (after : ℕ → Bool) →
+    IsClosed n has →
+    LeadsTo n heights tolerance has reasons after →
+    length reasons + length (leaves_of n has) ≤ length (leaves_of n after)
 leads-grown n heights tolerance has [] after closed leads =
     let same = ap (λ (l : List ℕ). length l) (leaves_of-same n has after leads) in omega arith
 leads-grown n heights tolerance has (r ∷ reasons) after closed leads =
@@ -92,8 +102,10 @@ leads-grown n heights tolerance has (r ∷ reasons) after closed leads =
 -- from sets that agree they lead to such sets
 
 -- to the same one
-pub leads-same : (n : ℕ) (heights : List ℕ) (tolerance : ℕ) (has other : ℕ → Bool) (reasons : List Off) (after : ℕ → Bool) →
-    ((a : ℕ) → has a ≡ other a) → LeadsTo n heights tolerance has reasons after → LeadsTo n heights tolerance other reasons after
+pub leads-same : (n : ℕ) (heights : List ℕ) (tolerance : ℕ) (has other : ℕ →
+    Bool) (reasons : List Off) (after : ℕ → Bool) →
+    ((a : ℕ) → has a ≡ other a) → LeadsTo n heights tolerance has reasons after →
+    LeadsTo n heights tolerance other reasons after
 leads-same n heights tolerance has other [] after same leads = λ a. sym (same a) ∙ leads a
 leads-same n heights tolerance has other (r ∷ reasons) after same leads = (
   leads.0,
@@ -104,7 +116,8 @@ leads-same n heights tolerance has other (r ∷ reasons) after same leads = (
 
 -- so the first that is none is the first from the other
 pub bad-same : (n : ℕ) (heights : List ℕ) (tolerance : ℕ) (has other : ℕ → Bool) (reasons : List Off) (index : ℕ) →
-    ((a : ℕ) → has a ≡ other a) → IsFirstBadFit n heights tolerance has reasons index → IsFirstBadFit n heights tolerance other reasons index
+    ((a : ℕ) → has a ≡ other a) → IsFirstBadFit n heights tolerance has reasons index →
+    IsFirstBadFit n heights tolerance other reasons index
 bad-same n heights tolerance has other reasons index same bad = record {
   good = bad.good;
   bad = bad.bad;
@@ -117,7 +130,8 @@ bad-same n heights tolerance has other reasons index same bad = record {
 }
 
 -- and to no other one
-pub leads-unique : (n : ℕ) (heights : List ℕ) (tolerance : ℕ) (has other : ℕ → Bool) (reasons : List Off) (one two : ℕ → Bool) →
+pub leads-unique : (n : ℕ) (heights : List ℕ) (tolerance : ℕ) (has other : ℕ →
+    Bool) (reasons : List Off) (one two : ℕ → Bool) →
     ((a : ℕ) → has a ≡ other a) → LeadsTo n heights tolerance has reasons one
     → LeadsTo n heights tolerance other reasons two → (a : ℕ) → one a ≡ two a
 leads-unique n heights tolerance has other [] one two same p q = λ a. sym (p a) ∙ same a ∙ q a
@@ -129,7 +143,8 @@ leads-unique n heights tolerance has other (r ∷ reasons) one two same p q =
 -- where all are reasons, none is the first that is none
 leads-good : (n : ℕ) (heights : List ℕ) (tolerance : ℕ) (has other : ℕ → Bool) (good : List Off) (bad : Off)
     (rest : List Off) (mid after : ℕ → Bool) →
-    ((a : ℕ) → has a ≡ other a) → LeadsTo n heights tolerance has good mid → LeadsTo n heights tolerance other (good ++ bad ∷ rest) after →
+    ((a : ℕ) → has a ≡ other a) → LeadsTo n heights tolerance has good mid →
+    LeadsTo n heights tolerance other (good ++ bad ∷ rest) after →
     IsFitReason n heights tolerance mid bad
 leads-good n heights tolerance has other [] bad rest mid after same p q =
     reason-same n heights tolerance other mid bad (λ a. sym (same a) ∙ p a) q.1
@@ -138,8 +153,10 @@ leads-good n heights tolerance has other (r ∷ good) bad rest mid after same p 
     (IsLeastClosed-unique n (with_triangle has r.triangle) p.0 q.0 p.2
     (closure-same n other has q.0 r.triangle (λ a. sym (same a)) q.2)) p.3 q.3
 
-pub leads-no_bad : (n : ℕ) (heights : List ℕ) (tolerance : ℕ) (has other : ℕ → Bool) (reasons : List Off) (index : ℕ) (after : ℕ → Bool) →
-    ((a : ℕ) → has a ≡ other a) → IsFirstBadFit n heights tolerance has reasons index → LeadsTo n heights tolerance other reasons after → ⊥
+pub leads-no_bad : (n : ℕ) (heights : List ℕ) (tolerance : ℕ) (has other : ℕ →
+    Bool) (reasons : List Off) (index : ℕ) (after : ℕ → Bool) →
+    ((a : ℕ) → has a ≡ other a) → IsFirstBadFit n heights tolerance has reasons index →
+    LeadsTo n heights tolerance other reasons after → ⊥
 leads-no_bad n heights tolerance has other reasons index after same bad leads =
     bad.fails (leads-good n heights tolerance has other bad.good bad.bad bad.rest bad.after after same bad.leads
     (subst (λ (l : List Off). LeadsTo n heights tolerance other l after) bad.parts leads))

@@ -8,15 +8,18 @@ use Rattle.fit_laws.specs.Error.{error_of}
 use Rattle.fit_laws.proofs.FitLemmas.{fit_mesh}
 use Rattle.fit_certificate_laws.specs.declared.reason.Target.{Target}
 use Rattle.fit_certificate_laws.specs.declared.reason.Target.TheVariants.{Error, Budget}
-use Rattle.fit_certificate_laws.specs.Certificate.{FitCertificate, LeadsTo, LeadsToFit, IsFor, IsWithinTarget, IsEnough, IsFitSound}
+use Rattle.fit_certificate_laws.specs.Certificate.{FitCertificate, LeadsTo, LeadsToFit, IsFor, IsWithinTarget, IsEnough}
+use Rattle.fit_certificate_laws.specs.Certificate.{IsFitSound}
 use Rattle.fit_certificate_laws.proofs.LeadLemmas.{leads-closed}
 use Rattle.fit_certificate_laws.proofs.SoundLemmas.{fitted-closed, fitted-least}
 use Rattle.fit_certificate_laws.specs.Making.{IsBestTolerance, IsBelow}
 
-module _ (n : ℕ) (heights : List ℕ) (cert : FitCertificate) (has over : ℕ → Bool) (fitted : LeadsToFit n heights cert has)
+module _ (n : ℕ) (heights : List ℕ) (cert : FitCertificate) (has over : ℕ → Bool)
+    (fitted : LeadsToFit n heights cert has)
     (beyond : LeadsTo n heights (cert.tolerance - 1) has cert.beyond over) where
   -- the tolerance is that of the target
-  made-for : (target : Target) → IsBestTolerance n (error_of n heights) target cert.tolerance → IsFor target cert.tolerance
+  made-for : (target : Target) → IsBestTolerance n (error_of n heights) target cert.tolerance →
+      IsFor target cert.tolerance
   made-for (Error tolerance) best = best
   made-for (Budget triangles) best = tt
 
@@ -51,7 +54,8 @@ module _ (n : ℕ) (heights : List ℕ) (cert : FitCertificate) (has over : ℕ 
 
   -- so it is sound
   pub made-sound : (target : Target) → IsBestTolerance n (error_of n heights) target cert.tolerance →
-      IsBelow target (error_of n heights) (cert.tolerance - 1) (leaves_of n over) → IsFitSound n heights target cert (leaves_of n has)
+      IsBelow target (error_of n heights) (cert.tolerance - 1) (leaves_of n over) →
+      IsFitSound n heights target cert (leaves_of n has)
   made-sound target best below = record {
     has = has;
     over = over;

@@ -19,7 +19,8 @@ use Rattle.fit_certificate_laws.specs.Certificate.{FitCertificate, LeadsToFit, I
 use Rattle.fit_certificate_laws.proofs.LeadLemmas.{leads-closed, leads-needed}
 
 -- the set of the mesh is closed
-pub fitted-closed : (n : ℕ) (heights : List ℕ) (cert : FitCertificate) (has : ℕ → Bool) → LeadsToFit n heights cert has → IsClosed n has
+pub fitted-closed : (n : ℕ) (heights : List ℕ) (cert : FitCertificate) (has : ℕ → Bool) →
+    LeadsToFit n heights cert has → IsClosed n has
 fitted-closed n heights cert has fitted = leads-closed n heights cert.tolerance (λ a. false) cert.needed has
     (nothing_closed n) fitted.needed
 
@@ -45,7 +46,8 @@ pub sound-error : (n : ℕ) (heights : List ℕ) (tolerance : ℕ) (cert : FitCe
     → IsFitSound n heights (Error tolerance) cert mesh →
     IsLeastMesh n tolerance (error_of n heights) mesh
 sound-error n heights tolerance cert mesh sound =
-    subst (λ k. IsLeastMesh n k (error_of n heights) mesh) sound.own (sound-least n heights (Error tolerance) cert mesh sound)
+    subst (λ k. IsLeastMesh n k (error_of n heights) mesh) sound.own
+    (sound-least n heights (Error tolerance) cert mesh sound)
 
 -- and no mesh of the budget is off by less
 pub sound-budget : (n : ℕ) (heights : List ℕ) (triangles : ℕ) (cert : FitCertificate) (mesh : List ℕ) →
@@ -61,7 +63,8 @@ sound-budget n heights triangles cert mesh sound =
     exact
     (λ (many : triangles < length (leaves_of n sound.over)). ⊎_elim
     (λ (some : 0 < cert.tolerance).
-    budget_end n triangles e has sound.over (fit_tight n cert.tolerance e has fit) sound.few (cert.tolerance - 1) (omega arith)
+    budget_end n triangles e has sound.over (fit_tight n cert.tolerance e has fit) sound.few
+    (cert.tolerance - 1) (omega arith)
     (leads-needed n heights (cert.tolerance - 1) has cert.beyond sound.over fit.settled.closed
     (needed-lower n cert.tolerance e has (cert.tolerance - 1) (omega arith) fit.needed) sound.beyond) many)
     (λ (none : cert.tolerance ≤ 0). exact (omega arith))

@@ -1,9 +1,10 @@
--- Certificates of fitted meshes: reasons that replay the refinement of a mesh, each a triangle that every mesh that is off by
--- less has split.
+-- Certificates of fitted meshes: reasons that replay the refinement of a mesh, each a triangle that every mesh that is
+-- off by less has split.
 -- The definition is this project's own; forced splits are those of Duchaineau et al., "ROAMing Terrain", 1997.
--- Words: FitCertificate, IsOff, IsFitReason, LeadsTo, LeadsToFit, IsFor, IsWithinTarget, IsEnough, IsFitSound, IsFirstBadFit, IsFitRejected, IsFitVerdict,
--- IsVerdictOf.
-use Rattle.std.specs.Prelude.{◌≡◌, ℕ, ◌+◌, ◌-◌, ◌^◌, ◌<◌, ◌≤◌, ◌⊎◌, Bool, true, false, List, [], ◌∷◌, ◌++◌, length, Contains}
+-- Words: FitCertificate, IsOff, IsFitReason, LeadsTo, LeadsToFit, IsFor, IsWithinTarget, IsEnough, IsFitSound,
+-- IsFirstBadFit, IsFitRejected, IsFitVerdict, IsVerdictOf.
+use Rattle.std.specs.Prelude.{◌≡◌, ℕ, ◌+◌, ◌-◌, ◌^◌, ◌<◌, ◌≤◌, ◌⊎◌, Bool, true, false, List, [], ◌∷◌, ◌++◌, length}
+use Rattle.std.specs.Prelude.{Contains}
 use Rattle.mesh_defs.specs.Triangle.{IsSplittable}
 use Rattle.mesh_defs.specs.BoundingBox.{point, holds_point}
 use Rattle.mesh_defs.specs.ClosedSet.{IsLeastClosed, leaves_of}
@@ -15,7 +16,8 @@ use Rattle.fit_certificate_laws.specs.declared.reason.Off.{Off}
 use Rattle.fit_certificate_laws.specs.declared.reason.Target.{Target}
 use Rattle.fit_certificate_laws.specs.declared.reason.Target.TheVariants as target
 use Rattle.fit_certificate_laws.specs.declared.reason.Reject.{Reject}
-use Rattle.fit_certificate_laws.specs.declared.reason.Reject.TheVariants.{OtherTolerance, BadReason, OverTolerance, OverBudget, TooFewReasons}
+use Rattle.fit_certificate_laws.specs.declared.reason.Reject.TheVariants.{OtherTolerance, BadReason, OverTolerance}
+use Rattle.fit_certificate_laws.specs.declared.reason.Reject.TheVariants.{OverBudget, TooFewReasons}
 use Rattle.fit_certificate_laws.specs.declared.reason.Verdict.{Verdict}
 use Rattle.fit_certificate_laws.specs.declared.reason.Verdict.TheVariants.{Certified, Rejected}
 
@@ -45,7 +47,8 @@ LeadsTo n heights tolerance has (r ∷ reasons) after =
     (next : ℕ → Bool) × IsFitReason n heights tolerance has r × IsLeastClosed n (with_triangle has r.triangle) next
     × LeadsTo n heights tolerance next reasons after
 
--- the reasons before the mesh lead from the two halves of the square to its set, and no leaf of that exceeds the tolerance
+-- the reasons before the mesh lead from the two halves of the square to its set, and no leaf of that exceeds the
+-- tolerance
 pub record LeadsToFit (n : ℕ) (heights : List ℕ) (cert : FitCertificate) (has : ℕ → Bool) : Type 0 where
   pub needed : LeadsTo n heights cert.tolerance (λ a. false) cert.needed has
   pub within : worst_of (error_of n heights) (leaves_of n has) ≤ cert.tolerance
@@ -65,9 +68,10 @@ abbrev pub IsEnough : Target → ℕ → ℕ → Type 0
 IsEnough (target.Error tolerance) own over = Unit {0}
 IsEnough (target.Budget triangles) own over = (own ≡ 0) ⊎ (triangles < over)
 
--- A sound certificate of this mesh for a target: its reasons make the mesh, whose triangles are within its tolerance and the
--- budget; those behind are off by no less than the tolerance, and what they make exceeds the budget.
-pub record IsFitSound (n : ℕ) (heights : List ℕ) (target : Target) (cert : FitCertificate) (mesh : List ℕ) : Type 0 where
+-- A sound certificate of this mesh for a target: its reasons make the mesh, whose triangles are within its tolerance
+-- and the budget; those behind are off by no less than the tolerance, and what they make exceeds the budget.
+pub record IsFitSound (n : ℕ) (heights : List ℕ) (target : Target) (cert : FitCertificate)
+    (mesh : List ℕ) : Type 0 where
   pub has : ℕ → Bool
   pub over : ℕ → Bool
   pub own : IsFor target cert.tolerance
@@ -78,7 +82,8 @@ pub record IsFitSound (n : ℕ) (heights : List ℕ) (target : Target) (cert : F
   pub leaves : mesh ≡ leaves_of n has
 
 -- the reasons begin with good ones, and the next one, counted from 1, is none
-pub record IsFirstBadFit (n : ℕ) (heights : List ℕ) (tolerance : ℕ) (has : ℕ → Bool) (reasons : List Off) (index : ℕ) : Type 0 where
+pub record IsFirstBadFit (n : ℕ) (heights : List ℕ) (tolerance : ℕ) (has : ℕ → Bool) (reasons : List Off)
+    (index : ℕ) : Type 0 where
   pub good : List Off
   pub bad : Off
   pub rest : List Off
@@ -94,7 +99,8 @@ IsFitRejected n heights goal cert OtherTolerance = IsFor goal cert.tolerance →
 IsFitRejected n heights goal cert (BadReason index) = IsFor goal cert.tolerance ×
     (IsFirstBadFit n heights cert.tolerance (λ a. false) cert.needed index
     ⊎ ((has : ℕ → Bool) × LeadsToFit n heights cert has × IsWithinTarget goal (length (leaves_of n has))
-    × (place : ℕ) × IsFirstBadFit n heights (cert.tolerance - 1) has cert.beyond place × (index ≡ length cert.needed + place)))
+    × (place : ℕ) × IsFirstBadFit n heights (cert.tolerance - 1) has cert.beyond place
+    × (index ≡ length cert.needed + place)))
 IsFitRejected n heights goal cert OverTolerance = IsFor goal cert.tolerance ×
     (has : ℕ → Bool) × LeadsTo n heights cert.tolerance (λ a. false) cert.needed has
     × (cert.tolerance < worst_of (error_of n heights) (leaves_of n has))
@@ -108,7 +114,8 @@ IsFitRejected n heights goal cert TooFewReasons = IsFor goal cert.tolerance ×
 -- the verdict: sound, with so many triangles and this deviation, or the first test that fails
 abbrev pub IsFitVerdict : ℕ → List ℕ → Target → FitCertificate → Verdict → Type 0
 IsFitVerdict n heights goal cert (Certified triangles deviation) =
-    (mesh : List ℕ) × IsFitSound n heights goal cert mesh × (triangles ≡ length mesh) × (deviation ≡ deviation_of n heights mesh)
+    (mesh : List ℕ) × IsFitSound n heights goal cert mesh × (triangles ≡ length mesh)
+    × (deviation ≡ deviation_of n heights mesh)
 IsFitVerdict n heights goal cert (Rejected why) = IsFitRejected n heights goal cert why
 
 -- the same, with the triangles of the mesh, where it is sound

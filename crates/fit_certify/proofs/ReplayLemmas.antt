@@ -1,5 +1,6 @@
 -- One reason more of a list, and the first that is none.
-use Rattle.std.proofs.Common.{◌≡◌, ℕ, ◌+◌, ◌<◌, Bool, List, [], ◌∷◌, ◌++◌, length, take, drop, get_or, append_assoc, sym, ◌∙◌, ap, subst, arith}
+use Rattle.std.proofs.Common.{◌≡◌, ℕ, ◌+◌, ◌<◌, Bool, List, [], ◌∷◌, ◌++◌, length, take, drop, get_or, append_assoc}
+use Rattle.std.proofs.Common.{sym, ◌∙◌, ap, subst, arith}
 use Rattle.std.proofs.lemmas.List.{take_more, take-append-drop, length-take-le}
 use Rattle.mesh_defs.specs.ClosedSet.{IsLeastClosed}
 use Rattle.mesh_defs.specs.Greedy.{with_triangle}
@@ -16,7 +17,8 @@ module _ (n : ℕ) (heights : List ℕ) (tolerance : ℕ) (has mid : ℕ → Boo
     (within : k < length reasons)
     (is : r ≡ get_or reasons k r) (leads : LeadsTo n heights tolerance has (take k reasons) mid) where
   -- that is a reason, too
-  pub replay-next : (next : ℕ → Bool) → IsFitReason n heights tolerance mid r → IsLeastClosed n (with_triangle mid r.triangle) next →
+  pub replay-next : (next : ℕ → Bool) → IsFitReason n heights tolerance mid r →
+      IsLeastClosed n (with_triangle mid r.triangle) next →
       LeadsTo n heights tolerance has (take (k + 1) reasons) next
   replay-next next reason least =
       subst (λ (l : List Off). LeadsTo n heights tolerance has l next) (sym (take-next reasons k r within is))
@@ -29,7 +31,8 @@ module _ (n : ℕ) (heights : List ℕ) (tolerance : ℕ) (has mid : ℕ → Boo
     bad = r;
     rest = drop (k + 1) reasons;
     after = mid;
-    parts = sym (take-append-drop (k + 1) reasons) ∙ ap (λ (l : List Off). l ++ drop (k + 1) reasons) (take-next reasons k r within is)
+    parts = sym (take-append-drop (k + 1) reasons)
+        ∙ ap (λ (l : List Off). l ++ drop (k + 1) reasons) (take-next reasons k r within is)
         ∙ append_assoc (take k reasons) (r ∷ []) (drop (k + 1) reasons);
     place = ap (λ m. m + 1) (length-take-le k reasons (omega arith));
     leads = leads;

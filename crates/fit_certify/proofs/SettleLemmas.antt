@@ -1,5 +1,6 @@
 -- Splitting what is off, one leaf after the other: what one split leaves, what a pass leaves, and the end.
-use Rattle.std.proofs.Common.{◌≡◌, ℕ, ◌+◌, ◌-◌, ◌*◌, ◌^◌, ◌<◌, ◌≤◌, ◌||◌, Bool, true, false, cond, List, [], ◌∷◌, ◌++◌, length, Contains, refl, sym, ◌∙◌, subst, arith, ⊎_elim, pow-add}
+use Rattle.std.proofs.Common.{◌≡◌, ℕ, ◌+◌, ◌-◌, ◌*◌, ◌^◌, ◌<◌, ◌≤◌, ◌||◌, Bool, true, false, cond, List, [], ◌∷◌, ◌++◌}
+use Rattle.std.proofs.Common.{length, Contains, refl, sym, ◌∙◌, subst, arith, ⊎_elim, pow-add}
 use Rattle.std.proofs.lemmas.Bool.{cases_lt, cases_Bool, or_cases, both_ways, false≢true}
 use Rattle.mesh_defs.specs.declared.point.Point.{Point}
 use Rattle.mesh_defs.specs.Triangle.{level_of, IsAddress, IsSplittable}
@@ -34,22 +35,26 @@ error-most n heights a tolerance le = le
 -- one split
 
 -- nothing happens
-pub going-same : (n : ℕ) (heights : List ℕ) (tolerance : ℕ) (flags : List Bool) (reasons : List Off) → IsClosed n (is_flagged flags) →
+pub going-same : (n : ℕ) (heights : List ℕ) (tolerance : ℕ) (flags : List Bool) (reasons : List Off) →
+    IsClosed n (is_flagged flags) →
     IsGoingOn n heights tolerance flags reasons flags reasons
 going-same n heights tolerance flags reasons closed = record { closed = closed; leads = λ has leads. leads }
 
 -- one thing after the other
-pub going-through : (n : ℕ) (heights : List ℕ) (tolerance : ℕ) (one two three : List Bool) (first second third : List Off) →
+pub going-through :
+    (n : ℕ) (heights : List ℕ) (tolerance : ℕ) (one two three : List Bool) (first second third : List Off) →
     IsGoingOn n heights tolerance one first two second → IsGoingOn n heights tolerance two second three third
     → IsGoingOn n heights tolerance one first three third
 going-through n heights tolerance one two three first second third p q =
     record { closed = q.closed; leads = λ has leads. q.leads has (p.leads has leads) }
 
 module _ (n : ℕ) (heights : List ℕ) (tolerance : ℕ) (old new : List Bool) (t : ℕ) (closed : IsClosed n (is_flagged old))
-    (leaf : Contains (leaves_of n (is_flagged old)) t) (least : IsLeastClosed n (with_triangle (is_flagged old) t) (is_flagged new)) where
+    (leaf : Contains (leaves_of n (is_flagged old)) t)
+    (least : IsLeastClosed n (with_triangle (is_flagged old) t) (is_flagged new)) where
   -- a leaf that is off is a reason
   pub split-going : (before after : List Off) (p : Point) → IsSplittable n t → IsAbove n heights t tolerance p →
-      after ≡ before ++ record { triangle = t; x = p.x; y = p.y } ∷ [] → IsGoingOn n heights tolerance old before new after
+      after ≡ before ++ record { triangle = t; x = p.x; y = p.y } ∷ [] →
+      IsGoingOn n heights tolerance old before new after
   split-going before after p splittable above more = record {
     closed = least.closed;
     leads = λ has leads.
@@ -81,7 +86,8 @@ module _ (n : ℕ) (heights : List ℕ) (tolerance number : ℕ) (old mid new : 
   pub sweep-more : (again ≡ true → length (leaves_of n (is_flagged old)) < length (leaves_of n (is_flagged mid))) →
       (again ≡ false → mid ≡ old) →
       (is ≡ true → length (leaves_of n (is_flagged mid)) < length (leaves_of n (is_flagged new))) →
-      (is ≡ false → new ≡ mid) → next ≡ true → length (leaves_of n (is_flagged old)) < length (leaves_of n (is_flagged new))
+      (is ≡ false → new ≡ mid) → next ≡ true →
+      length (leaves_of n (is_flagged old)) < length (leaves_of n (is_flagged new))
   sweep-more before none split same did_any =
       let size : List Bool → ℕ = λ flags. length (leaves_of n (is_flagged flags)) in
       ⊎_elim
@@ -92,13 +98,15 @@ module _ (n : ℕ) (heights : List ℕ) (tolerance number : ℕ) (old mid new : 
       (λ (did_none : is ≡ false). subst (λ (l : List Bool). size old < size l) (sym (same did_none)) less)
       (cases_Bool is))
       (λ (did_not : again ≡ false).
-      let here : is ≡ true = ⊎_elim (λ yet. absurd (both_ways again did_not yet)) (λ now. now) (or_cases again is (sym either ∙ did_any)) in
+      let here : is ≡ true = ⊎_elim (λ yet. absurd (both_ways again did_not yet)) (λ now. now)
+      (or_cases again is (sym either ∙ did_any)) in
       subst (λ (l : List Bool). size l < size new) (none did_not) (split here))
       (cases_Bool again)
 
   -- or in none
   pub sweep-none : (again ≡ false → (mid ≡ old) × AreAsked n heights tolerance mid number) →
-      (is ≡ false → (new ≡ mid) × (Contains (leaves_of n (is_flagged mid)) number → error_of n heights number ≤ tolerance)) →
+      (is ≡ false →
+      (new ≡ mid) × (Contains (leaves_of n (is_flagged mid)) number → error_of n heights number ≤ tolerance)) →
       next ≡ false → (new ≡ old) × AreAsked n heights tolerance new (number + 1)
   sweep-none before here neither_did =
       let neither : (again ≡ false) × (is ≡ false) = none_of again is (sym either ∙ neither_did) in
@@ -118,7 +126,8 @@ module _ (n : ℕ) (heights : List ℕ) (tolerance number : ℕ) (old mid new : 
       none_of false c e = (refl, e)
 
 -- where all were asked, no leaf is above the tolerance: a finest one has no error
-pub asked-worst : (n : ℕ) (heights : List ℕ) (tolerance number : ℕ) (flags : List Bool) → IsClosed n (is_flagged flags) →
+pub asked-worst : (n : ℕ) (heights : List ℕ) (tolerance number : ℕ) (flags : List Bool) →
+    IsClosed n (is_flagged flags) →
     2 ^ (2 * n + 1) ≤ number → AreAsked n heights tolerance flags number
     → worst_of (error_of n heights) (leaves_of n (is_flagged flags)) ≤ tolerance
 asked-worst n heights tolerance number flags closed all asked =
@@ -149,8 +158,10 @@ reasons-few n heights tolerance has reasons after small closed leads =
 
 -- each pass but the last has more leaves
 settle-smaller : (n : ℕ) (old new : List Bool) (again : Bool) →
-    (again ≡ true → length (leaves_of n (is_flagged old)) < length (leaves_of n (is_flagged new))) → (again ≡ false → new ≡ old) →
-    cond again 1 0 + 2 * (2 * 4 ^ n - length (leaves_of n (is_flagged new))) < 1 + 2 * (2 * 4 ^ n - length (leaves_of n (is_flagged old)))
+    (again ≡ true → length (leaves_of n (is_flagged old)) < length (leaves_of n (is_flagged new))) →
+    (again ≡ false → new ≡ old) →
+    cond again 1 0 + 2 * (2 * 4 ^ n - length (leaves_of n (is_flagged new)))
+    < 1 + 2 * (2 * 4 ^ n - length (leaves_of n (is_flagged old)))
 settle-smaller n old new true more same =
     let less = more refl in let most = leaves-most n (is_flagged new) in omega arith
 settle-smaller n old new false more same =
@@ -159,9 +170,11 @@ settle-smaller n old new false more same =
     (sym (same refl)) (omega arith)
 
 pub settle-falls : (n : ℕ) (old new : List Bool) (was again : Bool) → was ≡ true →
-    (again ≡ true → length (leaves_of n (is_flagged old)) < length (leaves_of n (is_flagged new))) → (again ≡ false → new ≡ old) →
+    (again ≡ true → length (leaves_of n (is_flagged old)) < length (leaves_of n (is_flagged new))) →
+    (again ≡ false → new ≡ old) →
     cond again 1 0 + 2 * (2 * 4 ^ n - length (leaves_of n (is_flagged new))) < cond was 1 0 + 2 *
     (2 * 4 ^ n - length (leaves_of n (is_flagged old)))
 settle-falls n old new was again is more same =
     subst (λ (b : Bool). cond again 1 0 + 2 * (2 * 4 ^ n - length (leaves_of n (is_flagged new)))
-    < cond b 1 0 + 2 * (2 * 4 ^ n - length (leaves_of n (is_flagged old)))) (sym is) (settle-smaller n old new again more same)
+    < cond b 1 0 + 2 * (2 * 4 ^ n - length (leaves_of n (is_flagged old)))) (sym is)
+    (settle-smaller n old new again more same)

@@ -1,5 +1,6 @@
 -- The mesh of a budget with the least greatest error.
-use Rattle.std.proofs.Common.{◌≡◌, ℕ, zero, suc, ◌+◌, ◌-◌, ◌<◌, ◌≤◌, Bool, false, List, length, refl, arith, ⊎_elim, [], ◌∷◌, sym}
+use Rattle.std.proofs.Common.{◌≡◌, ℕ, zero, suc, ◌+◌, ◌-◌, ◌<◌, ◌≤◌, Bool, false, List, length, refl, arith, ⊎_elim, []}
+use Rattle.std.proofs.Common.{◌∷◌, sym}
 use Rattle.std.proofs.lemmas.Bool.{cases_lt, both_ways}
 use Rattle.mesh_defs.specs.Tiling.{IsConforming}
 use Rattle.mesh_defs.specs.ClosedSet.{IsClosed, leaves_of}
@@ -17,7 +18,8 @@ use Rattle.fit_laws.proofs.SettledLemmas.{outer-leaf, needed-step, settled-ances
 use Rattle.fit_laws.proofs.FitLemmas.{fit_found, fit_tight, fit_mesh}
 
 -- what a lower greatest error needs exceeds the budget
-pub budget_end : (n budget : ℕ) (error : ℕ → ℕ) (has over : ℕ → Bool) → IsLeastSettled n (worst_of error (leaves_of n has)) error has →
+pub budget_end : (n budget : ℕ) (error : ℕ → ℕ) (has over : ℕ → Bool) →
+    IsLeastSettled n (worst_of error (leaves_of n has)) error has →
     length (leaves_of n has) ≤ budget → (tolerance : ℕ) → worst_of error (leaves_of n has) ≤ tolerance + 1 →
     IsNeeded n tolerance error over → budget < length (leaves_of n over) → IsBudgetMesh n budget error (leaves_of n has)
 budget_end n budget error has over fit few tolerance close needed many = record {
@@ -33,7 +35,8 @@ budget_end n budget error has over fit few tolerance close needed many = record 
 }
 
 -- a mesh with no error
-pub budget_exact : (n budget : ℕ) (error : ℕ → ℕ) (has : ℕ → Bool) → IsLeastSettled n 0 error has → length (leaves_of n has) ≤ budget →
+pub budget_exact : (n budget : ℕ) (error : ℕ → ℕ) (has : ℕ → Bool) → IsLeastSettled n 0 error has →
+    length (leaves_of n has) ≤ budget →
     IsBudgetMesh n budget error (leaves_of n has)
 budget_exact n budget error has fit few =
     let none = fit.settled.within in
@@ -45,7 +48,8 @@ budget_exact n budget error has fit few =
 
 -- from a tolerance down, as long as the mesh fits the budget
 budget_from : (n budget : ℕ) (error : ℕ → ℕ) → IsExactAtFinest n error → (fuel : ℕ) (has : ℕ → Bool) →
-    IsLeastSettled n (worst_of error (leaves_of n has)) error has → length (leaves_of n has) ≤ budget → worst_of error (leaves_of n has) < fuel →
+    IsLeastSettled n (worst_of error (leaves_of n has)) error has → length (leaves_of n has) ≤ budget →
+    worst_of error (leaves_of n has) < fuel →
     (next : ℕ → Bool) × IsClosed n next × IsBudgetMesh n budget error (leaves_of n next)
 budget_from n budget error exact zero has fit few enough = absurd (omega arith)
 budget_from n budget error exact (suc fuel) has fit few enough = ⊎_elim
@@ -81,7 +85,8 @@ budget_found n budget error exact low =
     } (omega arith) (omega arith)
 
 -- and its set is the only one
-pub budget_unique : (n budget : ℕ) (error : ℕ → ℕ) (triangles others : List ℕ) → IsBudgetMesh n budget error triangles → IsBudgetMesh n budget error others →
+pub budget_unique : (n budget : ℕ) (error : ℕ → ℕ) (triangles others : List ℕ) → IsBudgetMesh n budget error triangles →
+    IsBudgetMesh n budget error others →
     (a : ℕ) → ancestors_of triangles a ≡ ancestors_of others a
 budget_unique n budget error triangles others p q a =
     let there = p.optimal others q.least.conforming q.within in
@@ -91,33 +96,41 @@ budget_unique n budget error triangles others p q a =
     (q.least.inside triangles p.least.conforming (omega arith) a)
 
 -- a greater budget has no greater error
-pub budget_fewer : (n budget more : ℕ) (error : ℕ → ℕ) (triangles others : List ℕ) → budget ≤ more → IsBudgetMesh n budget error triangles →
+pub budget_fewer : (n budget more : ℕ) (error : ℕ → ℕ) (triangles others : List ℕ) → budget ≤ more →
+    IsBudgetMesh n budget error triangles →
     IsBudgetMesh n more error others → worst_of error others ≤ worst_of error triangles
-budget_fewer n budget more error triangles others le p q = q.optimal triangles p.least.conforming (let w = p.within in omega arith)
+budget_fewer n budget more error triangles others le p q =
+    q.optimal triangles p.least.conforming (let w = p.within in omega arith)
 
 -- reasons
 
 -- what they make is closed
-made-closed : (n tolerance : ℕ) (error : ℕ → ℕ) (reasons : List ℕ) (has : ℕ → Bool) → IsMadeBy n tolerance error reasons has → IsClosed n has
+made-closed : (n tolerance : ℕ) (error : ℕ → ℕ) (reasons : List ℕ) (has : ℕ → Bool) →
+    IsMadeBy n tolerance error reasons has → IsClosed n has
 made-closed n tolerance error [] has made = closed-same n (λ a. false) has (λ a. sym (made a)) (nothing_closed n)
 made-closed n tolerance error (t ∷ reasons) has made = made.4.closed
 
 -- and needed
-pub made-needed : (n tolerance : ℕ) (error : ℕ → ℕ) (reasons : List ℕ) (has : ℕ → Bool) → IsMadeBy n tolerance error reasons has →
+pub made-needed : (n tolerance : ℕ) (error : ℕ → ℕ) (reasons : List ℕ) (has : ℕ → Bool) →
+    IsMadeBy n tolerance error reasons has →
     IsNeeded n tolerance error has
 made-needed n tolerance error [] has made = λ other settled a h. absurd (both_ways (has a) (made a) h)
 made-needed n tolerance error (t ∷ reasons) has made =
     let before : ℕ → Bool = made.0 in
     needed-step n tolerance error before has t (made-needed n tolerance error reasons before made.1)
-    (outer-leaf n before t (made-closed n tolerance error reasons before made.1) (IsIn-contains t (leaves_of n before) made.2)) made.3 made.4
+    (outer-leaf n before t (made-closed n tolerance error reasons before made.1)
+    (IsIn-contains t (leaves_of n before) made.2)) made.3 made.4
 
 -- so no mesh within the budget has a lower error, where what they make exceeds the budget
-pub certificate : (n budget tolerance : ℕ) (error : ℕ → ℕ) (reasons triangles : List ℕ) (has : ℕ → Bool) → IsMadeBy n tolerance error reasons has →
-    budget < length (leaves_of n has) → worst_of error triangles ≤ tolerance + 1 → (others : List ℕ) → IsConforming n others → length others ≤ budget →
+pub certificate : (n budget tolerance : ℕ) (error : ℕ → ℕ) (reasons triangles : List ℕ) (has : ℕ → Bool) →
+    IsMadeBy n tolerance error reasons has →
+    budget < length (leaves_of n has) → worst_of error triangles ≤ tolerance + 1 → (others : List ℕ) →
+    IsConforming n others → length others ≤ budget →
     worst_of error triangles ≤ worst_of error others
 certificate n budget tolerance error reasons triangles has made many close others conforming small = ⊎_elim
     (λ (lower : worst_of error others < worst_of error triangles).
-    let more = leaves_of-more n has (ancestors_of others) (made-needed n tolerance error reasons has made (ancestors_of others)
+    let more =
+    leaves_of-more n has (ancestors_of others) (made-needed n tolerance error reasons has made (ancestors_of others)
     (settled-ancestors n tolerance error others conforming (omega arith))) in
     let same = length-ancestors n others conforming in absurd (omega arith))
     (λ (le : worst_of error triangles ≤ worst_of error others). le)

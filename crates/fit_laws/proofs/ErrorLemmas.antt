@@ -1,5 +1,6 @@
 -- The distance from the surface as an error.
-use Rattle.std.proofs.Common.{◌≡◌, ℕ, zero, suc, ◌+◌, ◌*◌, ◌^◌, ◌-◌, ◌<◌, ◌≤◌, ◌∙◌, max, List, [], ◌∷◌, length, take, get_or, sym, subst, ap, arith}
+use Rattle.std.proofs.Common.{◌≡◌, ℕ, zero, suc, ◌+◌, ◌*◌, ◌^◌, ◌-◌, ◌<◌, ◌≤◌, ◌∙◌, max, List, [], ◌∷◌, length, take}
+use Rattle.std.proofs.Common.{get_or, sym, subst, ap, arith}
 use Rattle.std.proofs.Math.Seq.{take-length}
 use Rattle.std.proofs.lemmas.List.{take_more}
 use Rattle.std.proofs.lemmas.List.Elements.{All-cons, All-nil}
@@ -22,12 +23,15 @@ worst-first n heights triangles (suc i) le =
     let below : i < length triangles = omega arith in
     let first = worst-first n heights triangles i (omega arith) in
     let last : ℕ = get_or triangles i 0 in
-    subst (λ k. worst_of (error_of n heights) (take k triangles) ≡ deviation_of n heights (take k triangles)) (sym after)
-    (ap (worst_of (error_of n heights)) (take_more triangles i 0 below) ∙ worst_of-next (error_of n heights) (take i triangles) last
+    subst (λ k. worst_of (error_of n heights) (take k triangles) ≡ deviation_of n heights (take k triangles))
+    (sym after)
+    (ap (worst_of (error_of n heights)) (take_more triangles i 0 below)
+    ∙ worst_of-next (error_of n heights) (take i triangles) last
     ∙ ap (λ k. max k (greatest (offs_in n heights last))) first ∙ sym (deviation_of-more n heights triangles i 0 below))
 
 -- so that of a list is its deviation
-pub worst-deviation : (n : ℕ) (heights triangles : List ℕ) → worst_of (error_of n heights) triangles ≡ deviation_of n heights triangles
+pub worst-deviation : (n : ℕ) (heights triangles : List ℕ) →
+    worst_of (error_of n heights) triangles ≡ deviation_of n heights triangles
 worst-deviation n heights triangles =
     let all : take (length triangles) triangles ≡ triangles = take-length triangles in
     subst (λ (l : List ℕ). worst_of (error_of n heights) l ≡ deviation_of n heights l) all

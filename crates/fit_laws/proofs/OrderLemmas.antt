@@ -1,4 +1,5 @@
--- The leaves of a closed set, depth first, are those of the ancestors of its leaves; so of two best meshes depth first there is one.
+-- The leaves of a closed set, depth first, are those of the ancestors of its leaves; so of two best meshes depth first
+-- there is one.
 use Rattle.std.proofs.Common.{◌≡◌, ℕ, Bool, List, sym, ◌∙◌, ⊎_elim}
 use Rattle.mesh_defs.specs.ClosedSet.{IsClosed, IsSubset, leaves_of}
 use Rattle.mesh_defs.proofs.TestLemmas.{same_tests}
@@ -18,20 +19,25 @@ pub member-above_leaf : (n : ℕ) (has : ℕ → Bool) → IsClosed n has → Is
 member-above_leaf n has closed a member = ⊎_elim
     (λ above. above)
     (λ (c : IsCovered n (leaves_of n has) (IsConforming-leaves_of n has closed) a).
-    absurd ((outer-leaf n has c.entry closed c.listed).outside (member_above has closed.parent c.entry a c.under member)))
-    (member_or_covered n (leaves_of n has) (IsConforming-leaves_of n has closed) a (IsAddress-splittable n a (closed.splittable a member)))
+    absurd ((outer-leaf n has c.entry closed c.listed).outside
+    (member_above has closed.parent c.entry a c.under member)))
+    (member_or_covered n (leaves_of n has) (IsConforming-leaves_of n has closed) a
+    (IsAddress-splittable n a (closed.splittable a member)))
 
 -- so what lies above its leaves is the set
 pub ancestors-leaves : (n : ℕ) (has : ℕ → Bool) → IsClosed n has → (a : ℕ) → ancestors_of (leaves_of n has) a ≡ has a
 ancestors-leaves n has closed a =
-    same_tests (ancestors_of (leaves_of n has) a) (has a) (above_leaf-member n has closed a) (member-above_leaf n has closed a)
+    same_tests (ancestors_of (leaves_of n has) a) (has a) (above_leaf-member n has closed a)
+    (member-above_leaf n has closed a)
 
 -- and the leaves, depth first, are those of what lies above them
-pub leaves-order : (n : ℕ) (has : ℕ → Bool) → IsClosed n has → leaves_of n (ancestors_of (leaves_of n has)) ≡ leaves_of n has
+pub leaves-order : (n : ℕ) (has : ℕ → Bool) → IsClosed n has →
+    leaves_of n (ancestors_of (leaves_of n has)) ≡ leaves_of n has
 leaves-order n has closed = leaves_of-same n (ancestors_of (leaves_of n has)) has (ancestors-leaves n has closed)
 
 -- there is one least mesh of a tolerance, depth first
-pub least-one : (n tolerance : ℕ) (error : ℕ → ℕ) (triangles others : List ℕ) → IsLeastMesh n tolerance error triangles → IsLeastMesh n tolerance error others →
+pub least-one : (n tolerance : ℕ) (error : ℕ → ℕ) (triangles others : List ℕ) →
+    IsLeastMesh n tolerance error triangles → IsLeastMesh n tolerance error others →
     leaves_of n (ancestors_of triangles) ≡ triangles → leaves_of n (ancestors_of others) ≡ others → triangles ≡ others
 least-one n tolerance error triangles others p q listed listed' =
     sym listed
@@ -41,7 +47,9 @@ least-one n tolerance error triangles others p q listed listed' =
     ∙ listed'
 
 -- and one mesh of a budget
-pub budget-one : (n budget : ℕ) (error : ℕ → ℕ) (triangles others : List ℕ) → IsBudgetMesh n budget error triangles → IsBudgetMesh n budget error others →
+pub budget-one : (n budget : ℕ) (error : ℕ → ℕ) (triangles others : List ℕ) → IsBudgetMesh n budget error triangles →
+    IsBudgetMesh n budget error others →
     leaves_of n (ancestors_of triangles) ≡ triangles → leaves_of n (ancestors_of others) ≡ others → triangles ≡ others
 budget-one n budget error triangles others p q listed listed' =
-    sym listed ∙ leaves_of-same n (ancestors_of triangles) (ancestors_of others) (budget_unique n budget error triangles others p q) ∙ listed'
+    sym listed ∙ leaves_of-same n (ancestors_of triangles) (ancestors_of others)
+    (budget_unique n budget error triangles others p q) ∙ listed'

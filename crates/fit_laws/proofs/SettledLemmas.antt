@@ -1,5 +1,7 @@
--- Closed sets none of whose leaves exceeds a tolerance: what is in two of them is one, and how one is reached by splits.
-use Rattle.std.proofs.Common.{◌≡◌, ℕ, ◌/◌, ◌<◌, ◌≤◌, ◌⊎◌, inl, inr, Bool, true, false, eqb, IsTrue, List, refl, subst, arith, ⊎_elim, eq-eqb}
+-- Closed sets none of whose leaves exceeds a tolerance: what is in two of them is one, and how one is reached by
+-- splits.
+use Rattle.std.proofs.Common.{◌≡◌, ℕ, ◌/◌, ◌<◌, ◌≤◌, ◌⊎◌, inl, inr, Bool, true, false, eqb, IsTrue, List, refl, subst}
+use Rattle.std.proofs.Common.{arith, ⊎_elim, eq-eqb}
 use Rattle.std.proofs.lemmas.Bool.{cases_Bool, both_ways, false≢true, and_parts, and_from, eqb-true}
 use Rattle.std.proofs.lemmas.List.Elements.{All-contains}
 use Rattle.mesh_defs.specs.Tiling.{IsConforming}
@@ -18,10 +20,13 @@ use Rattle.fit_laws.specs.Settled.{both, IsFineEnough, IsNeeded}
 
 -- what is known of a leaf
 pub outer-leaf : (n : ℕ) (has : ℕ → Bool) (a : ℕ) → IsClosed n has → IsIn a (leaves_of n has) → IsOuter n has a
-outer-leaf n has a closed leaf = All-contains (IsOuter n has) (leaves_of n has) a (IsOuter-leaves_of n has closed) (Contains-in a (leaves_of n has) leaf)
+outer-leaf n has a closed leaf =
+    All-contains (IsOuter n has) (leaves_of n has) a (IsOuter-leaves_of n has closed)
+    (Contains-in a (leaves_of n has) leaf)
 
 -- a leaf of a settled set has no error above the tolerance
-pub settled-outer : (n tolerance : ℕ) (error : ℕ → ℕ) (has : ℕ → Bool) (a : ℕ) → IsFineEnough n tolerance error has → IsOuter n has a → error a ≤ tolerance
+pub settled-outer : (n tolerance : ℕ) (error : ℕ → ℕ) (has : ℕ → Bool) (a : ℕ) → IsFineEnough n tolerance error has →
+    IsOuter n has a → error a ≤ tolerance
 settled-outer n tolerance error has a settled outer =
     let low = le-worst error a (leaves_of n has) (leaf-outer n has a settled.closed outer) in
     let most = settled.within in omega arith
@@ -41,8 +46,12 @@ module _ (n : ℕ) (some other : ℕ → Bool) where
   pub closed-both : IsClosed n some → IsClosed n other → IsClosed n (both some other)
   closed-both c d = record {
     splittable = λ a h. c.splittable a (and_parts (some a) (other a) h).0;
-    parent = λ a h big. let p = and_parts (some a) (other a) h in and_from (some (a / 2)) (other (a / 2)) (c.parent a p.0 big) (d.parent a p.1 big);
-    mate = λ a b h m. let p = and_parts (some a) (other a) h in and_from (some b) (other b) (c.mate a b p.0 m) (d.mate a b p.1 m);
+    parent = λ a h big.
+        let p = and_parts (some a) (other a) h in
+        and_from (some (a / 2)) (other (a / 2)) (c.parent a p.0 big) (d.parent a p.1 big);
+    mate = λ a b h m.
+        let p = and_parts (some a) (other a) h in
+        and_from (some b) (other b) (c.mate a b p.0 m) (d.mate a b p.1 m);
   }
 
   -- its leaves are leaves of the one or of the other
@@ -61,7 +70,8 @@ module _ (n : ℕ) (some other : ℕ → Bool) where
       (cases_Bool (some a))
 
 -- of two settled sets it is settled
-pub settled-both : (n tolerance : ℕ) (error : ℕ → ℕ) (some other : ℕ → Bool) → IsFineEnough n tolerance error some → IsFineEnough n tolerance error other →
+pub settled-both : (n tolerance : ℕ) (error : ℕ → ℕ) (some other : ℕ → Bool) → IsFineEnough n tolerance error some →
+    IsFineEnough n tolerance error other →
     IsFineEnough n tolerance error (both some other)
 settled-both n tolerance error some other s t =
     outer-settled n tolerance error (both some other) (closed-both n some other s.closed t.closed) (λ a o. ⊎_elim
@@ -72,7 +82,8 @@ settled-both n tolerance error some other s t =
 -- conforming lists
 
 -- a leaf of the ancestors of a conforming list is an entry
-pub leaf-entry : (n : ℕ) (others : List ℕ) (a : ℕ) → IsConforming n others → IsIn a (leaves_of n (ancestors_of others)) → IsIn a others
+pub leaf-entry : (n : ℕ) (others : List ℕ) (a : ℕ) → IsConforming n others →
+    IsIn a (leaves_of n (ancestors_of others)) → IsIn a others
 leaf-entry n others a conforming leaf =
     let counts = (AreLeaves-ancestors_of n others conforming).counts a in
     let some = count-some (λ t. eqb t a) a (leaves_of n (ancestors_of others)) leaf (eq-eqb a a refl) in
@@ -80,7 +91,8 @@ leaf-entry n others a conforming leaf =
     subst (λ z. IsIn z others) (eqb-true found.0 a found.2) found.1
 
 -- the ancestors of a conforming list within the tolerance are settled
-pub settled-ancestors : (n tolerance : ℕ) (error : ℕ → ℕ) (others : List ℕ) → IsConforming n others → worst_of error others ≤ tolerance →
+pub settled-ancestors : (n tolerance : ℕ) (error : ℕ → ℕ) (others : List ℕ) → IsConforming n others →
+    worst_of error others ≤ tolerance →
     IsFineEnough n tolerance error (ancestors_of others)
 settled-ancestors n tolerance error others conforming within = record {
   closed = IsClosed-ancestors_of n others conforming;
@@ -95,13 +107,15 @@ pub nothing_needed : (n tolerance : ℕ) (error : ℕ → ℕ) → IsNeeded n to
 nothing_needed n tolerance error other settled a h = absurd (false≢true h)
 
 -- at a lower tolerance the same and more
-pub needed-lower : (n tolerance : ℕ) (error : ℕ → ℕ) (has : ℕ → Bool) (less : ℕ) → less ≤ tolerance → IsNeeded n tolerance error has →
+pub needed-lower : (n tolerance : ℕ) (error : ℕ → ℕ) (has : ℕ → Bool) (less : ℕ) → less ≤ tolerance →
+    IsNeeded n tolerance error has →
     IsNeeded n less error has
 needed-lower n tolerance error has less le needed other settled =
     needed other record { closed = settled.closed; within = (let w = settled.within in omega arith) }
 
 -- a leaf above the tolerance of what is needed, too
-pub needed-leaf : (n tolerance : ℕ) (error : ℕ → ℕ) (has : ℕ → Bool) (t : ℕ) → IsNeeded n tolerance error has → IsOuter n has t → tolerance < error t →
+pub needed-leaf : (n tolerance : ℕ) (error : ℕ → ℕ) (has : ℕ → Bool) (t : ℕ) → IsNeeded n tolerance error has →
+    IsOuter n has t → tolerance < error t →
     (other : ℕ → Bool) → IsFineEnough n tolerance error other → IsTrue (other t)
 needed-leaf n tolerance error has t needed outer above other settled = ⊎_elim
     (λ is. is)
@@ -114,7 +128,8 @@ needed-leaf n tolerance error has t needed outer above other settled = ⊎_elim
     (cases_Bool (other t))
 
 -- and what its split forces
-pub needed-step : (n tolerance : ℕ) (error : ℕ → ℕ) (has next : ℕ → Bool) (t : ℕ) → IsNeeded n tolerance error has → IsOuter n has t → tolerance < error t →
+pub needed-step : (n tolerance : ℕ) (error : ℕ → ℕ) (has next : ℕ → Bool) (t : ℕ) → IsNeeded n tolerance error has →
+    IsOuter n has t → tolerance < error t →
     IsLeastClosed n (with_triangle has t) next → IsNeeded n tolerance error next
 needed-step n tolerance error has next t needed outer above least other settled =
     least.least other settled.closed (λ a h. ⊎_elim

@@ -1,5 +1,6 @@
 -- What a turn of refinement leaves, and what its end is.
-use Rattle.std.proofs.Common.{◌≡◌, ℕ, ◌+◌, ◌-◌, ◌*◌, ◌/◌, ◌^◌, ◌<◌, ◌≤◌, ◌⊎◌, Bool, false, max, List, [], ◌∷◌, ◌++◌, length, take, Contains, refl, sym, ◌∙◌, ap, ap₂, subst, arith, ⊎_elim, length-append}
+use Rattle.std.proofs.Common.{◌≡◌, ℕ, ◌+◌, ◌-◌, ◌*◌, ◌/◌, ◌^◌, ◌<◌, ◌≤◌, ◌⊎◌, Bool, false, max, List, [], ◌∷◌, ◌++◌}
+use Rattle.std.proofs.Common.{length, take, Contains, refl, sym, ◌∙◌, ap, ap₂, subst, arith, ⊎_elim, length-append}
 use Rattle.std.proofs.Math.Seq.{take-length}
 use Rattle.std.proofs.Math.Pow.{pow_mono}
 use Rattle.std.proofs.lemmas.List.{take-append-le}
@@ -29,10 +30,12 @@ use Rattle.fit_mesh.specs.Found.{IsFound}
 use Rattle.fit_mesh.proofs.PendingLemmas.{outer-of}
 
 -- there are two leaves more than entries of the log
-pub counted : (n : ℕ) (flags : List Bool) (log : List ℕ) → HasLog n flags log → length (leaves_of n (is_flagged flags)) ≡ length log + 2
+pub counted : (n : ℕ) (flags : List Bool) (log : List ℕ) → HasLog n flags log →
+    length (leaves_of n (is_flagged flags)) ≡ length log + 2
 counted n flags log g =
     ap (λ (l : List ℕ). length l) (leaves_of-same n (is_flagged flags) (among log) g.logged.same)
-    ∙ length-leaves_once n log (λ a h. g.logged.once a (among-in a log h)) (closed-same n (is_flagged flags) (among log) g.logged.same g.closed)
+    ∙ length-leaves_once n log (λ a h. g.logged.once a (among-in a log h))
+    (closed-same n (is_flagged flags) (among log) g.logged.same g.closed)
 
 -- the first waiting leaf
 
@@ -47,27 +50,33 @@ module _ (n : ℕ) (p : ℕ → ℕ) (flags : List Bool) (log : List ℕ) (items
   -- and the worst of them
   pub first-worst : (r : ℕ × ℕ) → IsFirst (is_flagged flags) items r → worst_of p (leaves_of n (is_flagged flags)) ≡ r.0
   first-worst r f =
-      let most : worst_of p (leaves_of n (is_flagged flags)) ≤ r.0 = worst-le p r.0 (leaves_of n (is_flagged flags)) (λ a leaf. ⊎_elim
-      (λ some. All-contains (λ (s : ℕ × ℕ). s.0 ≤ r.0) items (p a, a) f.greatest (w.leaves a (Contains-in a (leaves_of n (is_flagged flags)) leaf) some))
+      let most : worst_of p (leaves_of n (is_flagged flags)) ≤ r.0 =
+      worst-le p r.0 (leaves_of n (is_flagged flags)) (λ a leaf. ⊎_elim
+      (λ some. All-contains (λ (s : ℕ × ℕ). s.0 ≤ r.0) items (p a, a) f.greatest
+      (w.leaves a (Contains-in a (leaves_of n (is_flagged flags)) leaf) some))
       (λ none. omega arith)
       (cases_lt 0 (p a))) in
-      let least = le-worst p r.1 (leaves_of n (is_flagged flags)) (leaf-outer n (is_flagged flags) r.1 g.closed (first-outer r f)) in
+      let least = le-worst p r.1 (leaves_of n (is_flagged flags))
+      (leaf-outer n (is_flagged flags) r.1 g.closed (first-outer r f)) in
       let same = (w.entries r f.entry).value in
       omega arith
 
   -- where none waits there is no error
   pub none-worst : items ≡ [] → worst_of p (leaves_of n (is_flagged flags)) ≡ 0
   none-worst empty =
-      let most : worst_of p (leaves_of n (is_flagged flags)) ≤ 0 = worst-le p 0 (leaves_of n (is_flagged flags)) (λ a leaf. ⊎_elim
+      let most : worst_of p (leaves_of n (is_flagged flags)) ≤ 0 =
+      worst-le p 0 (leaves_of n (is_flagged flags)) (λ a leaf. ⊎_elim
       (λ some.
-      let there : Contains [] (p a, a) = subst (λ (l : List (ℕ × ℕ)). Contains l (p a, a)) empty (w.leaves a (Contains-in a (leaves_of n (is_flagged flags)) leaf) some) in
+      let there : Contains [] (p a, a) = subst (λ (l : List (ℕ × ℕ)). Contains l (p a, a)) empty
+      (w.leaves a (Contains-in a (leaves_of n (is_flagged flags)) leaf) some) in
       absurd (let none : there.0 < 0 = there.1 in omega arith))
       (λ none. omega arith)
       (cases_lt 0 (p a))) in
       omega arith
 
   -- what is left waits
-  pub waiting-left : (new : List (ℕ × ℕ)) → IsHeap pair_cmp new → AreLeft (is_flagged flags) items new → AreKept new items →
+  pub waiting-left : (new : List (ℕ × ℕ)) → IsHeap pair_cmp new →
+      AreLeft (is_flagged flags) items new → AreKept new items →
       IsWaiting n p (is_flagged flags) new
   waiting-left new ordered left only = record {
     ordered = ordered;
@@ -79,7 +88,8 @@ module _ (n : ℕ) (p : ℕ → ℕ) (flags : List Bool) (log : List ℕ) (items
   }
 
 -- the first leaf has an error, so it can be split
-module _ (n : ℕ) (p : ℕ → ℕ) (exact : IsExactAtFinest n p) (flags : List Bool) (items : List (ℕ × ℕ)) (w : IsWaiting n p (is_flagged flags) items) where
+module _ (n : ℕ) (p : ℕ → ℕ) (exact : IsExactAtFinest n p) (flags : List Bool) (items : List (ℕ × ℕ))
+    (w : IsWaiting n p (is_flagged flags) items) where
   pub first-splittable : (r : ℕ × ℕ) → IsFirst (is_flagged flags) items r → IsSplittable n r.1
   first-splittable r f =
       let e = w.entries r f.entry in
@@ -89,13 +99,17 @@ module _ (n : ℕ) (p : ℕ → ℕ) (exact : IsExactAtFinest n p) (flags : List
 -- marks
 
 -- a new one
-pub best-mark : (n : ℕ) (p : ℕ → ℕ) (tolerance budget low least : ℕ) (flags : List Bool) (log : List ℕ) (mark : ℕ) → mark ≡ length log → HasLog n flags log →
-    IsNeededBelow n p low (is_flagged flags) → least < low → tolerance < low → worst_of p (leaves_of n (is_flagged flags)) ≡ least →
+pub best-mark : (n : ℕ) (p : ℕ → ℕ) (tolerance budget low least : ℕ) (flags : List Bool) (log : List ℕ) (mark : ℕ) →
+    mark ≡ length log → HasLog n flags log →
+    IsNeededBelow n p low (is_flagged flags) → least < low → tolerance < low →
+    worst_of p (leaves_of n (is_flagged flags)) ≡ least →
     length log + 2 ≤ budget → IsBest n p tolerance budget least log mark
 best-mark n p tolerance budget low least flags log mark at g needed less above worst few =
     let all : take mark log ≡ log = ap (λ k. take k log) at ∙ take-length log in
-    let same : (a : ℕ) → is_flagged flags a ≡ among (take mark log) a = λ a. g.logged.same a ∙ ap (λ (l : List ℕ). among l a) (sym all) in
-    let leaves : leaves_of n (is_flagged flags) ≡ leaves_of n (among (take mark log)) = leaves_of-same n (is_flagged flags) (among (take mark log)) same in
+    let same : (a : ℕ) → is_flagged flags a ≡ among (take mark log) a =
+    λ a. g.logged.same a ∙ ap (λ (l : List ℕ). among l a) (sym all) in
+    let leaves : leaves_of n (is_flagged flags) ≡ leaves_of n (among (take mark log)) =
+    leaves_of-same n (is_flagged flags) (among (take mark log)) same in
     let count = counted n flags log g in
     let longer : length (leaves_of n (is_flagged flags)) ≤ budget = omega arith in
     record {
@@ -107,10 +121,12 @@ best-mark n p tolerance budget low least flags log mark at g needed less above w
     }
 
 -- an old one in a longer log
-pub best-kept : (n : ℕ) (p : ℕ → ℕ) (tolerance budget low : ℕ) (log next : List ℕ) (mark : ℕ) → Extends log next → IsBest n p tolerance budget low log mark →
+pub best-kept : (n : ℕ) (p : ℕ → ℕ) (tolerance budget low : ℕ) (log next : List ℕ) (mark : ℕ) → Extends log next →
+    IsBest n p tolerance budget low log mark →
     IsBest n p tolerance budget low next mark
 best-kept n p tolerance budget low log next mark extends b =
-    let same : take mark log ≡ take mark next = sym (ap (take mark) extends.1 ∙ take-append-le mark log extends.0 b.place) in
+    let same : take mark log ≡ take mark next =
+    sym (ap (take mark) extends.1 ∙ take-append-le mark log extends.0 b.place) in
     let longer : length next ≡ length (log ++ extends.0) = ap (λ (l : List ℕ). length l) extends.1 in
     record {
       place = (let place = b.place in let sum = length-append log extends.0 in omega arith);
@@ -122,13 +138,17 @@ best-kept n p tolerance budget low log next mark extends b =
 
 -- the split of the first leaf
 
-pub below-step : (n : ℕ) (p : ℕ → ℕ) (low : ℕ) (has next : ℕ → Bool) (t : ℕ) → IsNeededBelow n p low has → IsOuter n has t → low ≤ p t →
+pub below-step : (n : ℕ) (p : ℕ → ℕ) (low : ℕ) (has next : ℕ → Bool) (t : ℕ) → IsNeededBelow n p low has →
+    IsOuter n has t → low ≤ p t →
     IsLeastClosed n (with_triangle has t) next → IsNeededBelow n p low next
-below-step n p low has next t needed outer above least k less = needed-step n k p has next t (needed k less) outer (omega arith) least
+below-step n p low has next t needed outer above least k less =
+    needed-step n k p has next t (needed k less) outer (omega arith) least
 
 -- it makes the log longer, and there is an end to that
-pub longer-step : (n : ℕ) (flags next : List Bool) (log more : List ℕ) (t : ℕ) → HasLog n flags log → HasLog n next more → IsOuter n (is_flagged flags) t →
-    IsLeastClosed n (with_triangle (is_flagged flags) t) (is_flagged next) → (length log < length more) × (length more + 2 ≤ 2 * 4 ^ n)
+pub longer-step : (n : ℕ) (flags next : List Bool) (log more : List ℕ) (t : ℕ) → HasLog n flags log →
+    HasLog n next more → IsOuter n (is_flagged flags) t →
+    IsLeastClosed n (with_triangle (is_flagged flags) t) (is_flagged next) →
+    (length log < length more) × (length more + 2 ≤ 2 * 4 ^ n)
 longer-step n flags next log more t g h outer least =
     let one = counted n flags log g in
     let two = counted n next more h in
@@ -141,7 +161,9 @@ longer-step n flags next log more t g h outer least =
 -- the empty set has the two halves of the square as leaves
 base_leaves : (n : ℕ) → leaves_of n (among []) ≡ 2 ∷ (3 ∷ [])
 unfolding leaves_of
-base_leaves n = ap₂ (λ (x y : List ℕ). x ++ y) (leaves_under-whole (2 * n) (among []) 2 refl) (leaves_under-whole (2 * n) (among []) 3 refl)
+base_leaves n =
+    ap₂ (λ (x y : List ℕ). x ++ y) (leaves_under-whole (2 * n) (among []) 2 refl)
+    (leaves_under-whole (2 * n) (among []) 3 refl)
 
 -- addresses are small
 pub address-small : (n a : ℕ) → n ≤ 11 → IsAddress n a → (2 ≤ a) × (a < 2 ^ 24)
@@ -162,7 +184,8 @@ module _ (n : ℕ) (p : ℕ → ℕ) (flags : List Bool) (empty : (a : ℕ) → 
   start-needed low k less other s a h = absurd (both_ways (is_flagged flags a) (empty a) h)
 
   -- the two halves of the square
-  pub start-best : (tolerance budget low : ℕ) → low ≡ max (p 2) (p 3) → 2 ≤ budget → IsBest n p tolerance budget low [] 0
+  pub start-best : (tolerance budget low : ℕ) → low ≡ max (p 2) (p 3) → 2 ≤ budget →
+      IsBest n p tolerance budget low [] 0
   start-best tolerance budget low is some =
       let two : leaves_of n (among []) ≡ 2 ∷ (3 ∷ []) = base_leaves n in
       record {
@@ -173,7 +196,8 @@ module _ (n : ℕ) (p : ℕ → ℕ) (flags : List Bool) (empty : (a : ℕ) → 
         within = (let count : length (leaves_of n (among [])) ≡ 2 = ap (λ (l : List ℕ). length l) two in omega arith);
       }
 
-  pub start-waiting : (none one two : List (ℕ × ℕ)) → none ≡ [] → 1 ≤ n → IsAddress n 2 → IsAddress n 3 → IsHeap pair_cmp two → AreKept one two →
+  pub start-waiting : (none one two : List (ℕ × ℕ)) → none ≡ [] → 1 ≤ n → IsAddress n 2 → IsAddress n 3 →
+      IsHeap pair_cmp two → AreKept one two →
       (0 < p 2 → Contains one (p 2, 2)) → (0 < p 3 → Contains two (p 3, 3)) →
       ((r : ℕ × ℕ) → Contains one r → Contains none r ⊎ ((r ≡ (p 2, 2)) × (0 < p 2))) →
       ((r : ℕ × ℕ) → Contains two r → Contains one r ⊎ ((r ≡ (p 3, 3)) × (0 < p 3))) →
@@ -190,7 +214,8 @@ module _ (n : ℕ) (p : ℕ → ℕ) (flags : List Bool) (empty : (a : ℕ) → 
         record { address = upper; parent = λ big. absurd (omega arith); value = refl; some = new.1 })
         (only_two r h);
     leaves = λ a leaf some.
-        let closed : IsClosed n (is_flagged flags) = closed-same n (λ a. false) (is_flagged flags) (λ a. sym (empty a)) (nothing_closed n) in
+        let closed : IsClosed n (is_flagged flags) =
+        closed-same n (λ a. false) (is_flagged flags) (λ a. sym (empty a)) (nothing_closed n) in
         let outer : IsOuter n (is_flagged flags) a = outer-of n (is_flagged flags) a closed leaf in
         ⊎_elim
         (λ (small : a < 4). ⊎_elim
@@ -210,7 +235,8 @@ module _ (n : ℕ) (p : ℕ → ℕ) (flags : List Bool) (empty : (a : ℕ) → 
 
 -- the end
 
-module _ (n : ℕ) (p : ℕ → ℕ) (tolerance budget low : ℕ) (log : List ℕ) (mark : ℕ) (flags : List Bool) (b : IsBest n p tolerance budget low log mark)
+module _ (n : ℕ) (p : ℕ → ℕ) (tolerance budget low : ℕ) (log : List ℕ) (mark : ℕ) (flags : List Bool)
+    (b : IsBest n p tolerance budget low log mark)
     (same : (a : ℕ) → is_flagged flags a ≡ among (take mark log) a) where
   back : (a : ℕ) → among (take mark log) a ≡ is_flagged flags a
   back a = sym (same a)
@@ -231,7 +257,8 @@ module _ (n : ℕ) (p : ℕ → ℕ) (tolerance budget low : ℕ) (log : List �
       closed = closed-same n (among (take mark log)) (is_flagged flags) back b.closed;
       within = (let w = end-worst in omega arith);
     };
-    needed = λ other s a h. needed-lower n (max low tolerance) p (among (take mark log)) k below b.needed other s a (back a ∙ h);
+    needed = λ other s a h.
+        needed-lower n (max low tolerance) p (among (take mark log)) k below b.needed other s a (back a ∙ h);
   }
 
   -- where the budget was exceeded, it is a mesh of the budget
@@ -239,15 +266,19 @@ module _ (n : ℕ) (p : ℕ → ℕ) (tolerance budget low : ℕ) (log : List �
       IsBudgetMesh n budget p (leaves_of n (is_flagged flags))
   end-best over above needed many =
       budget_end n budget p (is_flagged flags) over
-      (subst (λ k. IsLeastSettled n k p (is_flagged flags)) end-worst (end-fit low (omega arith) (omega arith))) end-within (low - 1)
+      (subst (λ k. IsLeastSettled n k p (is_flagged flags)) end-worst (end-fit low (omega arith) (omega arith)))
+      end-within (low - 1)
       (let w = end-worst in omega arith) (needed (low - 1) (omega arith)) many
 
 -- what refinement finds
-pub end-found : (n : ℕ) (p : ℕ → ℕ) (tolerance budget low : ℕ) (log : List ℕ) (mark : ℕ) (flags : List Bool) (over : ℕ → Bool) →
+pub end-found : (n : ℕ) (p : ℕ →
+    ℕ) (tolerance budget low : ℕ) (log : List ℕ) (mark : ℕ) (flags : List Bool) (over : ℕ → Bool) →
     IsBest n p tolerance budget low log mark → ((a : ℕ) → is_flagged flags a ≡ among (take mark log) a) →
-    (low ≤ tolerance) ⊎ (IsNeededBelow n p low over × (budget < length (leaves_of n over))) → IsFound n tolerance budget p (is_flagged flags)
+    (low ≤ tolerance) ⊎ (IsNeededBelow n p low over × (budget < length (leaves_of n over))) →
+    IsFound n tolerance budget p (is_flagged flags)
 end-found n p tolerance budget low log mark flags over b same end =
-    let worst : low ≡ worst_of p (leaves_of n (is_flagged flags)) = end-worst n p tolerance budget low log mark flags b same in
+    let worst : low ≡ worst_of p (leaves_of n (is_flagged flags)) =
+    end-worst n p tolerance budget low log mark flags b same in
     record {
       fit = subst (λ k. IsLeastSettled n k p (is_flagged flags)) worst
           (end-fit n p tolerance budget low log mark flags b same low (omega arith) (omega arith));

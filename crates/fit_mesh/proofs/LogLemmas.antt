@@ -1,5 +1,7 @@
 -- Logs of a set: one member more, and how many there can be.
-use Rattle.std.proofs.Common.{◌≡◌, ℕ, ◌+◌, ◌<◌, ◌≤◌, inl, inr, Bool, true, false, ◌||◌, IsTrue, eqb, List, [], ◌∷◌, ◌++◌, length, take, append_assoc, refl, sym, ◌∙◌, ap, subst, arith, ⊎_elim, count_by, eq-eqb}
+use Rattle.std.proofs.Common.{◌≡◌, ℕ, ◌+◌, ◌<◌, ◌≤◌, inl, inr, Bool, true, false, ◌||◌, IsTrue, eqb, List, [], ◌∷◌}
+use Rattle.std.proofs.Common.{◌++◌, length, take, append_assoc, refl, sym, ◌∙◌, ap, subst, arith, ⊎_elim, count_by}
+use Rattle.std.proofs.Common.{eq-eqb}
 use Rattle.std.specs.List.{AllByRecursion, IsDistinct, range_with_len}
 use Rattle.std.proofs.lemmas.List.{append-nil, length-take-le}
 use Rattle.std.proofs.lemmas.List.FromFn.{length-range_with_len}
@@ -7,7 +9,8 @@ use Rattle.std.proofs.lemmas.Bool.{or_cases, both_ways, eqb-true, cases_Bool, ca
 use Rattle.mesh_defs.specs.ClosedSet.{IsSubset, among}
 use Rattle.mesh_defs.specs.Greedy.{with_triangle}
 use Rattle.mesh_defs.proofs.TestLemmas.{or_none}
-use Rattle.mesh_defs.proofs.ListLemmas.{one_if, count-cons, count-yes, count-some, one_if-no, among-in, IsIn-among, IsIn-append-left, IsIn}
+use Rattle.mesh_defs.proofs.ListLemmas.{one_if, count-cons, count-yes, count-some, one_if-no, among-in, IsIn-among}
+use Rattle.mesh_defs.proofs.ListLemmas.{IsIn-append-left, IsIn}
 use Rattle.closure_laws.proofs.SizeLemmas.{count-none}
 use Rattle.closure_laws.proofs.SetListLemmas.{length-distinct, in-range}
 use Rattle.least_laws.proofs.FlagLemmas.{flagged-past}
@@ -49,10 +52,12 @@ log-put flags next log t logged new added = record {
       (λ old.
       let one = logged.once a old in
       let other : one_if (eqb t a) ≡ 0 = one_if-no (eqb t a) (λ same.
-      both_ways (is_flagged flags t) new (logged.same t ∙ subst (λ z. among log z ≡ true) (sym (eqb-true t a same)) old)) in
+      both_ways (is_flagged flags t) new (logged.same t
+      ∙ subst (λ z. among log z ≡ true) (sym (eqb-true t a same)) old)) in
       omega arith)
       (λ (same : eqb t a ≡ true).
-      let none : count_by (λ t. eqb t a) log ≡ 0 = count-absent log a (subst (λ z. among log z ≡ false) (eqb-true t a same) (sym (logged.same t) ∙ new)) in
+      let none : count_by (λ t. eqb t a) log ≡ 0 =
+      count-absent log a (subst (λ z. among log z ≡ false) (eqb-true t a same) (sym (logged.same t) ∙ new)) in
       let one : one_if (eqb t a) ≡ 1 = ap one_if same in
       omega arith)
       (or_cases (among log a) (eqb t a) (sym (among-more log t a) ∙ h));
@@ -80,9 +85,12 @@ unfolding IsDistinct
 once-distinct [] once = tt
 once-distinct (x ∷ xs) once =
     let own = once x (among-in x (x ∷ xs) (inl refl)) in
-    let first : count_by (λ t. eqb t x) (x ∷ xs) ≡ 1 + count_by (λ t. eqb t x) xs = count-yes (λ t. eqb t x) x xs (eq-eqb x x refl) in (
+    let first : count_by (λ t. eqb t x) (x ∷ xs) ≡ 1 + count_by (λ t. eqb t x) xs =
+    count-yes (λ t. eqb t x) x xs (eq-eqb x x refl) in (
       absent-all x xs (⊎_elim
-          (λ is. let some = count-some (λ t. eqb t x) x xs (IsIn-among x xs is) (eq-eqb x x refl) in absurd (omega arith))
+          (λ is.
+          let some = count-some (λ t. eqb t x) x xs (IsIn-among x xs is) (eq-eqb x x refl) in
+          absurd (omega arith))
           (λ no. no)
           (cases_Bool (among xs x))),
       once-distinct xs (λ a h.
@@ -92,12 +100,14 @@ once-distinct (x ∷ xs) once =
     )
 
 -- a log has fewer entries than its table has flags, where one of these is not set
-pub log-room : (flags : List Bool) (log : List ℕ) (t : ℕ) → IsLog flags log → is_flagged flags t ≡ false → t < length flags → length log < length flags
+pub log-room : (flags : List Bool) (log : List ℕ) (t : ℕ) → IsLog flags log → is_flagged flags t ≡ false →
+    t < length flags → length log < length flags
 unfolding IsDistinct
 log-room flags log t logged new below =
     let places : List ℕ = range_with_len 0 (length flags) in
     let absent : among log t ≡ false = sym (logged.same t) ∙ new in
-    let most : length (t ∷ log) ≤ length places = length-distinct (t ∷ log) places (absent-all t log absent, once-distinct log logged.once) (λ a h.
+    let most : length (t ∷ log) ≤ length places =
+    length-distinct (t ∷ log) places (absent-all t log absent, once-distinct log logged.once) (λ a h.
     among-in a places (in-range 0 (length flags) a (omega arith) (⊎_elim
     (λ (same : t ≡ a). let less : a < length flags = subst (λ z. z < length flags) same below in omega arith)
     (λ there. let less = flagged-below a (logged.same a ∙ among-in a log there) in omega arith)
@@ -112,7 +122,8 @@ log-room flags log t logged new below =
         (cases_lt a (length flags))
 
 -- so there is room for one more behind the log
-pub log-below : (flags : List Bool) (room : List ℕ) (count t : ℕ) → length room ≡ length flags → count ≤ length room → IsLog flags (take count room) →
+pub log-below : (flags : List Bool) (room : List ℕ) (count t : ℕ) → length room ≡ length flags → count ≤ length room →
+    IsLog flags (take count room) →
     is_flagged flags t ≡ false → t < length flags → count < length room
 log-below flags room count t same most logged new below =
     let size = length-take-le count room most in
@@ -129,7 +140,8 @@ pub extends-through : (one two three : List ℕ) → Extends one two → Extends
 extends-through one two three p q = (p.0 ++ q.0, q.1 ∙ ap (λ l. l ++ q.0) p.1 ∙ append_assoc one p.0 q.0)
 
 -- so the set has no less
-pub extends-subset : (flags next : List Bool) (log more : List ℕ) → IsLog flags log → IsLog next more → Extends log more →
+pub extends-subset : (flags next : List Bool) (log more : List ℕ) → IsLog flags log →
+    IsLog next more → Extends log more →
     IsSubset (is_flagged flags) (is_flagged next)
 extends-subset flags next log more before after extends a is =
     after.same a ∙ subst (λ (l : List ℕ). IsTrue (among l a)) (sym extends.1)

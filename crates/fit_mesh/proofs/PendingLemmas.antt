@@ -1,5 +1,6 @@
 -- The new leaves of a split: children of new members.
-use Rattle.std.proofs.Common.{◌≡◌, ℕ, suc, ◌%◌, ◌+◌, ◌*◌, ◌/◌, ◌^◌, ◌<◌, ◌≤◌, ◌⊎◌, inl, inr, Bool, true, false, IsTrue, List, ◌∷◌, ◌++◌, length, drop, get_or, Contains, refl, sym, ◌∙◌, ap, subst, arith, ⊎_elim}
+use Rattle.std.proofs.Common.{◌≡◌, ℕ, suc, ◌%◌, ◌+◌, ◌*◌, ◌/◌, ◌^◌, ◌<◌, ◌≤◌, ◌⊎◌, inl, inr, Bool, true, false, IsTrue}
+use Rattle.std.proofs.Common.{List, ◌∷◌, ◌++◌, length, drop, get_or, Contains, refl, sym, ◌∙◌, ap, subst, arith, ⊎_elim}
 use Rattle.std.proofs.Math.Seq.{drop-append_seam, drop-length, drop-cons}
 use Rattle.std.proofs.lemmas.Bool.{cases_lt, cases_Bool, false≢true, both_ways}
 use Rattle.std.specs.BinaryHeap.{IsHeap}
@@ -30,7 +31,8 @@ leaf-of n has a closed outer = Contains-in a (leaves_of n has) (leaf-outer n has
 
 -- after a forced split
 pub pending-init : (n : ℕ) (p : ℕ → ℕ) (old new : List Bool) (log next : List ℕ) (t : ℕ) (items : List (ℕ × ℕ)) →
-    IsClosed n (is_flagged old) → IsLog old log → IsLog new next → Extends log next → IsLeastClosed n (with_triangle (is_flagged old) t) (is_flagged new) →
+    IsClosed n (is_flagged old) → IsLog old log → IsLog new next → Extends log next →
+    IsLeastClosed n (with_triangle (is_flagged old) t) (is_flagged new) →
     IsWaiting n p (is_flagged old) items → IsPending n p (is_flagged new) (drop (length log) next) items
 pending-init n p old new log next t items closed before after extends least waiting = record {
   ordered = waiting.ordered;
@@ -51,21 +53,25 @@ pending-init n p old new log next t items closed before after extends least wait
     grows : (a : ℕ) → IsTrue (is_flagged old a) → IsTrue (is_flagged new a)
     grows a h = least.holds a (with-old (is_flagged old) t a h)
 
-    old_leaf : (a : ℕ) → IsOuter n (is_flagged new) a → (4 ≤ a → IsTrue (is_flagged old (a / 2))) → Contains (leaves_of n (is_flagged old)) a
+    old_leaf : (a : ℕ) → IsOuter n (is_flagged new) a → (4 ≤ a → IsTrue (is_flagged old (a / 2))) →
+        Contains (leaves_of n (is_flagged old)) a
     old_leaf a outer parent = leaf-of n (is_flagged old) a closed
         record { address = outer.address; outside = λ is. outer.outside (grows a is); parent = parent }
 
     fresh : (b : ℕ) → IsTrue (is_flagged new b) → is_flagged old b ≡ false → IsTrue (among (drop (length log) next) b)
     fresh b is lacks =
-        let listed : IsIn b (log ++ extends.0) = subst (λ l. IsIn b l) extends.1 (IsIn-among b next (sym (after.same b) ∙ is)) in
+        let listed : IsIn b (log ++ extends.0) =
+        subst (λ l. IsIn b l) extends.1 (IsIn-among b next (sym (after.same b) ∙ is)) in
         ⊎_elim
         (λ early. absurd (both_ways (is_flagged old b) lacks (before.same b ∙ among-in b log early)))
-        (λ late. subst (λ (l : List ℕ). IsTrue (among l b)) (sym (ap (drop (length log)) extends.1 ∙ drop-append_seam log extends.0))
+        (λ late. subst (λ (l : List ℕ). IsTrue (among l b))
+        (sym (ap (drop (length log)) extends.1 ∙ drop-append_seam log extends.0))
         (among-in b extends.0 late))
         (IsIn-append b log extends.0 listed)
 
 -- at the end none is left
-pub pending-end : (n : ℕ) (p : ℕ → ℕ) (has : ℕ → Bool) (log : List ℕ) (items : List (ℕ × ℕ)) → IsPending n p has (drop (length log) log) items →
+pub pending-end : (n : ℕ) (p : ℕ → ℕ) (has : ℕ → Bool) (log : List ℕ) (items : List (ℕ × ℕ)) →
+    IsPending n p has (drop (length log) log) items →
     IsWaiting n p has items
 pending-end n p has log items pending = record {
   ordered = pending.ordered;
@@ -80,7 +86,8 @@ pending-end n p has log items pending = record {
 pub pending-step : (n : ℕ) (p : ℕ → ℕ) (has : ℕ → Bool) (log : List ℕ) (place t : ℕ) (old new : List (ℕ × ℕ)) →
     place < length log → t ≡ get_or log place t → IsTrue (has t) → IsHeap pair_cmp new → AreKept old new →
     ((a : ℕ) → 2 ≤ a → a / 2 ≡ t → 0 < p a → Contains new (p a, a)) →
-    ((r : ℕ × ℕ) → Contains new r → Contains old r ⊎ ((r.1 / 2 ≡ t) × (4 ≤ r.1) × (r.0 ≡ p r.1) × (0 < r.0) × IsAddress n r.1)) →
+    ((r : ℕ × ℕ) → Contains new r →
+    Contains old r ⊎ ((r.1 / 2 ≡ t) × (4 ≤ r.1) × (r.0 ≡ p r.1) × (0 < r.0) × IsAddress n r.1)) →
     IsPending n p has (drop place log) old → IsPending n p has (drop (place + 1) log) new
 pending-step n p has log place t old new below at member ordered kept added only pending = record {
   ordered = ordered;
@@ -97,17 +104,21 @@ pending-step n p has log place t old new below at member ordered kept added only
       (λ there. inl (kept (p a, a) there))
       (λ late.
       let after : suc place ≡ place + 1 = omega arith in
-      let split : drop place log ≡ get_or log place t ∷ drop (place + 1) log = drop-cons log place t below ∙ ap (λ k. get_or log place t ∷ drop k log) after in
+      let split : drop place log ≡ get_or log place t ∷ drop (place + 1) log =
+      drop-cons log place t below ∙ ap (λ k. get_or log place t ∷ drop k log) after in
       ⊎_elim
       (λ (first : get_or log place t ≡ a / 2). inl (added a (omega (arith, late.0)) (sym first ∙ sym at) some))
       (λ rest. inr (late.0, among-in (a / 2) (drop (place + 1) log) rest))
-      (IsIn-among (a / 2) (get_or log place t ∷ drop (place + 1) log) (subst (λ (l : List ℕ). IsTrue (among l (a / 2))) split late.1)))
+      (IsIn-among (a / 2) (get_or log place t ∷ drop (place + 1) log)
+      (subst (λ (l : List ℕ). IsTrue (among l (a / 2))) split late.1)))
       (pending.leaves a leaf some);
 }
 
 -- the entry at a place of a log is a member
-pub listed-member : (flags : List Bool) (log : List ℕ) (place t : ℕ) → IsLog flags log → place < length log → t ≡ get_or log place t → IsTrue (is_flagged flags t)
-listed-member flags log place t logged below at = logged.same t ∙ among-in t log (IsIn-contains t log (place, below, sym at))
+pub listed-member : (flags : List Bool) (log : List ℕ) (place t : ℕ) → IsLog flags log → place < length log →
+    t ≡ get_or log place t → IsTrue (is_flagged flags t)
+listed-member flags log place t logged below at =
+    logged.same t ∙ among-in t log (IsIn-contains t log (place, below, sym at))
 
 -- a child is a triangle of the grid
 pub child-address : (n t a : ℕ) → IsSplittable n t → 2 ≤ a → a / 2 ≡ t → IsAddress n a
@@ -120,7 +131,8 @@ child-address n t a s low half =
 
 -- both children
 pub pair-added : (p : ℕ → ℕ) (t left right : ℕ) (first second : List (ℕ × ℕ)) → left ≡ 2 * t → right ≡ 2 * t + 1 →
-    (0 < p left → Contains first (p left, left)) → AreKept first second → (0 < p right → Contains second (p right, right)) →
+    (0 < p left → Contains first (p left, left)) → AreKept first second →
+    (0 < p right → Contains second (p right, right)) →
     (a : ℕ) → 2 ≤ a → a / 2 ≡ t → 0 < p a → Contains second (p a, a)
 pair-added p t left right first second is_left is_right one kept two a low half some = ⊎_elim
     (λ even.
@@ -131,18 +143,24 @@ pair-added p t left right first second is_left is_right one kept two a low half 
     subst (λ z. 0 < p z → Contains second (p z, z)) same two some)
     (cases_lt (a % 2) 1)
 
-pub pair-only : (n : ℕ) (p : ℕ → ℕ) (t left right : ℕ) (old first second : List (ℕ × ℕ)) → IsSplittable n t → left ≡ 2 * t → right ≡ 2 * t + 1 →
+pub pair-only : (n : ℕ) (p : ℕ → ℕ) (t left right : ℕ) (old first second : List (ℕ × ℕ)) → IsSplittable n t →
+    left ≡ 2 * t → right ≡ 2 * t + 1 →
     ((r : ℕ × ℕ) → Contains first r → Contains old r ⊎ ((r ≡ (p left, left)) × (0 < p left))) →
     ((r : ℕ × ℕ) → Contains second r → Contains first r ⊎ ((r ≡ (p right, right)) × (0 < p right))) →
-    (r : ℕ × ℕ) → Contains second r → Contains old r ⊎ ((r.1 / 2 ≡ t) × (4 ≤ r.1) × (r.0 ≡ p r.1) × (0 < r.0) × IsAddress n r.1)
+    (r : ℕ × ℕ) → Contains second r →
+    Contains old r ⊎ ((r.1 / 2 ≡ t) × (4 ≤ r.1) × (r.0 ≡ p r.1) × (0 < r.0) × IsAddress n r.1)
 pair-only n p t left right old first second s is_left is_right one two r h = ⊎_elim
     (λ early. ⊎_elim
     (λ older. inl older)
-    (λ (new : (r ≡ (p left, left)) × (0 < p left)). inr (subst (λ (z : ℕ × ℕ). (z.1 / 2 ≡ t) × (4 ≤ z.1) × (z.0 ≡ p z.1) × (0 < z.0) × IsAddress n z.1) (sym new.0)
-    (child left (let e : left ≡ 2 * t = is_left in omega arith) (let e : left ≡ 2 * t = is_left in let l = s.low in omega arith) new.1)))
+    (λ (new : (r ≡ (p left, left)) × (0 < p left)).
+    inr (subst (λ (z : ℕ × ℕ). (z.1 / 2 ≡ t) × (4 ≤ z.1) × (z.0 ≡ p z.1) × (0 < z.0) × IsAddress n z.1) (sym new.0)
+    (child left (let e : left ≡ 2 * t = is_left in omega arith)
+    (let e : left ≡ 2 * t = is_left in let l = s.low in omega arith) new.1)))
     (one r early))
-    (λ (new : (r ≡ (p right, right)) × (0 < p right)). inr (subst (λ (z : ℕ × ℕ). (z.1 / 2 ≡ t) × (4 ≤ z.1) × (z.0 ≡ p z.1) × (0 < z.0) × IsAddress n z.1) (sym new.0)
-    (child right (let e : right ≡ 2 * t + 1 = is_right in omega arith) (let e : right ≡ 2 * t + 1 = is_right in let l = s.low in omega arith) new.1)))
+    (λ (new : (r ≡ (p right, right)) × (0 < p right)).
+    inr (subst (λ (z : ℕ × ℕ). (z.1 / 2 ≡ t) × (4 ≤ z.1) × (z.0 ≡ p z.1) × (0 < z.0) × IsAddress n z.1) (sym new.0)
+    (child right (let e : right ≡ 2 * t + 1 = is_right in omega arith)
+    (let e : right ≡ 2 * t + 1 = is_right in let l = s.low in omega arith) new.1)))
     (two r h)
   where
     child : (a : ℕ) → a / 2 ≡ t → 4 ≤ a → 0 < p a → (a / 2 ≡ t) × (4 ≤ a) × (p a ≡ p a) × (0 < p a) × IsAddress n a

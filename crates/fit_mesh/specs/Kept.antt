@@ -14,7 +14,8 @@ pub record FitMesh : Type 0 where
 
 -- a flag for each address below the finest level, room for all finest triangles, of which the first are the mesh, the
 -- numbers of its vertices, and a heap with room for the leaves of a mesh of the budget, where that is no bound
-pub record IsKeptForFit (n budget : ℕ) (flags : List Bool) (room : List ℕ) (count : ℕ) (numbers : List ℕ) (capacity : ℕ) : Type 0 where
+pub record IsKeptForFit (n budget : ℕ) (flags : List Bool) (room : List ℕ) (count : ℕ) (numbers : List ℕ)
+    (capacity : ℕ) : Type 0 where
   pub n_low : 1 ≤ n
   pub n_high : n ≤ GREATEST_LEVEL
   pub budget_low : 2 ≤ budget

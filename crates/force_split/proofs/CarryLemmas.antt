@@ -1,5 +1,6 @@
 -- What each split of a chain asks for, and what it adds.
-use Rattle.std.proofs.Common.{◌≡◌, ◌≢◌, ap, sym, ◌∙◌, ◌⊎◌, true, ℕ, ◌+◌, ◌*◌, ◌/◌, ◌^◌, ◌<◌, ◌≤◌, refl, arith, inl, inr, ⊎_elim, subst, List, [], ◌∷◌, ◌++◌, length, get_or}
+use Rattle.std.proofs.Common.{◌≡◌, ◌≢◌, ap, sym, ◌∙◌, ◌⊎◌, true, ℕ, ◌+◌, ◌*◌, ◌/◌, ◌^◌, ◌<◌, ◌≤◌, refl, arith, inl, inr}
+use Rattle.std.proofs.Common.{⊎_elim, subst, List, [], ◌∷◌, ◌++◌, length, get_or}
 use Rattle.std.proofs.lemmas.Bool.{cases_lt, cases_Bool, true≢false}
 use Rattle.std.proofs.lemmas.Option.{IfSome_then}
 use Rattle.mesh_defs.specs.Triangle.{level_of}
@@ -20,12 +21,15 @@ pub record IsTask (n : ℕ) (pairs : List ℕ) (room splits : ℕ) (slots : List
   pub fits : chain_size pairs (numbers slots) ≤ room
   pub count : splits + chain_size pairs (numbers slots) < 2 ^ 62
 
-rest_coarse : (n : ℕ) (pairs : List ℕ) (first : Slot) (rest : List Slot) → IsChain pairs (numbers (first ∷ rest)) → level_of (address_at pairs first.0) < 2 * n → 1 ≤ length rest →
+rest_coarse : (n : ℕ) (pairs : List ℕ) (first : Slot) (rest : List Slot) → IsChain pairs (numbers (first ∷ rest)) →
+    level_of (address_at pairs first.0) < 2 * n → 1 ≤ length rest →
     level_of (address_at pairs (get_or (numbers rest) 0 0)) < 2 * n
 rest_coarse n pairs first [] chain coarse some = absurd (omega (arith, some))
-rest_coarse n pairs first (second ∷ rest) chain coarse some = next_coarse n pairs first.0 second.0 (numbers rest) chain coarse
+rest_coarse n pairs first (second ∷ rest) chain coarse some =
+    next_coarse n pairs first.0 second.0 (numbers rest) chain coarse
 
-pub rest_task : (n : ℕ) (pairs : List ℕ) (room splits : ℕ) (slots : List Slot) (first : Slot) (rest : List Slot) → slots ≡ first ∷ rest → IsTask n pairs room splits slots → IsTask n pairs room splits rest
+pub rest_task : (n : ℕ) (pairs : List ℕ) (room splits : ℕ) (slots : List Slot) (first : Slot) (rest : List Slot) →
+    slots ≡ first ∷ rest → IsTask n pairs room splits slots → IsTask n pairs room splits rest
 rest_task n pairs room splits slots first rest is task =
     let all : IsTask n pairs room splits (first ∷ rest) = subst (IsTask n pairs room splits) is task in
     let fits = all.fits in let count = all.count in
@@ -42,7 +46,8 @@ pub record IsTurn (n : ℕ) (old mid : List ℕ) (s : ℕ) : Type 0 where
   pub leaf : HasLeaf mid s
   pub level : 1 ≤ mate_of (address_at mid s) → has_children mid (mate_of (address_at mid s) / 2) ≡ true
 
-pub turn : (n : ℕ) (old mid : List ℕ) (s : ℕ) (rest : List ℕ) → IsPool n old → has_children mid 1 ≡ true → IsChain old (s ∷ rest) → IsChained n old rest (split_set mid) →
+pub turn : (n : ℕ) (old mid : List ℕ) (s : ℕ) (rest : List ℕ) → IsPool n old → has_children mid 1 ≡ true →
+    IsChain old (s ∷ rest) → IsChained n old rest (split_set mid) →
     ((r : ℕ) → IsLive old r → address_at mid r ≡ address_at old r) → IsTurn n old mid s
 turn n old mid s rest pool root chain h kept =
     let a : ℕ = address_at old s in
@@ -50,21 +55,31 @@ turn n old mid s rest pool root chain h kept =
     let same : address_at mid s ≡ a = kept s low in
     record {
       same = same;
-      leaf = record { live = omega arith; leaf = ap (has_children mid) same ∙ ⊎_elim (λ is_split. absurd (true≢false (sym (has_children-set mid a low is_split) ∙ (chained_shut n old s rest (split_set mid) pool chain h).0))) (λ shut. shut) (cases_Bool (has_children mid a)) };
+      leaf = record {
+        live = omega arith;
+        leaf = ap (has_children mid) same ∙ ⊎_elim (λ is_split. absurd (true≢false
+            (sym (has_children-set mid a low is_split) ∙ (chained_shut n old s rest (split_set mid) pool chain h).0)))
+            (λ shut. shut) (cases_Bool (has_children mid a));
+      };
       level = λ some.
           let b = mate_of-low (address_at mid s) (omega arith) some in
           ⊎_elim
           (λ top. ap (has_children mid) (let half : mate_of (address_at mid s) / 2 ≡ 1 = omega arith in half) ∙ root)
-          (λ deep. ap (λ t. has_children mid (mate_of t / 2)) same ∙ set-has_children mid (mate_of a / 2) (chained_up n old s rest (split_set mid) chain.1.0 h (let z : mate_of (address_at mid s) ≡ mate_of a = ap mate_of same in omega arith)))
+          (λ deep. ap (λ t. has_children mid (mate_of t / 2)) same
+          ∙ set-has_children mid (mate_of a / 2) (chained_up n old s rest (split_set mid) chain.1.0 h
+          (let z : mate_of (address_at mid s) ≡ mate_of a = ap mate_of same in omega arith)))
           (cases_lt (mate_of (address_at mid s)) 4);
     }
 
-pub task_step : (n : ℕ) (old mid new : List ℕ) (slots : List Slot) (first : Slot) (rest : List Slot) (room splits : ℕ) → slots ≡ first ∷ rest → IsPool n old → IsTask n old room splits slots →
-    IsChained n old (numbers rest) (split_set mid) → address_at mid first.0 ≡ address_at old first.0 → IsSplit mid new (address_at mid first.0) → IsChained n old (numbers slots) (split_set new)
+pub task_step : (n : ℕ) (old mid new : List ℕ) (slots : List Slot) (first : Slot) (rest : List Slot) (room splits : ℕ) →
+    slots ≡ first ∷ rest → IsPool n old → IsTask n old room splits slots →
+    IsChained n old (numbers rest) (split_set mid) → address_at mid first.0 ≡ address_at old first.0 →
+    IsSplit mid new (address_at mid first.0) → IsChained n old (numbers slots) (split_set new)
 task_step n old mid new slots first rest room splits is pool task h same split =
     let all : IsTask n old room splits (first ∷ rest) = subst (IsTask n old room splits) is task in
     subst (λ t. IsChained n old (numbers t) (split_set new)) (sym is)
-    (chained_step n old first.0 (numbers rest) (split_set mid) (split_set new) pool all.chain (all.coarse (omega arith)) h
+    (chained_step n old first.0 (numbers rest) (split_set mid) (split_set new) pool all.chain
+    (all.coarse (omega arith)) h
     (subst (IsSplit mid new) same split).grown)
 
 -- ---- the answers
@@ -81,40 +96,64 @@ born_new (other ∷ answers) born r h = inr (born_new answers born r h)
 -- ---- the size of a chain
 
 diamond_small : (a : ℕ) → diamond_size a ≤ 2
-diamond_small a = ⊎_elim (λ few. let one = size_one a (let none : mate_of a ≡ 0 = omega arith in none) in omega arith) (λ some. let two = size_two a some in omega arith) (cases_lt (mate_of a) 1)
+diamond_small a =
+    ⊎_elim (λ few. let one = size_one a (let none : mate_of a ≡ 0 = omega arith in none) in omega arith)
+    (λ some. let two = size_two a some in omega arith) (cases_lt (mate_of a) 1)
 
 pub size_small : (pairs : List ℕ) (slots : List Slot) → chain_size pairs (numbers slots) ≤ 2 * length slots
 size_small pairs [] = omega arith
-size_small pairs (s ∷ rest) = let one = diamond_small (address_at pairs s.0) in let more = size_small pairs rest in omega arith
+size_small pairs (s ∷ rest) =
+    let one = diamond_small (address_at pairs s.0) in
+    let more = size_small pairs rest in
+    omega arith
 
 -- ---- which slots the answers hold
 
-children_kept : (mid new : List ℕ) (a : ℕ) (pair : Slot × Slot) → 1 ≤ a → ((r : ℕ) → IsLive mid r → address_at new r ≡ address_at mid r) → AreChildren mid a pair → AreChildren new a pair
-children_kept mid new a pair low kept h = let x = h.0 in let y = h.1 in (kept pair.0.0 (omega arith) ∙ h.0, kept pair.1.0 (omega arith) ∙ h.1)
+children_kept : (mid new : List ℕ) (a : ℕ) (pair : Slot × Slot) → 1 ≤ a →
+    ((r : ℕ) → IsLive mid r → address_at new r ≡ address_at mid r) → AreChildren mid a pair → AreChildren new a pair
+children_kept mid new a pair low kept h =
+    let x = h.0 in
+    let y = h.1 in
+    (kept pair.0.0 (omega arith) ∙ h.0, kept pair.1.0 (omega arith) ∙ h.1)
 
-answer_kept : (old mid new : List ℕ) (s : ℕ) (born : Born) → IsLive old s → ((r : ℕ) → IsLive mid r → address_at new r ≡ address_at mid r) → IsAnswer old mid s born → IsAnswer old new s born
+answer_kept : (old mid new : List ℕ) (s : ℕ) (born : Born) → IsLive old s →
+    ((r : ℕ) → IsLive mid r → address_at new r ≡ address_at mid r) → IsAnswer old mid s born → IsAnswer old new s born
 answer_kept old mid new s born live kept h = record {
   first = children_kept mid new (address_at old s) born.first (omega arith) kept h.first;
-  second = IfSome_then born.second h.second (λ pair v. (v.0, children_kept mid new (mate_of (address_at old s)) pair v.0 kept v.1));
+  second = IfSome_then born.second h.second
+      (λ pair v. (v.0, children_kept mid new (mate_of (address_at old s)) pair v.0 kept v.1));
   alone = h.alone;
 }
 
 -- later splits leave the answers as they are
-answers_kept : (old mid new slots : List ℕ) (answers : List Born) → IsChain old slots → ((r : ℕ) → IsLive mid r → address_at new r ≡ address_at mid r) → AreAnswers old mid slots answers →
+answers_kept : (old mid new slots : List ℕ) (answers : List Born) → IsChain old slots →
+    ((r : ℕ) → IsLive mid r → address_at new r ≡ address_at mid r) → AreAnswers old mid slots answers →
     AreAnswers old new slots answers
 answers_kept old mid new [] answers chain kept h = h
-answers_kept old mid new (s ∷ rest) answers chain kept h =
-    (h.0, h.1, h.2, answers_kept old mid new rest h.0 chain.1.1 kept h.3, answer_kept old mid new s h.1 chain.0.live kept h.4)
+answers_kept old mid new (s ∷ rest) answers chain kept h = (
+  h.0,
+  h.1,
+  h.2,
+  answers_kept old mid new rest h.0 chain.1.1 kept h.3,
+  answer_kept old mid new s h.1 chain.0.live kept h.4,
+)
 
 pub no_answers : (old new : List ℕ) (slots : List Slot) → length slots ≡ 0 → AreAnswers old new (numbers slots) []
 no_answers old new [] none = refl
 no_answers old new (s ∷ rest) none = absurd (omega (arith, none))
 
-pub answers_step : (old mid new : List ℕ) (slots : List Slot) (first : Slot) (rest : List Slot) (more : List Born) (born : Born) → slots ≡ first ∷ rest → IsChain old (numbers slots) →
-    AreAnswers old mid (numbers rest) more → ((r : ℕ) → IsLive mid r → address_at new r ≡ address_at mid r) → address_at mid first.0 ≡ address_at old first.0 →
+pub answers_step : (old mid new : List ℕ) (slots : List Slot) (first : Slot) (rest : List Slot) (more : List Born)
+    (born : Born) → slots ≡ first ∷ rest → IsChain old (numbers slots) →
+    AreAnswers old mid (numbers rest) more → ((r : ℕ) → IsLive mid r → address_at new r ≡ address_at mid r) →
+    address_at mid first.0 ≡ address_at old first.0 →
     IsBirth mid new (address_at mid first.0) born → AreAnswers old new (numbers slots) (more ++ (born ∷ []))
 answers_step old mid new slots first rest more born is chain before kept same birth =
     let all : IsChain old (numbers (first ∷ rest)) = subst (λ x. IsChain old (numbers x)) is chain in
     let own : IsBirth mid new (address_at old first.0) born = subst (λ a. IsBirth mid new a born) same birth in
-    subst (λ x. AreAnswers old new (numbers x) (more ++ (born ∷ []))) (sym is)
-    (more, born, refl, answers_kept old mid new (numbers rest) more all.1.1 kept before, record { first = own.first; second = own.second; alone = own.alone })
+    subst (λ x. AreAnswers old new (numbers x) (more ++ (born ∷ []))) (sym is) (
+      more,
+      born,
+      refl,
+      answers_kept old mid new (numbers rest) more all.1.1 kept before,
+      record { first = own.first; second = own.second; alone = own.alone },
+    )

@@ -12,7 +12,8 @@ use Rattle.triangle_pool.specs.Answer.{AreChildren, IsBorn}
 -- itself, or there is none.
 abbrev pub IsNextInChain : List ℕ → ℕ → List ℕ → Type 0
 IsNextInChain pairs s [] = IsMateLive pairs (address_at pairs s)
-IsNextInChain pairs s (t ∷ _) = (1 ≤ mate_of (address_at pairs s)) × (address_at pairs t ≡ mate_of (address_at pairs s) / 2)
+IsNextInChain pairs s (t ∷ _) =
+    (1 ≤ mate_of (address_at pairs s)) × (address_at pairs t ≡ mate_of (address_at pairs s) / 2)
 
 -- a chain: leaves, each followed by the one that must be split before it
 abbrev pub IsChain : List ℕ → List ℕ → Type 0
@@ -52,11 +53,13 @@ IsBornOf (born ∷ others) r = IsBorn born r ⊎ IsBornOf others r
 -- the answer to the split of slot s: the slots of the children of its triangle, and of its mate's where it has one
 pub record IsAnswer (old new : List ℕ) (s : ℕ) (born : Born) : Type 0 where
   pub first : AreChildren new (address_at old s) born.first
-  pub second : IfSome born.second (λ pair. (1 ≤ mate_of (address_at old s)) × AreChildren new (mate_of (address_at old s)) pair)
+  pub second : IfSome born.second (λ pair. (1 ≤ mate_of (address_at old s))
+      × AreChildren new (mate_of (address_at old s)) pair)
   pub alone : IsNone born.second → mate_of (address_at old s) ≡ 0
 
 -- one answer a slot, that of the last slot first
 abbrev pub AreAnswers : List ℕ → List ℕ → List ℕ → List Born → Type 0
 AreAnswers old new [] answers = answers ≡ []
 AreAnswers old new (s ∷ rest) answers =
-    (before : List Born) × (born : Born) × (answers ≡ before ++ (born ∷ [])) × AreAnswers old new rest before × IsAnswer old new s born
+    (before : List Born) × (born : Born) × (answers ≡ before ++ (born ∷ [])) × AreAnswers old new rest before
+    × IsAnswer old new s born

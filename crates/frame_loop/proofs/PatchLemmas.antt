@@ -1,5 +1,6 @@
 -- Changes of vertices by triangles that were split or merged.
-use Rattle.std.proofs.Common.{◌≡◌, ◌≢◌, ◌⊎◌, ◌^◌, ℕ, Bool, List, All, Contains, map, get_or, sym, ◌∙◌, ap, subst, arith, ⊎_elim, inl, inr, Option, Some, None, MatchOption, Bor}
+use Rattle.std.proofs.Common.{◌≡◌, ◌≢◌, ◌⊎◌, ◌^◌, ℕ, Bool, List, All, Contains, map, get_or, sym, ◌∙◌, ap, subst, arith}
+use Rattle.std.proofs.Common.{⊎_elim, inl, inr, Option, Some, None, MatchOption, Bor}
 use Rattle.std.proofs.lemmas.List.{get_or-map, length-map}
 use Rattle.std.proofs.lemmas.List.Elements.{All-map}
 use Rattle.mesh_defs.specs.declared.point.Point.{Point}
@@ -56,7 +57,8 @@ changes_told n before after changed closed too splittable covered = record {
 }
 
 -- Numbers of leaves before are those of a set that a log tells the differences from, where it is known.
-pub known_before : (n m : ℕ) (before after : ℕ → Bool) (numbers leaves : List ℕ) (log : Option (List ℕ)) (found : Option (Bor (List ℕ))) →
+pub known_before : (n m : ℕ) (before after : ℕ →
+    Bool) (numbers leaves : List ℕ) (log : Option (List ℕ)) (found : Option (Bor (List ℕ))) →
     m ≡ n → IsClosed n before → numbers ≡ numbers_of n leaves → leaves ≡ leaves_of n before →
     ((a : ℕ) → (before a ≡ after a) ⊎ IsListed log a) → MatchOption found (log ≡ None) (λ list. log ≡ Some list.now) →
     IfSome found (λ list. AreNumbersBefore m leaves numbers after list.now)

@@ -32,10 +32,18 @@ still_after before after note done = record {
   counters = record { most = refl; splits_rose = omega arith; merges_rose = omega arith };
   run = record { run = begin; finished = rw (done.state) done.run.finished };
   frame = rw (done.state) done.frame;
-  sparing = record { size = refl; no_merge = λ sub. refl; no_split = λ sub. refl; bound = λ ranking chosen loose ranked closure are. omega arith };
+  sparing = record {
+    size = refl;
+    no_merge = λ sub. refl;
+    no_split = λ sub. refl;
+    bound = λ ranking chosen loose ranked closure are. omega arith;
+  };
   most_asked = λ ranking chosen best all_open ranked closure each. omega arith;
   least_asked = same_asked (seen_of after.mesh) after.evaluations;
-  stamps = λ a entry. (subst (λ (k : ℕ). is_due k (stamp_of after.mesh a) ≡ false) (sym done.odometer) (done.stamps a entry).0, inl refl);
+  stamps = λ a entry. (
+    subst (λ (k : ℕ). is_due k (stamp_of after.mesh a) ≡ false) (sym done.odometer) (done.stamps a entry).0,
+    inl refl,
+  );
   triangles = rw (done.state) done.triangles;
   vertices = rw (done.state) done.vertices;
   inside = rw (done.state) done.inside;
@@ -44,7 +52,8 @@ still_after before after note done = record {
 }
 
 -- and so has the one after that
-pub still_on : (e : EngineState) (note : FrameNote) → IsStill e note → IsStill (record e { frames = e.frames + 1; changes = no_changes }) note
+pub still_on : (e : EngineState) (note : FrameNote) → IsStill e note →
+    IsStill (record e { frames = e.frames + 1; changes = no_changes }) note
 still_on e note is = record {
   state = refl;
   most = refl;
@@ -65,7 +74,8 @@ still_on e note is = record {
 }
 
 -- an engine after a frame that does nothing
-pub still_engine : (e : EngineState) → IsEngine e → e.frames < 1000000 → IsEngine (record e { frames = e.frames + 1; changes = no_changes })
+pub still_engine : (e : EngineState) → IsEngine e → e.frames < 1000000 →
+    IsEngine (record e { frames = e.frames + 1; changes = no_changes })
 still_engine e is more =
     let evaluations = is.evaluation_count in
     let splits = is.split_count in
@@ -91,6 +101,8 @@ still_engine e is more =
     }
 
 -- a frame comes through closed sets, and from such a set no merge is of a diamond that holds a chosen triangle
-pub spared : (n budget : ℕ) (priority : ℕ → ℕ) (start last : List ℕ) → IsGridSet n start → IsFalling n priority → SparesChosen n budget priority start last
+pub spared : (n budget : ℕ) (priority : ℕ → ℕ) (start last : List ℕ) → IsGridSet n start → IsFalling n priority →
+    SparesChosen n budget priority start last
 spared n budget priority start last set falls ranking chosen ranked closure before after added removed reached =
-    merge_spares n budget priority ranking chosen (among last) before after ranked falls closure (run_set n budget priority start before added removed set reached)
+    merge_spares n budget priority ranking chosen (among last) before after ranked falls closure
+    (run_set n budget priority start before added removed set reached)

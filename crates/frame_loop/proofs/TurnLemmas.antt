@@ -1,5 +1,6 @@
 -- Planes that turn: what keeps its priority, and what lies below a triangle whose mark is settled.
-use Rattle.std.proofs.Common.{◌≡◌, ℕ, ◌+◌, ◌*◌, ◌/◌, ◌%◌, ◌<◌, ◌≤◌, ◌⊎◌, true, false, inl, inr, List, refl, sym, ◌∙◌, ap, subst, arith, ⊎_elim}
+use Rattle.std.proofs.Common.{◌≡◌, ℕ, ◌+◌, ◌*◌, ◌/◌, ◌%◌, ◌<◌, ◌≤◌, ◌⊎◌, true, false, inl, inr, List, refl, sym, ◌∙◌}
+use Rattle.std.proofs.Common.{ap, subst, arith, ⊎_elim}
 use Rattle.std.proofs.lemmas.Bool.{cases_lt, true≢false, false≢true}
 use Rattle.mesh_defs.specs.declared.mark.Mark.{Mark}
 use Rattle.mesh_defs.specs.declared.mark.Mark.TheVariants.{Inside, Cut, Outside}
@@ -31,15 +32,18 @@ pub record IsPassedOn (n : ℕ) (mark : ℕ → Mark) (m : Mark) : Type 0 where
   pub right : (a : ℕ) → IsSplittable n a → mark a ≡ m → mark (2 * a + 1) ≡ m
 
 -- all of the grid that lies below has it
-passed_down : (n : ℕ) (mark : ℕ → Mark) (m : Mark) → IsPassedOn n mark m → (t a : ℕ) → IsUnder t a → level_of a ≤ 2 * n → mark t ≡ m → mark a ≡ m
+passed_down : (n : ℕ) (mark : ℕ → Mark) (m : Mark) → IsPassedOn n mark m → (t a : ℕ) → IsUnder t a →
+    level_of a ≤ 2 * n → mark t ≡ m → mark a ≡ m
 passed_down n mark m passes t a self level is = is
 passed_down n mark m passes t a (below x deep u) level is =
     let up = level_of-parent x deep in
     let half = passed_down n mark m passes t (x / 2) u (omega arith) is in
     let split : IsSplittable n (x / 2) = record { low = omega arith; coarse = omega arith } in
     ⊎_elim
-    (λ (even : x % 2 < 1). subst (λ z. mark z ≡ m) (let e : 2 * (x / 2) ≡ x = omega arith in e) (passes.left (x / 2) split half))
-    (λ (odd : 1 ≤ x % 2). subst (λ z. mark z ≡ m) (let e : 2 * (x / 2) + 1 ≡ x = omega arith in e) (passes.right (x / 2) split half))
+    (λ (even : x % 2 < 1).
+    subst (λ z. mark z ≡ m) (let e : 2 * (x / 2) ≡ x = omega arith in e) (passes.left (x / 2) split half))
+    (λ (odd : 1 ≤ x % 2). subst (λ z. mark z ≡ m) (let e : 2 * (x / 2) + 1 ≡ x = omega arith in
+    e) (passes.right (x / 2) split half))
     (cases_lt (x % 2) 1)
 
 both_settled : (m k : Mark) → is_settled m k ≡ true → ((m ≡ Inside) × (k ≡ Inside)) ⊎ ((m ≡ Outside) × (k ≡ Outside))
@@ -57,13 +61,17 @@ no_turn : (m k l : Mark) → is_turn l l ≡ false → m ≡ l → k ≡ l → i
 no_turn m k l none first second = ap (λ z. is_turn z k) first ∙ ap (is_turn l) second ∙ none
 
 -- nothing that lies below a triangle whose marks are settled is turned
-pub settled_below : (n : ℕ) (before after : ℕ → Mark) → IsPassedOn n before Inside → IsPassedOn n after Inside → IsPassedOn n before Outside → IsPassedOn n after Outside →
-    (t : ℕ) → is_settled (before t) (after t) ≡ true → (a : ℕ) → is_at_or_below t a ≡ true → level_of a ≤ 2 * n → is_turn (before a) (after a) ≡ false
+pub settled_below : (n : ℕ) (before after : ℕ → Mark) → IsPassedOn n before Inside → IsPassedOn n after Inside →
+    IsPassedOn n before Outside → IsPassedOn n after Outside →
+    (t : ℕ) → is_settled (before t) (after t) ≡ true → (a : ℕ) → is_at_or_below t a ≡ true → level_of a ≤ 2 * n →
+    is_turn (before a) (after a) ≡ false
 settled_below n before after inside inside_after outside outside_after t settled a under level =
     let u = under-true t a under in
     ⊎_elim
-    (λ both. no_turn (before a) (after a) Inside refl (passed_down n before Inside inside t a u level both.0) (passed_down n after Inside inside_after t a u level both.1))
-    (λ both. no_turn (before a) (after a) Outside refl (passed_down n before Outside outside t a u level both.0) (passed_down n after Outside outside_after t a u level both.1))
+    (λ both. no_turn (before a) (after a) Inside refl (passed_down n before Inside inside t a u level both.0)
+    (passed_down n after Inside inside_after t a u level both.1))
+    (λ both. no_turn (before a) (after a) Outside refl (passed_down n before Outside outside t a u level both.0)
+    (passed_down n after Outside outside_after t a u level both.1))
     (both_settled (before t) (after t) settled)
 
 -- ---- priorities
@@ -84,7 +92,8 @@ pub IsSamePriority-unturned : (o : SceneState) (planes : List ViewPlane) (a : �
     IsSamePriority o (seen_within planes o) a
 unfolding priority_of
 IsSamePriority-unturned o planes a none to =
-    seen_same (mark_under o o.view.planes a) (mark_under o planes a) (thickness_of o.grid.n o.grid.heights a) (distance_of (box_of o.grid.n o.grid.heights o.view.spacing a) to) none
+    seen_same (mark_under o o.view.planes a) (mark_under o planes a) (thickness_of o.grid.n o.grid.heights a)
+    (distance_of (box_of o.grid.n o.grid.heights o.view.spacing a) to) none
 
 -- ---- engines
 
@@ -92,7 +101,8 @@ IsSamePriority-unturned o planes a none to =
 pub planes_engine : (o other : SceneState) (planes : List ViewPlane) (budget most : ℕ) (before after : MeshState)
     (odometer frames evaluations : ℕ) (changes : LeafChanges) →
     other ≡ seen_within planes o → IsExpired before after (is_turned o planes) →
-    IsEngine (engine_of o budget most before odometer frames evaluations changes) → IsEngine (engine_of other budget most after odometer frames evaluations changes)
+    IsEngine (engine_of o budget most before odometer frames evaluations changes) →
+    IsEngine (engine_of other budget most after odometer frames evaluations changes)
 planes_engine o other planes budget most before after odometer frames evaluations changes same is engine =
     subst (λ (z : SceneState). IsEngine (engine_of z budget most after odometer frames evaluations changes)) (sym same)
     (edited_engine (engine_of o budget most before odometer frames evaluations changes)

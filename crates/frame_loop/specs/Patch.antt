@@ -11,7 +11,8 @@ use Rattle.leaf_list.specs.List.{IsCovered}
 abbrev pub change_of : ℕ → (ℕ → Bool) → ℕ → VertexChange
 change_of n has a = record { point = centre_of n a; shown = has a }
 
--- the leaves and the numbers of their vertices are those of a closed set that differs from this one by triangles of the list alone
+-- the leaves and the numbers of their vertices are those of a closed set that differs from this one by triangles of the
+-- list alone
 pub record AreNumbersBefore (n : ℕ) (leaves numbers : List ℕ) (after : ℕ → Bool) (changed : List ℕ) : Type 0 where
   pub before : ℕ → Bool
   pub closed : IsClosed n before

@@ -1,5 +1,6 @@
 -- No diamond that holds a chosen triangle is merged, and each split is of a chosen triangle.
-use Rattle.std.proofs.Common.{◌≡◌, ℕ, ◌+◌, ◌<◌, ◌≤◌, ◌⊎◌, ◌||◌, inl, inr, Bool, IsTrue, List, length, take, get_or, refl, sym, ◌∙◌, ap, subst, arith, ⊎_elim}
+use Rattle.std.proofs.Common.{◌≡◌, ℕ, ◌+◌, ◌<◌, ◌≤◌, ◌⊎◌, ◌||◌, inl, inr, Bool, IsTrue, List, length, take, get_or}
+use Rattle.std.proofs.Common.{refl, sym, ◌∙◌, ap, subst, arith, ⊎_elim}
 use Rattle.std.proofs.lemmas.Bool.{cases_lt, cases_Bool, cases_eq, both_ways, or_left, or_right, or_cases}
 use Rattle.mesh_defs.specs.Triangle.{IsAddress, IsMate}
 use Rattle.mesh_defs.specs.ClosedSet.{IsClosed, IsSubset, among}
@@ -15,36 +16,44 @@ use Rattle.closure_laws.specs.Order.{RanksNoLater}
 use Rattle.closure_laws.specs.Diamond.{IsInDiamond, CanMerge}
 use Rattle.frame_steps.specs.Lead.{IsLead}
 use Rattle.closure_laws.proofs.FirstLeafLemmas.{prefix_subset, fewer_leaves, zeros_hold, earlier_place, exceeds}
-use Rattle.frame_steps.specs.Steps.{IsSplitStep, MustMerge, too_many, makes_room, needless, IsMergeStep, HoldsChosen, AreLoose}
+use Rattle.frame_steps.specs.Steps.{IsSplitStep, MustMerge, too_many, makes_room, needless, IsMergeStep, HoldsChosen}
+use Rattle.frame_steps.specs.Steps.{AreLoose}
 use Rattle.closure_laws.proofs.DiamondLemmas.{mate_or_none, without_diamond, without_diamond-closed}
 use Rattle.closure_laws.proofs.ChangeLemmas.{forced_subset, union_closed}
 use Rattle.closure_laws.proofs.SetListLemmas.{entries_without}
-use Rattle.closure_laws.proofs.OrderLemmas.{before-no_later, no_later-le, no_later_back, no_later_other, no_later_before, ranks_no_later}
+use Rattle.closure_laws.proofs.OrderLemmas.{before-no_later, no_later-le, no_later_back, no_later_other}
+use Rattle.closure_laws.proofs.OrderLemmas.{no_later_before, ranks_no_later}
 use Rattle.bintree_laws.proofs.CentreLemmas.{mate_unique}
 use Rattle.frame_steps.proofs.LeadLemmas.{lead_first, leads_hold}
 
 -- whether a diamond holds a chosen triangle
-pub holds_chosen : (n : ℕ) (ranking : List ℕ) (chosen a : ℕ) → IsAddress n a → HoldsChosen n ranking chosen a ⊎ (HoldsChosen n ranking chosen a → ⊥)
+pub holds_chosen : (n : ℕ) (ranking : List ℕ) (chosen a : ℕ) → IsAddress n a →
+    HoldsChosen n ranking chosen a ⊎ (HoldsChosen n ranking chosen a → ⊥)
 holds_chosen n ranking chosen a address = ⊎_elim
     (λ own. inl record { triangle = a; in_diamond = inl refl; is_chosen = own })
     (λ not_own. ⊎_elim
     (λ (found : (m : ℕ) × IsMate n a m). ⊎_elim
     (λ across. inl record { triangle = found.0; in_diamond = inr found.1; is_chosen = across })
-    (λ not_across. inr (λ h. by_case h.triangle h.is_chosen (λ same. both_ways (among (take chosen ranking) a) not_own (subst (λ z. IsTrue (among (take chosen ranking) z)) same h.is_chosen))
+    (λ not_across. inr (λ h. by_case h.triangle h.is_chosen (λ same. both_ways (among (take chosen ranking) a) not_own
+    (subst (λ z. IsTrue (among (take chosen ranking) z)) same h.is_chosen))
     (λ mate. both_ways (among (take chosen ranking) found.0) not_across
-    (subst (λ z. IsTrue (among (take chosen ranking) z)) (mate_unique n a h.triangle found.0 address mate found.1) h.is_chosen)) h.in_diamond))
+    (subst (λ z. IsTrue (among (take chosen ranking) z))
+    (mate_unique n a h.triangle found.0 address mate found.1) h.is_chosen)) h.in_diamond))
     (cases_Bool (among (take chosen ranking) found.0)))
-    (λ none. inr (λ h. by_case h.triangle h.is_chosen (λ same. both_ways (among (take chosen ranking) a) not_own (subst (λ z. IsTrue (among (take chosen ranking) z)) same h.is_chosen))
+    (λ none. inr (λ h. by_case h.triangle h.is_chosen (λ same. both_ways (among (take chosen ranking) a) not_own
+    (subst (λ z. IsTrue (among (take chosen ranking) z)) same h.is_chosen))
     (λ mate. none h.triangle mate) h.in_diamond))
     (mate_or_none n a address))
     (cases_Bool (among (take chosen ranking) a))
   where
-    by_case : (c : ℕ) → IsTrue (among (take chosen ranking) c) → (c ≡ a → ⊥) → (IsMate n a c → ⊥) → IsInDiamond n a c → ⊥
+    by_case : (c : ℕ) → IsTrue (among (take chosen ranking) c) → (c ≡ a → ⊥) →
+        (IsMate n a c → ⊥) → IsInDiamond n a c → ⊥
     by_case c prefix first second (inl same) = first same
     by_case c prefix first second (inr mate) = second mate
 
 -- the members of a closed set whose diamond holds no chosen triangle are a list
-pub loose_of : (n : ℕ) (ranking : List ℕ) (chosen : ℕ) (members : List ℕ) → IsGridSet n members → (loose : List ℕ) × AreLoose n ranking chosen members loose
+pub loose_of : (n : ℕ) (ranking : List ℕ) (chosen : ℕ) (members : List ℕ) → IsGridSet n members →
+    (loose : List ℕ) × AreLoose n ranking chosen members loose
 loose_of n ranking chosen members set =
     let r = entries_without (HoldsChosen n ranking chosen) members set.ascending (λ a i.
     holds_chosen n ranking chosen a (IsAddress-splittable n a (set.closed.splittable a (among-in a members i)))) in (
@@ -59,7 +68,8 @@ loose_of n ranking chosen members set =
     )
 
 module _ (n budget : ℕ) (priority : ℕ → ℕ) (ranking : List ℕ) (chosen : ℕ) (best : ℕ → Bool)
-    (ranked : IsRanking n priority ranking) (falling : IsFalling n priority) (closure : IsRankClosure n budget ranking chosen best) where
+    (ranked : IsRanking n priority ranking) (falling : IsFalling n priority)
+    (closure : IsRankClosure n budget ranking chosen best) where
   -- c is one of the chosen triangles
   abbrev pub IsChosen : ℕ → Type 0
   IsChosen c = IsTrue (among (take chosen ranking) c)
@@ -70,11 +80,14 @@ module _ (n budget : ℕ) (priority : ℕ → ℕ) (ranking : List ℕ) (chosen 
 
   -- and what stands at an early place is chosen
   place_chosen : (i c : ℕ) → i < chosen → i < length ranking → get_or ranking i 0 ≡ c → IsChosen c
-  place_chosen i c less within is = subst IsChosen is (among-in (get_or ranking i 0) (take chosen ranking) (prefix_in chosen i ranking less within))
+  place_chosen i c less within is =
+      subst IsChosen is (among-in (get_or ranking i 0) (take chosen ranking) (prefix_in chosen i ranking less within))
 
   -- a chosen triangle has a positive priority
   chosen_positive : (c : ℕ) → IsChosen c → 0 < priority c
-  chosen_positive c h = let p = chosen_place c h in subst (λ z. 0 < priority z) p.3 (entry n priority ranking ranked falling p.0 p.2).1
+  chosen_positive c h =
+      let p = chosen_place c h in
+      subst (λ z. 0 < priority z) p.3 (entry n priority ranking ranked falling p.0 p.2).1
 
   -- what ranks no later than a chosen triangle is chosen
   pub chosen_before : (a c : ℕ) → IsAddress n a → IsChosen c → RanksNoLater priority a c → IsChosen a
@@ -83,7 +96,8 @@ module _ (n budget : ℕ) (priority : ℕ → ℕ) (ranking : List ℕ) (chosen 
       (λ (differ : a ≡ c → ⊥).
       let before : RanksBefore priority a c = no_later_other no_later differ in
       let p = chosen_place c h in
-      let q = earlier_place n priority ranking ranked falling p.0 a p.2 address (subst (λ z. RanksBefore priority a z) (sym p.3) before) in
+      let q = earlier_place n priority ranking ranked falling p.0 a p.2 address
+      (subst (λ z. RanksBefore priority a z) (sym p.3) before) in
       place_chosen q.0 a (let b = p.1 in let d = q.1 in omega arith) q.2 q.3)
       (cases_eq a c)
 
@@ -95,7 +109,8 @@ module _ (n budget : ℕ) (priority : ℕ → ℕ) (ranking : List ℕ) (chosen 
     is : get_or ranking place 0 ≡ f
     early : HoldsBelow has ranking place
 
-  first_leaf_cases : (has : ℕ → Bool) (f : ℕ) → IsClosed n has → IsFirstLeaf n priority has f → IsChosen f ⊎ IsBehind has f
+  first_leaf_cases : (has : ℕ → Bool) (f : ℕ) → IsClosed n has → IsFirstLeaf n priority has f →
+      IsChosen f ⊎ IsBehind has f
   first_leaf_cases has f closed first =
       let found = first_is_missing n priority ranking ranked falling has closed f first in
       let m : HasMissing has ranking = found.0 in
@@ -106,7 +121,8 @@ module _ (n budget : ℕ) (priority : ℕ → ℕ) (ranking : List ℕ) (chosen 
 
   -- then the chosen ones are members
   behind_hold : (has : ℕ → Bool) (f : ℕ) → IsBehind has f → IsSubset (among (take chosen ranking)) has
-  behind_hold has f b = prefix_subset has ranking chosen (λ i less within. let late = b.late in b.early i (omega arith) within)
+  behind_hold has f b =
+      prefix_subset has ranking chosen (λ i less within. let late = b.late in b.early i (omega arith) within)
 
   -- and rank before it
   behind_before : (has : ℕ → Bool) (f c : ℕ) → IsBehind has f → IsChosen c → RanksBefore priority c f
@@ -120,7 +136,8 @@ module _ (n budget : ℕ) (priority : ℕ → ℕ) (ranking : List ℕ) (chosen 
   -- splits
 
   -- each split is of a chosen triangle
-  pub split_is_chosen : (before after : List ℕ) → IsClosed n (among before) → (step : IsSplitStep n budget priority before after) → IsChosen step.leaf
+  pub split_is_chosen : (before after : List ℕ) → IsClosed n (among before) →
+      (step : IsSplitStep n budget priority before after) → IsChosen step.leaf
   split_is_chosen before after closed step = ⊎_elim
       (λ h. h)
       (λ (b : IsBehind (among before) step.leaf).
@@ -128,13 +145,15 @@ module _ (n budget : ℕ) (priority : ℕ → ℕ) (ranking : List ℕ) (chosen 
       let within = b.within in
       let fits = step.fits in
       let all : HoldsBelow (among after) ranking (chosen + 1) = λ i less inside. ⊎_elim
-      (λ early. step.forced.least.holds (get_or ranking i 0) (with-old (among before) step.leaf (get_or ranking i 0) (b.early i early inside)))
+      (λ early. step.forced.least.holds (get_or ranking i 0)
+      (with-old (among before) step.leaf (get_or ranking i 0) (b.early i early inside)))
       (λ last.
       let e : b.place ≡ i = omega arith in
       let same : step.leaf ≡ get_or ranking i 0 = sym b.is ∙ ap (λ z. get_or ranking z 0) e in
       subst (λ z. IsTrue (among after z)) same (step.forced.least.holds step.leaf (with-new (among before) step.leaf)))
       (cases_lt i b.place) in
-      let over = exceeds n priority ranking ranked falling budget chosen best closure (among after) step.forced.least.closed (omega arith) all in
+      let over = exceeds n priority ranking ranked falling budget chosen best closure
+      (among after) step.forced.least.closed (omega arith) all in
       absurd (omega arith))
       (first_leaf_cases (among before) step.leaf closed step.first)
 
@@ -146,13 +165,16 @@ module _ (n budget : ℕ) (priority : ℕ → ℕ) (ranking : List ℕ) (chosen 
       (forced_subset n before step.leaf (among after) (λ z. among before z || best z) step.forced.least
       (union_closed n (among before) best closed closure.closure.closed)
       (λ b i. or_left (among before b) (best b) i)
-      (or_right (among before step.leaf) (best step.leaf) (closure.closure.holds step.leaf (split_is_chosen before after closed step)))
+      (or_right (among before step.leaf) (best step.leaf)
+      (closure.closure.holds step.leaf (split_is_chosen before after closed step)))
       a h)
 
   -- merges
 
-  -- in a closed set between the chosen triangles and the rank closure each diamond that can be merged holds a chosen one
-  mergeable_holds : (before : List ℕ) → IsAscending before → IsClosed n (among before) → IsSubset (among (take chosen ranking)) (among before) →
+  -- in a closed set between the chosen triangles and the rank closure each diamond that can be merged holds a chosen
+  -- one
+  mergeable_holds : (before : List ℕ) → IsAscending before → IsClosed n (among before) →
+      IsSubset (among (take chosen ranking)) (among before) →
       IsSubset (among before) best → (d : ℕ) → CanMerge n (among before) d → HoldsChosen n ranking chosen d
   mergeable_holds before ascending closed all sub d can =
       let address : IsAddress n d = IsAddress-splittable n d (closed.splittable d can.member) in
@@ -162,17 +184,20 @@ module _ (n budget : ℕ) (priority : ℕ → ℕ) (ranking : List ℕ) (chosen 
       let w = without_diamond n before d ascending address in
       let shut = without_diamond-closed n before d w.0 closed can w.1 in
       let inside = closure.closure.least (among w.0) shut
-      (λ c h. (w.1.members c).1 (all c h, λ i. none record { triangle = c; in_diamond = i; is_chosen = h })) d (sub d can.member) in
+      (λ c h. (w.1.members c).1 (all c h, λ i. none record { triangle = c; in_diamond = i; is_chosen = h })) d
+      (sub d can.member) in
       absurd (((w.1.members d).0 inside).1 (inl refl)))
       (holds_chosen n ranking chosen d address)
 
   -- the lead ranks no later than the chosen triangle of its diamond
-  lead_no_later : (has : ℕ → Bool) (d : ℕ) → IsClosed n has → IsLead n priority has d → (h : HoldsChosen n ranking chosen d) →
+  lead_no_later : (has : ℕ → Bool) (d : ℕ) → IsClosed n has → IsLead n priority has d →
+      (h : HoldsChosen n ranking chosen d) →
       RanksNoLater priority d h.triangle
   lead_no_later has d closed lead h = lead_first n priority has closed d h.triangle lead h.in_diamond
 
   -- a set within the rank closure loses nothing
-  pub inside_no_merge : (before after : List ℕ) → IsAscending before → IsClosed n (among before) → IsSubset (among before) best →
+  pub inside_no_merge : (before after : List ℕ) → IsAscending before → IsClosed n (among before) →
+      IsSubset (among before) best →
       IsMergeStep n budget priority before after → ⊥
   inside_no_merge before after ascending closed sub step = by_case step.must
     where
@@ -186,12 +211,14 @@ module _ (n budget : ℕ) (priority : ℕ → ℕ) (ranking : List ℕ) (chosen 
       by_case (too_many over) = let fits = fewer_leaves n (among before) best budget sub closure.fits in omega arith
       by_case (makes_room f within no_room later) = ⊎_elim
           (λ h.
-          let inner = forced_subset n before f (among no_room.after) best no_room.forced.least closure.closure.closed sub (closure.closure.holds f h) in
+          let inner = forced_subset n before f
+          (among no_room.after) best no_room.forced.least closure.closure.closed sub (closure.closure.holds f h) in
           let fits = fewer_leaves n (among no_room.after) best budget inner closure.fits in
           let over = no_room.over in omega arith)
           (λ (b : IsBehind (among before) f).
           let h = held (behind_hold (among before) f b) in
-          no_later_back (before-no_later (no_later_before (no_later h) (behind_before (among before) f h.triangle b h.is_chosen))) later)
+          no_later_back (before-no_later (no_later_before (no_later h)
+          (behind_before (among before) f h.triangle b h.is_chosen))) later)
           (first_leaf_cases (among before) f closed no_room.first)
       by_case (needless within zeros none) =
           let all = zeros_hold n priority ranking ranked falling (among before) closed zeros in
@@ -201,11 +228,14 @@ module _ (n budget : ℕ) (priority : ℕ → ℕ) (ranking : List ℕ) (chosen 
           omega arith
 
   -- a lead that ranks no later than a chosen triangle is chosen
-  lead_chosen : (has : ℕ → Bool) (d c : ℕ) → IsClosed n has → IsLead n priority has d → IsChosen c → RanksNoLater priority d c → IsChosen d
-  lead_chosen has d c closed lead h order = chosen_before d c (IsAddress-splittable n d (closed.splittable d lead.mergeable.member)) h order
+  lead_chosen : (has : ℕ → Bool) (d c : ℕ) → IsClosed n has → IsLead n priority has d → IsChosen c →
+      RanksNoLater priority d c → IsChosen d
+  lead_chosen has d c closed lead h order =
+      chosen_before d c (IsAddress-splittable n d (closed.splittable d lead.mergeable.member)) h order
 
   -- no diamond that holds a chosen triangle is merged
-  pub merge_spares_chosen : (before after : List ℕ) → IsAscending before → IsClosed n (among before) → (step : IsMergeStep n budget priority before after) →
+  pub merge_spares_chosen : (before after : List ℕ) → IsAscending before → IsClosed n (among before) →
+      (step : IsMergeStep n budget priority before after) →
       HoldsChosen n ranking chosen step.diamond → ⊥
   merge_spares_chosen before after ascending closed step h =
       let own = lead_chosen (among before) step.diamond h.triangle closed step.last.lead h.is_chosen

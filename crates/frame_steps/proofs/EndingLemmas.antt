@@ -9,7 +9,8 @@ use Rattle.mesh_defs.specs.Falling.{IsFalling}
 use Rattle.closure_laws.proofs.SetListLemmas.{count-no_more, count-less}
 use Rattle.frame_steps.specs.Steps.{IsSplitStep, IsMergeStep, IsFinished, StepRun, begin, split, merge}
 use Rattle.frame_steps.proofs.ChosenLemmas.{split_is_chosen}
-use Rattle.frame_steps.proofs.RunLemmas.{split_set, merge_set, split_keeps, split_member, split_leaf_outside, merge_shorter, merge_keeps_chosen}
+use Rattle.frame_steps.proofs.RunLemmas.{split_set, merge_set, split_keeps, split_member, split_leaf_outside}
+use Rattle.frame_steps.proofs.RunLemmas.{merge_shorter, merge_keeps_chosen}
 use Rattle.frame_steps.proofs.NextLemmas.{splits, merges, ends, next}
 
 -- how many of the chosen triangles are not members
@@ -25,7 +26,8 @@ pub record HasEnd (n budget : ℕ) (priority : ℕ → ℕ) (start : List ℕ) :
   pub finished : IsFinished n budget priority last
 
 module _ (n budget : ℕ) (priority : ℕ → ℕ) (ranking : List ℕ) (chosen : ℕ) (best : ℕ → Bool)
-    (ranked : IsRanking n priority ranking) (falling : IsFalling n priority) (closure : IsRankClosure n budget ranking chosen best) where
+    (ranked : IsRanking n priority ranking) (falling : IsFalling n priority)
+    (closure : IsRankClosure n budget ranking chosen best) where
   -- a split adds a chosen triangle
   pub split_misses_less : (before after : List ℕ) → IsGridSet n before → IsSplitStep n budget priority before after →
       missing (take chosen ranking) after < missing (take chosen ranking) before
@@ -34,9 +36,11 @@ module _ (n budget : ℕ) (priority : ℕ → ℕ) (ranking : List ℕ) (chosen 
       count-less (λ c. not (among after c)) (λ c. not (among before c)) step.leaf (take chosen ranking)
       (λ c out. not_from_false (among before c) (false_from_ne_true (among before c) (λ is.
       both_ways (among after c) (not-true (among after c) out) (split_keeps n budget priority before after step c is))))
-      (IsIn-among step.leaf (take chosen ranking) (split_is_chosen n budget priority ranking chosen best ranked falling closure before after set.closed step))
+      (IsIn-among step.leaf (take chosen ranking)
+      (split_is_chosen n budget priority ranking chosen best ranked falling closure before after set.closed step))
       (not_from_true (among after step.leaf) (split_member n budget priority before after step))
-      (not_from_false (among before step.leaf) (false_from_ne_true (among before step.leaf) (split_leaf_outside n budget priority before after set step)))
+      (not_from_false (among before step.leaf)
+      (false_from_ne_true (among before step.leaf) (split_leaf_outside n budget priority before after set step)))
 
   -- a merge takes none away
   pub merge_misses_same : (before after : List ℕ) → IsGridSet n before → IsMergeStep n budget priority before after →
@@ -46,11 +50,14 @@ module _ (n budget : ℕ) (priority : ℕ → ℕ) (ranking : List ℕ) (chosen 
       count-no_more (λ c. not (among after c)) (λ c. not (among before c)) (take chosen ranking)
       (λ c i out. not_from_false (among before c) (false_from_ne_true (among before c) (λ is.
       both_ways (among after c) (not-true (among after c) out)
-      (merge_keeps_chosen n budget priority ranking chosen best ranked falling closure before after set step c (among-in c (take chosen ranking) i) is))))
+      (merge_keeps_chosen n budget priority ranking chosen best ranked falling closure before after set step c
+      (among-in c (take chosen ranking) i) is))))
 
   ends_by_size : (size misses : ℕ) → 2 ≤ budget →
-      ((start now : List ℕ) (added removed : ℕ) → StepRun n budget priority start now added removed → IsGridSet n now → missing (take chosen ranking) now < misses → HasEnd n budget priority start) →
-      (start now : List ℕ) (added removed : ℕ) → StepRun n budget priority start now added removed → IsGridSet n now → missing (take chosen ranking) now ≤ misses → length now < size →
+      ((start now : List ℕ) (added removed : ℕ) → StepRun n budget priority start now added removed → IsGridSet n now →
+      missing (take chosen ranking) now < misses → HasEnd n budget priority start) →
+      (start now : List ℕ) (added removed : ℕ) → StepRun n budget priority start now added removed → IsGridSet n now →
+      missing (take chosen ranking) now ≤ misses → length now < size →
       HasEnd n budget priority start
   ends_by_size zero misses low fewer start now added removed run set most short = absurd (omega arith)
   ends_by_size (suc size) misses low fewer start now added removed run set most short =
@@ -63,16 +70,20 @@ module _ (n budget : ℕ) (priority : ℕ → ℕ) (ranking : List ℕ) (chosen 
         | merges after step ↦ (
             let less = merge_misses_same now after set step in
             let shorter = merge_shorter n budget priority now after set step in
-            ends_by_size size misses low fewer start after added (removed + (length now - length after)) (merge now after added removed run step)
+            ends_by_size size misses low fewer start after added (removed + (length now - length after))
+            (merge now after added removed run step)
             (merge_set n budget priority now after set step) (omega arith) (omega arith))
       ]
 
   ends_by_missing : (misses : ℕ) → 2 ≤ budget →
-      (start now : List ℕ) (added removed : ℕ) → StepRun n budget priority start now added removed → IsGridSet n now → missing (take chosen ranking) now < misses → HasEnd n budget priority start
+      (start now : List ℕ) (added removed : ℕ) → StepRun n budget priority start now added removed → IsGridSet n now →
+      missing (take chosen ranking) now < misses → HasEnd n budget priority start
   ends_by_missing zero low start now added removed run set most = absurd (omega arith)
   ends_by_missing (suc misses) low start now added removed run set most =
-      ends_by_size (suc (length now)) misses low (ends_by_missing misses low) start now added removed run set (omega arith) (omega arith)
+      ends_by_size (suc (length now)) misses low (ends_by_missing misses low) start now added removed run set
+      (omega arith) (omega arith)
 
   -- from each closed set the run ends
   pub run_ends : (start : List ℕ) → IsGridSet n start → 2 ≤ budget → HasEnd n budget priority start
-  run_ends start set low = ends_by_missing (suc (missing (take chosen ranking) start)) low start start 0 0 begin set (omega arith)
+  run_ends start set low =
+      ends_by_missing (suc (missing (take chosen ranking) start)) low start start 0 0 begin set (omega arith)

@@ -1,7 +1,10 @@
 -- Plain tests of the words of steps on lists of addresses, for the worked examples: what passes a test is so.
-use Rattle.std.proofs.Common.{◌≡◌, ℕ, zero, suc, ◌+◌, ◌-◌, ◌*◌, ◌/◌, ◌%◌, ◌<◌, ◌≤◌, ◌⊎◌, ◌&&◌, ◌||◌, inl, inr, Bool, true, not, nat_eq, nat_lt, nat_le, IsTrue, List, [], ◌∷◌, take, All, refl, sym, ap, subst, arith, ⊎_elim}
+use Rattle.std.proofs.Common.{◌≡◌, ℕ, zero, suc, ◌+◌, ◌-◌, ◌*◌, ◌/◌, ◌%◌, ◌<◌, ◌≤◌, ◌⊎◌, ◌&&◌, ◌||◌, inl, inr, Bool}
+use Rattle.std.proofs.Common.{true, not, nat_eq, nat_lt, nat_le, IsTrue, List, [], ◌∷◌, take, All, refl, sym, ap, subst}
+use Rattle.std.proofs.Common.{arith, ⊎_elim}
 use Rattle.std.specs.List.{filter, list_any, list_all}
-use Rattle.std.proofs.lemmas.Bool.{both_ways, and_parts, and_from, or_cases, or_left, or_right, eqb-true, eq-eqb, ltb-true, lt-ltb, le-leb, leb-true, not-true, not_from_false, false_from_ne_true}
+use Rattle.std.proofs.lemmas.Bool.{both_ways, and_parts, and_from, or_cases, or_left, or_right, eqb-true, eq-eqb}
+use Rattle.std.proofs.lemmas.Bool.{ltb-true, lt-ltb, le-leb, leb-true, not-true, not_from_false, false_from_ne_true}
 use Rattle.mesh_defs.specs.Triangle.{level_of, IsAddress, IsSplittable, IsMate}
 use Rattle.mesh_defs.specs.ClosedSet.{IsClosed, leaves_of, among}
 use Rattle.mesh_defs.specs.Ranking.{RanksBefore}
@@ -82,7 +85,8 @@ in_grandchild (suc (suc zero)) s q t above sum (inr h) =
 in_grandchild (suc (suc (suc r))) s q t above sum (inl h) = inl (let e = h.1 in omega arith)
 in_grandchild (suc (suc (suc r))) s q t above sum (inr h) = absurd h.0
 
-from_grandchild : (P : ℕ → Type 0) (r q b : ℕ) (above : List ℕ) → r < 4 → ((m : ℕ) → IsIn m above → P m) → IsIn b (grandchild_mates r q above) →
+from_grandchild : (P : ℕ → Type 0) (r q b : ℕ) (above : List ℕ) → r < 4 → ((m : ℕ) → IsIn m above → P m) →
+    IsIn b (grandchild_mates r q above) →
     (r + b % 4 ≡ 3) × ((IsInner r × (q ≡ b / 4)) ⊎ (IsOuter r × P (b / 4)))
 from_grandchild P zero q b above less each (inl e) = (omega arith, inl (tt, omega arith))
 from_grandchild P zero q b above less each (inr i) = absurd i
@@ -119,7 +123,8 @@ diamond_at a = a ∷ mates_at (level_of a) a
 
 pub diamond-in : (n a b : ℕ) → IsAddress n a → IsInDiamond n a b → IsIn b (diamond_at a)
 diamond-in n a b address (inl same) = inl (sym same)
-diamond-in n a b address (inr mate) = inr (pair-in (level_of a) a b (pair-IsMate n a b address.low (level-le n a address) mate))
+diamond-in n a b address (inr mate) =
+    inr (pair-in (level_of a) a b (pair-IsMate n a b address.low (level-le n a address) mate))
 
 in-mates : (n a b : ℕ) → IsAddress n a → IsIn b (mates_at (level_of a) a) → IsMate n a b
 in-mates n a b address i =
@@ -133,7 +138,8 @@ in-diamond n a b address (inr i) = inr (in-mates n a b address i)
 
 abbrev fits : ℕ → List ℕ → ℕ → Bool
 fits n xs a =
-    (nat_le 2 a && nat_lt (level_of a) (2 * n)) && ((not (nat_le 4 a) || among xs (a / 2)) && list_all (among xs) (diamond_at a))
+    (nat_le 2 a && nat_lt (level_of a) (2 * n)) &&
+    ((not (nat_le 4 a) || among xs (a / 2)) && list_all (among xs) (diamond_at a))
 
 -- a list in order each of whose entries fits is a closed set
 abbrev pub is_grid_set : ℕ → List ℕ → Bool
@@ -144,7 +150,12 @@ grid_set n xs h =
     let both = and_parts (nat_le 1 n && nat_le n 11) (rises xs && list_all (fits n xs) xs) h in
     let bounds = and_parts (nat_le 1 n) (nat_le n 11) both.0 in
     let list = and_parts (rises xs) (list_all (fits n xs) xs) both.1 in
-    record { n_low = leb-true 1 n bounds.0; n_high = leb-true n 11 bounds.1; ascending = rises-ascending xs list.0; closed = closed list.1 }
+    record {
+      n_low = leb-true 1 n bounds.0;
+      n_high = leb-true n 11 bounds.1;
+      ascending = rises-ascending xs list.0;
+      closed = closed list.1;
+    }
   where
     closed : list_all (fits n xs) xs ≡ true → IsClosed n (among xs)
     closed all = record {
@@ -153,16 +164,21 @@ grid_set n xs h =
           (λ small. absurd (both_ways (nat_le 4 a) (not-true (nat_le 4 a) small) (le-leb 4 a big)))
           (λ there. there)
           (or_cases (not (nat_le 4 a)) (among xs (a / 2)) (rest a member).0);
-      mate = λ a b member mate. every-in (among xs) (diamond_at a) (rest a member).1 b (diamond-in n a b (IsAddress-splittable n a (splittable a member)) (inr mate));
+      mate = λ a b member mate. every-in (among xs) (diamond_at a) (rest a member).1 b
+          (diamond-in n a b (IsAddress-splittable n a (splittable a member)) (inr mate));
     }
       where
-        parts : (a : ℕ) → IsTrue (among xs a) → ((nat_le 2 a && nat_lt (level_of a) (2 * n)) ≡ true) × (((not (nat_le 4 a) || among xs (a / 2)) && list_all (among xs) (diamond_at a)) ≡ true)
+        parts : (a : ℕ) → IsTrue (among xs a) → ((nat_le 2 a && nat_lt (level_of a) (2 * n)) ≡ true)
+            × (((not (nat_le 4 a) || among xs (a / 2)) && list_all (among xs) (diamond_at a)) ≡ true)
         parts a member =
-            and_parts (nat_le 2 a && nat_lt (level_of a) (2 * n)) ((not (nat_le 4 a) || among xs (a / 2)) && list_all (among xs) (diamond_at a))
+            and_parts (nat_le 2 a && nat_lt (level_of a) (2 * n))
+            ((not (nat_le 4 a) || among xs (a / 2)) && list_all (among xs) (diamond_at a))
             (every-in (fits n xs) xs all a (IsIn-among a xs member))
 
-        rest : (a : ℕ) → IsTrue (among xs a) → ((not (nat_le 4 a) || among xs (a / 2)) ≡ true) × (list_all (among xs) (diamond_at a) ≡ true)
-        rest a member = and_parts (not (nat_le 4 a) || among xs (a / 2)) (list_all (among xs) (diamond_at a)) (parts a member).1
+        rest : (a : ℕ) → IsTrue (among xs a) →
+            ((not (nat_le 4 a) || among xs (a / 2)) ≡ true) × (list_all (among xs) (diamond_at a) ≡ true)
+        rest a member =
+            and_parts (not (nat_le 4 a) || among xs (a / 2)) (list_all (among xs) (diamond_at a)) (parts a member).1
 
         splittable : (a : ℕ) → IsTrue (among xs a) → IsSplittable n a
         splittable a member =
@@ -184,10 +200,12 @@ before-is priority a b h = ⊎_elim
 
 is-before : (priority : ℕ → ℕ) (a b : ℕ) → RanksBefore priority a b → is_before priority a b ≡ true
 is-before priority a b (inl more) =
-    or_left (nat_lt (priority b) (priority a)) (nat_eq (priority a) (priority b) && nat_lt a b) (lt-ltb (priority b) (priority a) more)
+    or_left (nat_lt (priority b) (priority a)) (nat_eq (priority a) (priority b) && nat_lt a b)
+    (lt-ltb (priority b) (priority a) more)
 is-before priority a b (inr tie) =
     or_right (nat_lt (priority b) (priority a)) (nat_eq (priority a) (priority b) && nat_lt a b)
-    (and_from (nat_eq (priority a) (priority b)) (nat_lt a b) (eq-eqb (priority a) (priority b) tie.0) (lt-ltb a b tie.1))
+    (and_from (nat_eq (priority a) (priority b)) (nat_lt a b)
+    (eq-eqb (priority a) (priority b) tie.0) (lt-ltb a b tie.1))
 
 -- leads
 
@@ -196,12 +214,16 @@ is_childless members a = not (among members (2 * a)) && not (among members (2 * 
 
 abbrev pub is_lead : (ℕ → ℕ) → List ℕ → ℕ → Bool
 is_lead priority members a =
-    among members a && (list_all (is_childless members) (diamond_at a) && list_all (λ b. nat_eq b a || is_before priority a b) (diamond_at a))
+    among members a && (list_all (is_childless members) (diamond_at a) && list_all
+    (λ b. nat_eq b a || is_before priority a b) (diamond_at a))
 
-pub lead-is : (n : ℕ) (priority : ℕ → ℕ) (members : List ℕ) (a : ℕ) → IsAddress n a → is_lead priority members a ≡ true → IsLead n priority (among members) a
+pub lead-is : (n : ℕ) (priority : ℕ → ℕ) (members : List ℕ) (a : ℕ) → IsAddress n a →
+    is_lead priority members a ≡ true → IsLead n priority (among members) a
 lead-is n priority members a address h =
-    let r = and_parts (among members a) (list_all (is_childless members) (diamond_at a) && list_all (λ b. nat_eq b a || is_before priority a b) (diamond_at a)) h in
-    let s = and_parts (list_all (is_childless members) (diamond_at a)) (list_all (λ b. nat_eq b a || is_before priority a b) (diamond_at a)) r.1 in
+    let r = and_parts (among members a) (list_all (is_childless members) (diamond_at a) && list_all
+    (λ b. nat_eq b a || is_before priority a b) (diamond_at a)) h in
+    let s = and_parts (list_all (is_childless members) (diamond_at a))
+    (list_all (λ b. nat_eq b a || is_before priority a b) (diamond_at a)) r.1 in
     record {
       mergeable = record {
         member = r.0;
@@ -214,27 +236,34 @@ lead-is n priority members a address h =
           (λ same. absurd (mate.other (eqb-true b a same)))
           (λ before. before-is priority a b before)
           (or_cases (nat_eq b a) (is_before priority a b)
-          (every-in (λ b. nat_eq b a || is_before priority a b) (diamond_at a) s.1 b (diamond-in n a b address (inr mate))));
+          (every-in (λ b. nat_eq b a || is_before priority a b) (diamond_at a) s.1 b
+          (diamond-in n a b address (inr mate))));
     }
 
-pub is-lead : (n : ℕ) (priority : ℕ → ℕ) (members : List ℕ) (a : ℕ) → IsAddress n a → IsLead n priority (among members) a → is_lead priority members a ≡ true
+pub is-lead : (n : ℕ) (priority : ℕ → ℕ) (members : List ℕ) (a : ℕ) → IsAddress n a →
+    IsLead n priority (among members) a → is_lead priority members a ≡ true
 is-lead n priority members a address lead =
-    and_from (among members a) (list_all (is_childless members) (diamond_at a) && list_all (λ b. nat_eq b a || is_before priority a b) (diamond_at a))
+    and_from (among members a) (list_all (is_childless members) (diamond_at a) && list_all
+    (λ b. nat_eq b a || is_before priority a b) (diamond_at a))
     lead.mergeable.member
-    (and_from (list_all (is_childless members) (diamond_at a)) (list_all (λ b. nat_eq b a || is_before priority a b) (diamond_at a))
+    (and_from (list_all (is_childless members) (diamond_at a))
+    (list_all (λ b. nat_eq b a || is_before priority a b) (diamond_at a))
     (in-every (is_childless members) (diamond_at a) (λ b i.
     let c = lead.mergeable.childless b (in-diamond n a b address i) in
-    and_from (not (among members (2 * b))) (not (among members (2 * b + 1))) (not_from_false (among members (2 * b)) c.0) (not_from_false (among members (2 * b + 1)) c.1)))
+    and_from (not (among members (2 * b))) (not (among members (2 * b + 1)))
+    (not_from_false (among members (2 * b)) c.0) (not_from_false (among members (2 * b + 1)) c.1)))
     (in-every (λ b. nat_eq b a || is_before priority a b) (diamond_at a) (λ b i. ⊎_elim
     (λ (same : b ≡ a). or_left (nat_eq b a) (is_before priority a b) (eq-eqb b a same))
-    (λ (mate : IsMate n a b). or_right (nat_eq b a) (is_before priority a b) (is-before priority a b (lead.first b mate)))
+    (λ (mate : IsMate n a b). or_right (nat_eq b a) (is_before priority a b)
+    (is-before priority a b (lead.first b mate)))
     (in-diamond n a b address i))))
 
 -- d leads, and P holds of each lead
 abbrev pub each_lead : (ℕ → ℕ) → List ℕ → (ℕ → Bool) → Bool
 each_lead priority members p = list_all (λ a. not (is_lead priority members a) || p a) members
 
-each_lead-is : (n : ℕ) (priority : ℕ → ℕ) (members : List ℕ) (p : ℕ → Bool) → IsClosed n (among members) → each_lead priority members p ≡ true →
+each_lead-is : (n : ℕ) (priority : ℕ → ℕ) (members : List ℕ) (p : ℕ → Bool) → IsClosed n (among members) →
+    each_lead priority members p ≡ true →
     (a : ℕ) → IsLead n priority (among members) a → p a ≡ true
 each_lead-is n priority members p closed h a lead =
     let member = lead.mergeable.member in
@@ -242,44 +271,57 @@ each_lead-is n priority members p closed h a lead =
     ⊎_elim
     (λ none. absurd (both_ways (is_lead priority members a) (not-true (is_lead priority members a) none) is))
     (λ passes. passes)
-    (or_cases (not (is_lead priority members a)) (p a) (every-in (λ b. not (is_lead priority members b) || p b) members h a (IsIn-among a members member)))
+    (or_cases (not (is_lead priority members a)) (p a)
+    (every-in (λ b. not (is_lead priority members b) || p b) members h a (IsIn-among a members member)))
 
 abbrev pub is_last_lead : (ℕ → ℕ) → List ℕ → ℕ → Bool
-is_last_lead priority members d = is_lead priority members d && each_lead priority members (λ a. nat_eq a d || is_before priority a d)
+is_last_lead priority members d =
+    is_lead priority members d && each_lead priority members (λ a. nat_eq a d || is_before priority a d)
 
-pub last_lead : (n : ℕ) (priority : ℕ → ℕ) (members : List ℕ) (d : ℕ) → IsClosed n (among members) → is_last_lead priority members d ≡ true →
+pub last_lead : (n : ℕ) (priority : ℕ → ℕ) (members : List ℕ) (d : ℕ) → IsClosed n (among members) →
+    is_last_lead priority members d ≡ true →
     IsLastLead n priority (among members) d
 last_lead n priority members d closed h =
-    let r = and_parts (is_lead priority members d) (each_lead priority members (λ a. nat_eq a d || is_before priority a d)) h in
-    let member = (and_parts (among members d) (list_all (is_childless members) (diamond_at d) && list_all (λ b. nat_eq b d || is_before priority d b) (diamond_at d)) r.0).0 in
+    let r = and_parts (is_lead priority members d)
+    (each_lead priority members (λ a. nat_eq a d || is_before priority a d)) h in
+    let member = (and_parts (among members d) (list_all (is_childless members) (diamond_at d) && list_all
+    (λ b. nat_eq b d || is_before priority d b) (diamond_at d)) r.0).0 in
     record {
       lead = lead-is n priority members d (IsAddress-splittable n d (closed.splittable d member)) r.0;
       last = λ a lead other. ⊎_elim
           (λ same. absurd (other (eqb-true a d same)))
           (λ before. before-is priority a d before)
-          (or_cases (nat_eq a d) (is_before priority a d) (each_lead-is n priority members (λ a. nat_eq a d || is_before priority a d) closed r.1 a lead));
+          (or_cases (nat_eq a d) (is_before priority a d)
+          (each_lead-is n priority members (λ a. nat_eq a d || is_before priority a d) closed r.1 a lead));
     }
 
 -- every lead ranks before f
-pub leads_before : (n : ℕ) (priority : ℕ → ℕ) (members : List ℕ) (f : ℕ) → IsClosed n (among members) → each_lead priority members (λ a. is_before priority a f) ≡ true →
+pub leads_before : (n : ℕ) (priority : ℕ → ℕ) (members : List ℕ) (f : ℕ) → IsClosed n (among members) →
+    each_lead priority members (λ a. is_before priority a f) ≡ true →
     (d : ℕ) → IsLead n priority (among members) d → RanksBefore priority d f
-leads_before n priority members f closed h d lead = before-is priority d f (each_lead-is n priority members (λ a. is_before priority a f) closed h d lead)
+leads_before n priority members f closed h d lead =
+    before-is priority d f (each_lead-is n priority members (λ a. is_before priority a f) closed h d lead)
 
 -- every lead has a positive priority
-pub leads_positive : (n : ℕ) (priority : ℕ → ℕ) (members : List ℕ) → IsClosed n (among members) → each_lead priority members (λ a. nat_lt 0 (priority a)) ≡ true →
+pub leads_positive : (n : ℕ) (priority : ℕ → ℕ) (members : List ℕ) → IsClosed n (among members) →
+    each_lead priority members (λ a. nat_lt 0 (priority a)) ≡ true →
     (d : ℕ) → IsLead n priority (among members) d → 0 < priority d
-leads_positive n priority members closed h d lead = ltb-true 0 (priority d) (each_lead-is n priority members (λ a. nat_lt 0 (priority a)) closed h d lead)
+leads_positive n priority members closed h d lead =
+    ltb-true 0 (priority d) (each_lead-is n priority members (λ a. nat_lt 0 (priority a)) closed h d lead)
 
 -- leaves
 
 abbrev pub is_first_leaf : ℕ → (ℕ → ℕ) → List ℕ → ℕ → Bool
 is_first_leaf n priority members f =
     among (leaves_of n (among members)) f && (nat_lt 0 (priority f)
-    && list_all (λ a. nat_eq a f || (not (nat_lt 0 (priority a)) || is_before priority f a)) (leaves_of n (among members)))
+    && list_all (λ a. nat_eq a f || (not (nat_lt 0 (priority a)) || is_before priority f a))
+    (leaves_of n (among members)))
 
-pub first_leaf : (n : ℕ) (priority : ℕ → ℕ) (members : List ℕ) (f : ℕ) → is_first_leaf n priority members f ≡ true → IsFirstLeaf n priority (among members) f
+pub first_leaf : (n : ℕ) (priority : ℕ → ℕ) (members : List ℕ) (f : ℕ) → is_first_leaf n priority members f ≡ true →
+    IsFirstLeaf n priority (among members) f
 first_leaf n priority members f h =
-    let all : Bool = list_all (λ a. nat_eq a f || (not (nat_lt 0 (priority a)) || is_before priority f a)) (leaves_of n (among members)) in
+    let all : Bool = list_all (λ a. nat_eq a f || (not (nat_lt 0 (priority a)) || is_before priority f a))
+    (leaves_of n (among members)) in
     let r = and_parts (among (leaves_of n (among members)) f) (nat_lt 0 (priority f) && all) h in
     let s = and_parts (nat_lt 0 (priority f)) all r.1 in
     record {
@@ -288,19 +330,23 @@ first_leaf n priority members f h =
       first = λ a leaf some other. ⊎_elim
           (λ same. absurd (other (eqb-true a f same)))
           (λ rest. ⊎_elim
-          (λ none. absurd (both_ways (nat_lt 0 (priority a)) (not-true (nat_lt 0 (priority a)) none) (lt-ltb 0 (priority a) some)))
+          (λ none. absurd (both_ways (nat_lt 0 (priority a)) (not-true (nat_lt 0 (priority a)) none)
+          (lt-ltb 0 (priority a) some)))
           (λ before. before-is priority f a before)
           (or_cases (not (nat_lt 0 (priority a))) (is_before priority f a) rest))
           (or_cases (nat_eq a f) (not (nat_lt 0 (priority a)) || is_before priority f a)
-          (every-in (λ a. nat_eq a f || (not (nat_lt 0 (priority a)) || is_before priority f a)) (leaves_of n (among members)) s.1 a
+          (every-in (λ a. nat_eq a f || (not (nat_lt 0 (priority a)) || is_before priority f a))
+          (leaves_of n (among members)) s.1 a
           (IsIn-contains a (leaves_of n (among members)) leaf)));
     }
 
 -- two tables agree at each entry
 pub same_at_each : (f g : ℕ → ℕ) (xs : List ℕ) → list_all (λ a. nat_eq (f a) (g a)) xs ≡ true → All (λ a. f a ≡ g a) xs
-same_at_each f g xs h = All-in (λ a. f a ≡ g a) xs (λ a i. eqb-true (f a) (g a) (every-in (λ a. nat_eq (f a) (g a)) xs h a i))
+same_at_each f g xs h =
+    All-in (λ a. f a ≡ g a) xs (λ a i. eqb-true (f a) (g a) (every-in (λ a. nat_eq (f a) (g a)) xs h a i))
 
-pub zero_leaves : (priority : ℕ → ℕ) (leaves : List ℕ) → list_all (λ a. nat_eq (priority a) 0) leaves ≡ true → All (λ a. priority a ≡ 0) leaves
+pub zero_leaves : (priority : ℕ → ℕ) (leaves : List ℕ) → list_all (λ a. nat_eq (priority a) 0) leaves ≡ true →
+    All (λ a. priority a ≡ 0) leaves
 zero_leaves priority leaves h = same_at_each priority (λ a. 0) leaves h
 
 -- forced splits
@@ -309,13 +355,16 @@ zero_leaves priority leaves h = same_at_each priority (λ a. 0) leaves h
 abbrev are_linked : List ℕ → List ℕ → Bool
 are_linked known [] = true
 are_linked known (x ∷ xs) =
-    list_any (λ y. (nat_le 4 y && nat_eq (y / 2) x) || among (mates_at (level_of y) y) x) known && are_linked (x ∷ known) xs
+    list_any (λ y. (nat_le 4 y && nat_eq (y / 2) x) || among (mates_at (level_of y) y) x) known && are_linked
+    (x ∷ known) xs
 
-linked-held : (n : ℕ) (other : ℕ → Bool) (known links : List ℕ) → IsClosed n other → ((a : ℕ) → IsIn a known → IsTrue (other a)) → are_linked known links ≡ true →
+linked-held : (n : ℕ) (other : ℕ → Bool) (known links : List ℕ) → IsClosed n other →
+    ((a : ℕ) → IsIn a known → IsTrue (other a)) → are_linked known links ≡ true →
     (a : ℕ) → IsIn a links → IsTrue (other a)
 linked-held n other known [] shut held h a i = absurd i
 linked-held n other known (x ∷ xs) shut held h a i =
-    let r = and_parts (list_any (λ y. (nat_le 4 y && nat_eq (y / 2) x) || among (mates_at (level_of y) y) x) known) (are_linked (x ∷ known) xs) h in
+    let r = and_parts (list_any (λ y. (nat_le 4 y && nat_eq (y / 2) x) || among (mates_at (level_of y) y) x) known)
+    (are_linked (x ∷ known) xs) h in
     let y = Any-in (λ y. (nat_le 4 y && nat_eq (y / 2) x) || among (mates_at (level_of y) y) x) known r.0 in
     let there : IsTrue (other y.0) = held y.0 y.1 in
     let new : IsTrue (other x) = ⊎_elim
@@ -323,7 +372,8 @@ linked-held n other known (x ∷ xs) shut held h a i =
     let s = and_parts (nat_le 4 y.0) (nat_eq (y.0 / 2) x) parent in
     subst (λ z. IsTrue (other z)) (eqb-true (y.0 / 2) x s.1) (shut.parent y.0 there (leb-true 4 y.0 s.0)))
     (λ mate. shut.mate y.0 x there
-    (in-mates n y.0 x (IsAddress-splittable n y.0 (shut.splittable y.0 there)) (IsIn-among x (mates_at (level_of y.0) y.0) mate)))
+    (in-mates n y.0 x (IsAddress-splittable n y.0 (shut.splittable y.0 there))
+    (IsIn-among x (mates_at (level_of y.0) y.0) mate)))
     (or_cases (nat_le 4 y.0 && nat_eq (y.0 / 2) x) (among (mates_at (level_of y.0) y.0) x) y.2) in
     ⊎_elim
     (λ (same : x ≡ a). subst (λ z. IsTrue (other z)) same new)
@@ -337,12 +387,14 @@ is_forced n before t links after =
     (is_grid_set n after && list_all (among after) (t ∷ before))
     && (list_all (λ a. among (t ∷ before) a || among links a) after && are_linked (t ∷ []) links)
 
-pub forced : (n : ℕ) (before : List ℕ) (t : ℕ) (links after : List ℕ) → is_forced n before t links after ≡ true → IsForced n before t after
+pub forced : (n : ℕ) (before : List ℕ) (t : ℕ) (links after : List ℕ) → is_forced n before t links after ≡ true →
+    IsForced n before t after
 forced n before t links after h =
     let r = and_parts (is_grid_set n after && list_all (among after) (t ∷ before))
     (list_all (λ a. among (t ∷ before) a || among links a) after && are_linked (t ∷ []) links) h in
     let first = and_parts (is_grid_set n after) (list_all (among after) (t ∷ before)) r.0 in
-    let second = and_parts (list_all (λ a. among (t ∷ before) a || among links a) after) (are_linked (t ∷ []) links) r.1 in
+    let second =
+    and_parts (list_all (λ a. among (t ∷ before) a || among links a) after) (are_linked (t ∷ []) links) r.1 in
     let set = grid_set n after first.0 in
     let old : (a : ℕ) → IsIn a (t ∷ before) → IsTrue (with_triangle (among before) t a) = λ a i. ⊎_elim
     (λ (same : t ≡ a). subst (λ z. IsTrue (with_triangle (among before) t z)) same (with-new (among before) t))
@@ -372,14 +424,19 @@ forced n before t links after h =
 abbrev pub without : ℕ → List ℕ → List ℕ
 without d before = filter (λ b. not (among (diamond_at d) b)) before
 
-pub without_is : (n : ℕ) (before : List ℕ) (d : ℕ) → IsAscending before → IsAddress n d → IsWithoutDiamond n before d (without d before)
+pub without_is : (n : ℕ) (before : List ℕ) (d : ℕ) → IsAscending before → IsAddress n d →
+    IsWithoutDiamond n before d (without d before)
 without_is n before d ascending address = record {
   ascending = ascending-filter (λ b. not (among (diamond_at d) b)) before ascending;
   members = λ b. (
-    (λ h. let r = among-filter (λ b. not (among (diamond_at d) b)) b before h in
-        (r.0, λ i. both_ways (among (diamond_at d) b) (not-true (among (diamond_at d) b) r.1) (among-in b (diamond_at d) (diamond-in n d b address i)))),
+    (λ h. let r = among-filter (λ b. not (among (diamond_at d) b)) b before h in (
+      r.0,
+      λ i. both_ways (among (diamond_at d) b) (not-true (among (diamond_at d) b) r.1)
+          (among-in b (diamond_at d) (diamond-in n d b address i)),
+    )),
     (λ r. filter-among (λ b. not (among (diamond_at d) b)) b before r.0
-        (not_from_false (among (diamond_at d) b) (false_from_ne_true (among (diamond_at d) b) (λ k. r.1 (in-diamond n d b address (IsIn-among b (diamond_at d) k)))))),
+        (not_from_false (among (diamond_at d) b) (false_from_ne_true (among (diamond_at d) b)
+        (λ k. r.1 (in-diamond n d b address (IsIn-among b (diamond_at d) k)))))),
   );
 }
 
@@ -396,11 +453,14 @@ loose_is n ranking chosen members set = record {
     (λ h.
         let r = among-filter tight a members h in (
           r.0,
-          λ holds. both_ways (list_any (among (take chosen ranking)) (diamond_at a)) (not-true (list_any (among (take chosen ranking)) (diamond_at a)) r.1)
-              (list_any-in (among (take chosen ranking)) (diamond_at a) holds.triangle (diamond-in n a holds.triangle (address a r.0) holds.in_diamond) holds.is_chosen),
+          λ holds. both_ways (list_any (among (take chosen ranking)) (diamond_at a))
+              (not-true (list_any (among (take chosen ranking)) (diamond_at a)) r.1)
+              (list_any-in (among (take chosen ranking)) (diamond_at a) holds.triangle
+              (diamond-in n a holds.triangle (address a r.0) holds.in_diamond) holds.is_chosen),
         )),
     (λ r. filter-among tight a members r.0
-        (not_from_false (list_any (among (take chosen ranking)) (diamond_at a)) (false_from_ne_true (list_any (among (take chosen ranking)) (diamond_at a)) (λ some.
+        (not_from_false (list_any (among (take chosen ranking)) (diamond_at a))
+        (false_from_ne_true (list_any (among (take chosen ranking)) (diamond_at a)) (λ some.
         let b = Any-in (among (take chosen ranking)) (diamond_at a) some in
         r.1 record { triangle = b.0; in_diamond = in-diamond n a b.0 (address a r.0) b.1; is_chosen = b.2 })))),
   );
@@ -419,18 +479,34 @@ pub does_not_fit : (n budget : ℕ) (priority : ℕ → ℕ) (before : List ℕ)
     is_first_leaf n priority before f ≡ true → is_forced n before f links after ≡ true → budget < leaf_count n after →
     DoesNotFit n budget priority before f
 does_not_fit n budget priority before f links after first force over =
-    record { first = first_leaf n priority before f first; after = after; forced = forced n before f links after force; over = over }
+    record {
+      first = first_leaf n priority before f first;
+      after = after;
+      forced = forced n before f links after force;
+      over = over;
+    }
 
 -- f is split
-pub split_step : (n budget : ℕ) (priority : ℕ → ℕ) (before : List ℕ) (f : ℕ) (links after : List ℕ) → leaf_count n before ≤ budget →
+pub split_step : (n budget : ℕ) (priority : ℕ → ℕ) (before : List ℕ) (f : ℕ) (links after : List ℕ) →
+    leaf_count n before ≤ budget →
     is_first_leaf n priority before f ≡ true → is_forced n before f links after ≡ true → leaf_count n after ≤ budget →
     (step : IsSplitStep n budget priority before after) × (step.leaf ≡ f)
-split_step n budget priority before f links after within first force fits_in =
-    (record { leaf = f; within = within; first = first_leaf n priority before f first; forced = forced n before f links after force; fits = fits_in }, refl)
+split_step n budget priority before f links after within first force fits_in = (
+  record {
+    leaf = f;
+    within = within;
+    first = first_leaf n priority before f first;
+    forced = forced n before f links after force;
+    fits = fits_in;
+  },
+  refl,
+)
 
 -- the last diamond is merged
-pub merge_step : (n budget : ℕ) (priority : ℕ → ℕ) (before after : List ℕ) (d : ℕ) → is_grid_set n before ≡ true → is_last_lead priority before d ≡ true →
-    MustMerge n budget priority before d → without d before ≡ after → (step : IsMergeStep n budget priority before after) × (step.diamond ≡ d)
+pub merge_step : (n budget : ℕ) (priority : ℕ → ℕ) (before after : List ℕ) (d : ℕ) → is_grid_set n before ≡ true →
+    is_last_lead priority before d ≡ true →
+    MustMerge n budget priority before d → without d before ≡ after →
+    (step : IsMergeStep n budget priority before after) × (step.diamond ≡ d)
 merge_step n budget priority before after d set last must gone =
     let s = grid_set n before set in
     let l = last_lead n priority before d s.closed last in (
@@ -438,14 +514,18 @@ merge_step n budget priority before after d set last must gone =
         diamond = d;
         last = l;
         must = must;
-        merged = subst (λ z. IsWithoutDiamond n before d z) gone (without_is n before d s.ascending (IsAddress-splittable n d (s.closed.splittable d l.lead.mergeable.member)));
+        merged = subst (λ z. IsWithoutDiamond n before d z) gone (without_is n before d s.ascending
+            (IsAddress-splittable n d (s.closed.splittable d l.lead.mergeable.member)));
       },
       refl,
     )
 
 -- it makes room for f
-pub room_for : (n budget : ℕ) (priority : ℕ → ℕ) (before : List ℕ) (d f : ℕ) (links after : List ℕ) → leaf_count n before ≤ budget →
-    is_first_leaf n priority before f ≡ true → is_forced n before f links after ≡ true → budget < leaf_count n after → is_before priority f d ≡ true →
+pub room_for : (n budget : ℕ) (priority : ℕ → ℕ) (before : List ℕ) (d f : ℕ) (links after : List ℕ) →
+    leaf_count n before ≤ budget →
+    is_first_leaf n priority before f ≡ true → is_forced n before f links after ≡ true → budget < leaf_count n after →
+    is_before priority f d ≡ true →
     MustMerge n budget priority before d
 room_for n budget priority before d f links after within first force over later =
-    makes_room f within (does_not_fit n budget priority before f links after first force over) (before-is priority f d later)
+    makes_room f within (does_not_fit n budget priority before f links after first force over)
+    (before-is priority f d later)

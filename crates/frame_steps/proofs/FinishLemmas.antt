@@ -12,10 +12,13 @@ use Rattle.closure_laws.proofs.FirstLeafLemmas.{prefix_subset, subset_prefix, ze
 use Rattle.frame_steps.specs.Steps.{leaf_count, DoesNotFit, IsFinished, blocked, all_split}
 use Rattle.frame_steps.proofs.LeadLemmas.{leads_hold}
 
-module _ (n : ℕ) (priority : ℕ → ℕ) (ranking : List ℕ) (ranked : IsRanking n priority ranking) (falling : IsFalling n priority) where
+module _ (n : ℕ) (priority : ℕ → ℕ) (ranking : List ℕ) (ranked : IsRanking n priority ranking)
+    (falling : IsFalling n priority) where
   -- where the first leaf in rank does not fit and all leads rank before it
-  blocked_closure : (budget : ℕ) (members : List ℕ) (f : ℕ) → IsClosed n (among members) → leaf_count n members ≤ budget → DoesNotFit n budget priority members f →
-      ((d : ℕ) → IsLead n priority (among members) d → RanksBefore priority d f) → (chosen : ℕ) × IsRankClosure n budget ranking chosen (among members)
+  blocked_closure : (budget : ℕ) (members : List ℕ) (f : ℕ) → IsClosed n (among members) →
+      leaf_count n members ≤ budget → DoesNotFit n budget priority members f →
+      ((d : ℕ) → IsLead n priority (among members) d → RanksBefore priority d f) →
+      (chosen : ℕ) × IsRankClosure n budget ranking chosen (among members)
   blocked_closure budget members f closed within no_room leads =
       let found = first_is_missing n priority ranking ranked falling (among members) closed f no_room.first in
       let m : HasMissing (among members) ranking = found.0 in
@@ -24,7 +27,8 @@ module _ (n : ℕ) (priority : ℕ → ℕ) (ranking : List ℕ) (ranked : IsRan
         holds = prefix_subset (among members) ranking m.0 m.3;
         least = λ other shut holds. leads_hold n priority (among members) closed other shut (λ d lead.
             let address = IsAddress-splittable n d (closed.splittable d lead.mergeable.member) in
-            let p = earlier_place n priority ranking ranked falling m.0 d m.1 address (subst (λ z. RanksBefore priority d z) (sym found.1) (leads d lead)) in
+            let p = earlier_place n priority ranking ranked falling m.0 d m.1 address
+            (subst (λ z. RanksBefore priority d z) (sym found.1) (leads d lead)) in
             subst (λ z. IsTrue (other z)) p.3 (subset_prefix other ranking m.0 holds p.0 p.1 p.2));
       } in (
         m.0,
@@ -34,7 +38,8 @@ module _ (n : ℕ) (priority : ℕ → ℕ) (ranking : List ℕ) (ranked : IsRan
           fits = within;
           longest = λ k other more inside closure.
               let holds = subset_prefix other ranking k closure.holds in
-              let old = prefix.least other closure.closed (prefix_subset other ranking m.0 (λ i less b. holds i (omega arith) b)) in
+              let old = prefix.least other closure.closed
+              (prefix_subset other ranking m.0 (λ i less b. holds i (omega arith) b)) in
               let new : IsTrue (other f) = subst (λ z. IsTrue (other z)) found.1 (holds m.0 more m.1) in
               let sub = no_room.forced.least.least other closure.closed (λ a h. ⊎_elim
               (λ was. old a was)
@@ -46,15 +51,18 @@ module _ (n : ℕ) (priority : ℕ → ℕ) (ranking : List ℕ) (ranked : IsRan
       )
 
   -- where no leaf and no lead has priority 0
-  split_closure : (budget : ℕ) (members : List ℕ) → IsClosed n (among members) → leaf_count n members ≤ budget → All (λ a. priority a ≡ 0) (leaves_of n (among members)) →
-      ((d : ℕ) → IsLead n priority (among members) d → 0 < priority d) → (chosen : ℕ) × IsRankClosure n budget ranking chosen (among members)
+  split_closure : (budget : ℕ) (members : List ℕ) → IsClosed n (among members) → leaf_count n members ≤ budget →
+      All (λ a. priority a ≡ 0) (leaves_of n (among members)) →
+      ((d : ℕ) → IsLead n priority (among members) d → 0 < priority d) →
+      (chosen : ℕ) × IsRankClosure n budget ranking chosen (among members)
   split_closure budget members closed within zeros leads = (
     length ranking,
     record {
       prefix = omega arith;
       closure = record {
         closed = closed;
-        holds = prefix_subset (among members) ranking (length ranking) (zeros_hold n priority ranking ranked falling (among members) closed zeros);
+        holds = prefix_subset (among members) ranking (length ranking)
+            (zeros_hold n priority ranking ranked falling (among members) closed zeros);
         least = λ other shut holds. leads_hold n priority (among members) closed other shut (λ d lead.
             let address = IsAddress-splittable n d (closed.splittable d lead.mergeable.member) in
             let p = place_of n priority ranking ranked falling d address (leads d lead) in
@@ -66,7 +74,10 @@ module _ (n : ℕ) (priority : ℕ → ℕ) (ranking : List ℕ) (ranked : IsRan
   )
 
   -- a frame ends at the rank closure
-  pub finished_closure : (budget : ℕ) (members : List ℕ) → IsClosed n (among members) → IsFinished n budget priority members →
+  pub finished_closure : (budget : ℕ) (members : List ℕ) → IsClosed n (among members) →
+      IsFinished n budget priority members →
       (chosen : ℕ) × IsRankClosure n budget ranking chosen (among members)
-  finished_closure budget members closed (blocked f within no_room leads) = blocked_closure budget members f closed within no_room leads
-  finished_closure budget members closed (all_split within zeros leads) = split_closure budget members closed within zeros leads
+  finished_closure budget members closed (blocked f within no_room leads) =
+      blocked_closure budget members f closed within no_room leads
+  finished_closure budget members closed (all_split within zeros leads) =
+      split_closure budget members closed within zeros leads

@@ -20,7 +20,8 @@ use Rattle.frame_steps.proofs.LeadLemmas.{lead_first}
 
 -- a leaf is a triangle of the grid
 IsAddress-leaf : (n : ℕ) (members : List ℕ) (a : ℕ) → Contains (leaves_of n (among members)) a → IsAddress n a
-IsAddress-leaf n members a h = All-contains (IsAddress n) (leaves_of n (among members)) a (IsAddress-leaves_of n (among members)) h
+IsAddress-leaf n members a h =
+    All-contains (IsAddress n) (leaves_of n (among members)) a (IsAddress-leaves_of n (among members)) h
 
 module _ (w : DeferredFrame) (is : IsDeferredFrame w) where
   -- keys
@@ -57,20 +58,25 @@ module _ (w : DeferredFrame) (is : IsDeferredFrame w) where
   -- the head of the split queue
 
   -- where it is known and positive, it is the first leaf in rank
-  pub first_known : (members : List ℕ) (known : ℕ → Bool) (f : ℕ) → Contains (leaves_of w.n (among members)) f → known f ≡ true → 0 < w.priority f →
-      ((l : ℕ) → Contains (leaves_of w.n (among members)) l → IsNoLater (upper_key w known f) f (upper_key w known l) l) →
+  pub first_known : (members : List ℕ) (known : ℕ → Bool) (f : ℕ) → Contains (leaves_of w.n (among members)) f →
+      known f ≡ true → 0 < w.priority f →
+      ((l : ℕ) → Contains (leaves_of w.n (among members)) l →
+      IsNoLater (upper_key w known f) f (upper_key w known l) l) →
       IsFirstLeaf w.n w.priority (among members) f
   first_known members known f leaf is_known some first = record {
     leaf = leaf;
     positive = some;
     first = λ a listed more other.
-        let no_later : IsNoLater (upper_key w known f) f (w.priority a) a = no_later_trans (first a listed) (no_later_from (upper_key-above known a (IsAddress-leaf w.n members a listed)) (omega arith)) in
-        no_later_other (subst (λ z. IsNoLater z f (w.priority a) a) (upper_key-known known f is_known) no_later) (λ e. other (sym e));
+        let no_later : IsNoLater (upper_key w known f) f (w.priority a) a = no_later_trans (first a listed)
+        (no_later_from (upper_key-above known a (IsAddress-leaf w.n members a listed)) (omega arith)) in
+        no_later_other (subst (λ z. IsNoLater z f (w.priority a) a) (upper_key-known known f is_known) no_later)
+        (λ e. other (sym e));
   }
 
   -- where it is 0, all leaves have priority 0
   pub zero_head : (members : List ℕ) (known : ℕ → Bool) (f : ℕ) → upper_key w known f ≡ 0 →
-      ((l : ℕ) → Contains (leaves_of w.n (among members)) l → IsNoLater (upper_key w known f) f (upper_key w known l) l) →
+      ((l : ℕ) → Contains (leaves_of w.n (among members)) l →
+      IsNoLater (upper_key w known f) f (upper_key w known l) l) →
       All (λ a. w.priority a ≡ 0) (leaves_of w.n (among members))
   zero_head members known f none first = All-in (λ a. w.priority a ≡ 0) (leaves_of w.n (among members)) (λ a i.
       let leaf = Contains-in a (leaves_of w.n (among members)) i in
@@ -80,25 +86,34 @@ module _ (w : DeferredFrame) (is : IsDeferredFrame w) where
   -- the last key
 
   -- each lead ranks no later than it
-  pub lead_no_later_key : (members : List ℕ) (known : ℕ → Bool) (a c : ℕ) → IsGridSet w.n members → IsLastKey w members known a c →
+  pub lead_no_later_key : (members : List ℕ) (known : ℕ → Bool) (a c : ℕ) → IsGridSet w.n members →
+      IsLastKey w members known a c →
       (d : ℕ) → IsLead w.n w.priority (among members) d → IsNoLater (w.priority d) d (lower_key w known c) c
   lead_no_later_key members known a c set l d lead =
       let q = l.last d lead in
-      let address = IsAddress-splittable w.n q.0 (set.closed.splittable q.0 (diamond_closed w.n (among members) d q.0 set.closed lead.mergeable.member q.1)) in
+      let address = IsAddress-splittable w.n q.0
+      (set.closed.splittable q.0 (diamond_closed w.n (among members) d q.0 set.closed lead.mergeable.member q.1)) in
       no_later_trans (lead_first w.n w.priority (among members) set.closed d q.0 lead q.1)
       (no_later_trans (no_later_from (lower_key-below known q.0 address) (omega arith)) q.2)
 
   -- where it comes before f, each lead ranks before f
-  pub all_before : (members : List ℕ) (known : ℕ → Bool) (a c f : ℕ) → IsGridSet w.n members → IsLastKey w members known a c →
-      IsBefore (lower_key w known c) c (w.priority f) f → (d : ℕ) → IsLead w.n w.priority (among members) d → RanksBefore w.priority d f
-  all_before members known a c f set l before d lead = no_later_before (lead_no_later_key members known a c set l d lead) before
+  pub all_before : (members : List ℕ) (known : ℕ → Bool) (a c f : ℕ) → IsGridSet w.n members →
+      IsLastKey w members known a c →
+      IsBefore (lower_key w known c) c (w.priority f) f → (d : ℕ) → IsLead w.n w.priority (among members) d →
+      RanksBefore w.priority d f
+  all_before members known a c f set l before d lead =
+      no_later_before (lead_no_later_key members known a c set l d lead) before
 
   -- where it is positive, each lead has a positive priority
-  pub all_positive : (members : List ℕ) (known : ℕ → Bool) (a c : ℕ) → IsGridSet w.n members → IsLastKey w members known a c →
+  pub all_positive : (members : List ℕ) (known : ℕ → Bool) (a c : ℕ) → IsGridSet w.n members →
+      IsLastKey w members known a c →
       0 < lower_key w known c → (d : ℕ) → IsLead w.n w.priority (among members) d → 0 < w.priority d
-  all_positive members known a c set l some d lead = let key = no_later-le (lead_no_later_key members known a c set l d lead) in omega arith
+  all_positive members known a c set l some d lead =
+      let key = no_later-le (lead_no_later_key members known a c set l d lead) in
+      omega arith
 
 -- an entry is a triangle of the grid
-pub IsAddress-entry : (n : ℕ) (members : List ℕ) (a : ℕ) → IsGridSet n members → IsEntry n (among members) a → IsAddress n a
+pub IsAddress-entry : (n : ℕ) (members : List ℕ) (a : ℕ) → IsGridSet n members →
+    IsEntry n (among members) a → IsAddress n a
 IsAddress-entry n members a set (of_leaf h) = IsAddress-leaf n members a h
 IsAddress-entry n members a set (of_member h) = IsAddress-splittable n a (set.closed.splittable a h.member)

@@ -1,5 +1,6 @@
 -- Leads: each diamond that can be merged has one, and a closed set that holds all leads holds all members.
-use Rattle.std.proofs.Common.{◌≡◌, ℕ, zero, suc, ◌+◌, ◌*◌, ◌/◌, ◌≤◌, inl, inr, Bool, IsTrue, refl, sym, subst, arith, ⊎_elim}
+use Rattle.std.proofs.Common.{◌≡◌, ℕ, zero, suc, ◌+◌, ◌*◌, ◌/◌, ◌≤◌, inl, inr, Bool, IsTrue, refl, sym, subst, arith}
+use Rattle.std.proofs.Common.{⊎_elim}
 use Rattle.mesh_defs.specs.Triangle.{level_of, IsAddress, IsMate}
 use Rattle.mesh_defs.specs.ClosedSet.{IsClosed, IsSubset}
 use Rattle.mesh_defs.specs.Ranking.{RanksBefore}
@@ -9,7 +10,8 @@ use Rattle.tiling_laws.proofs.DescentLemmas.{IsAddress-splittable}
 use Rattle.closure_laws.specs.Order.{RanksNoLater}
 use Rattle.closure_laws.specs.Diamond.{IsInDiamond, CanMerge}
 use Rattle.closure_laws.proofs.OrderLemmas.{before_cases, before-no_later, no_later_back, ranks_no_later}
-use Rattle.closure_laws.proofs.DiamondLemmas.{mate_or_none, diamond_trans, diamond_symmetric, diamond_closed, diamond_level, ChildMember, child_or_childless}
+use Rattle.closure_laws.proofs.DiamondLemmas.{mate_or_none, diamond_trans, diamond_symmetric, diamond_closed}
+use Rattle.closure_laws.proofs.DiamondLemmas.{diamond_level, ChildMember, child_or_childless}
 use Rattle.frame_steps.specs.Lead.{IsLead}
 
 module _ (n : ℕ) (priority : ℕ → ℕ) (has : ℕ → Bool) (closed : IsClosed n has) where
@@ -35,13 +37,20 @@ module _ (n : ℕ) (priority : ℕ → ℕ) (has : ℕ → Bool) (closed : IsClo
       ⊎_elim
       (λ (same : a ≡ m). absurd (mate.other (sym same)))
       (λ order. ⊎_elim
-      (λ (first : RanksBefore priority a m).
-      (a, record { mergeable = h; first = λ b w. subst (λ z. RanksBefore priority a z) (mate_unique n a m b address mate w) first }, inl refl))
+      (λ (first : RanksBefore priority a m). (
+        a,
+        record {
+          mergeable = h;
+          first = λ b w. subst (λ z. RanksBefore priority a z) (mate_unique n a m b address mate w) first;
+        },
+        inl refl,
+      ))
       (λ (last : RanksBefore priority m a). (
         m,
         record {
           mergeable = mergeable_mate a m h mate;
-          first = λ b w. subst (λ z. RanksBefore priority m z) (mate_unique n m a b mate.address (mate_symmetric n a m address mate) w) last;
+          first = λ b w. subst (λ z. RanksBefore priority m z)
+              (mate_unique n m a b mate.address (mate_symmetric n a m address mate) w) last;
         },
         inr mate,
       ))
@@ -54,7 +63,8 @@ module _ (n : ℕ) (priority : ℕ → ℕ) (has : ℕ → Bool) (closed : IsClo
   pub lead_unique : (a b : ℕ) → IsLead n priority has a → IsLead n priority has b → IsInDiamond n a b → b ≡ a
   lead_unique a b h k (inl same) = same
   lead_unique a b h k (inr mate) =
-      absurd (no_later_back (before-no_later (h.first b mate)) (k.first a (mate_symmetric n a b (member_address a h.mergeable.member) mate)))
+      absurd (no_later_back (before-no_later (h.first b mate))
+      (k.first a (mate_symmetric n a b (member_address a h.mergeable.member) mate)))
 
   -- a lead ranks no later than its mate
   pub lead_first : (d c : ℕ) → IsLead n priority has d → IsInDiamond n d c → RanksNoLater priority d c
@@ -79,7 +89,8 @@ module _ (n : ℕ) (priority : ℕ → ℕ) (has : ℕ → Bool) (closed : IsClo
           r.1.0,
           λ other shut is.
               let over = shut.parent below.child (r.1.1 other shut is) below.big in
-              diamond_closed n other (below.child / 2) a shut over (diamond_symmetric n a (below.child / 2) address below.in_diamond),
+              diamond_closed n other (below.child / 2) a shut over
+              (diamond_symmetric n a (below.child / 2) address below.in_diamond),
         ),
       ))
       (λ childless.
@@ -92,5 +103,6 @@ module _ (n : ℕ) (priority : ℕ → ℕ) (has : ℕ → Bool) (closed : IsClo
   held_by a member = held_at (2 * n) a member (omega arith)
 
   -- a closed set that holds each lead holds all
-  pub leads_hold : (other : ℕ → Bool) → IsClosed n other → ((d : ℕ) → IsLead n priority has d → IsTrue (other d)) → IsSubset has other
+  pub leads_hold : (other : ℕ → Bool) → IsClosed n other →
+      ((d : ℕ) → IsLead n priority has d → IsTrue (other d)) → IsSubset has other
   leads_hold other shut leads a member = let r = held_by a member in r.1.1 other shut (leads r.0 r.1.0)

@@ -12,18 +12,25 @@ use Rattle.closure_laws.proofs.ExistenceLemmas.{rank_closure_of}
 
 -- the chosen triangles of a budget, which counts as at least 2
 chosen_of : ℕ → ℕ → (ℕ → ℕ) → ℕ
-chosen_of n budget priority = (rank_closure_of n (2 + (budget - 2)) priority (ranking_of n priority) (IsRanking-of n priority) (omega arith)).0
+chosen_of n budget priority =
+    (rank_closure_of n (2 + (budget - 2)) priority (ranking_of n priority) (IsRanking-of n priority) (omega arith)).0
 
 -- first the chosen triangles that are missing, and then the members
 pub steps_left : ℕ → ℕ → (ℕ → ℕ) → List ℕ → ℕ
-steps_left n budget priority members = missing (take (chosen_of n budget priority) (ranking_of n priority)) members * (2 ^ 24 + 1) + length members
+steps_left n budget priority members =
+    missing (take (chosen_of n budget priority) (ranking_of n priority)) members * (2 ^ 24 + 1) + length members
 
 -- their closure
-closure_of_chosen : (n budget : ℕ) (priority : ℕ → ℕ) → 2 ≤ budget → (has : ℕ → Bool) × IsRankClosure n budget (ranking_of n priority) (chosen_of n budget priority) has
+closure_of_chosen : (n budget : ℕ) (priority : ℕ → ℕ) → 2 ≤ budget →
+    (has : ℕ → Bool) × IsRankClosure n budget (ranking_of n priority) (chosen_of n budget priority) has
 unfolding chosen_of
 closure_of_chosen n budget priority low =
-    let r = rank_closure_of n (2 + (budget - 2)) priority (ranking_of n priority) (IsRanking-of n priority) (omega arith) in
-    (r.1, subst (λ z. IsRankClosure n z (ranking_of n priority) r.0 r.1) (let e : 2 + (budget - 2) ≡ budget = omega arith in e) r.2)
+    let r =
+    rank_closure_of n (2 + (budget - 2)) priority (ranking_of n priority) (IsRanking-of n priority) (omega arith) in (
+      r.1,
+      subst (λ z. IsRankClosure n z (ranking_of n priority) r.0 r.1)
+          (let e : 2 + (budget - 2) ≡ budget = omega arith in e) r.2,
+    )
 
 module _ (n budget : ℕ) (priority : ℕ → ℕ) (falling : IsFalling n priority) (low : 2 ≤ budget) where
   pub split_steps_left : (before after : List ℕ) → IsGridSet n before → IsSplitStep n budget priority before after →
@@ -31,7 +38,8 @@ module _ (n budget : ℕ) (priority : ℕ → ℕ) (falling : IsFalling n priori
   unfolding steps_left
   split_steps_left before after set step =
       let c = closure_of_chosen n budget priority low in
-      let less = split_misses_less n budget priority (ranking_of n priority) (chosen_of n budget priority) c.0 (IsRanking-of n priority) falling c.1 before after set step in
+      let less = split_misses_less n budget priority (ranking_of n priority) (chosen_of n budget priority) c.0
+      (IsRanking-of n priority) falling c.1 before after set step in
       let short = length-members n after (split_set n budget priority before after set step) in
       omega arith
 
@@ -40,16 +48,19 @@ module _ (n budget : ℕ) (priority : ℕ → ℕ) (falling : IsFalling n priori
   unfolding steps_left
   merge_steps_left before after set step =
       let c = closure_of_chosen n budget priority low in
-      let same = merge_misses_same n budget priority (ranking_of n priority) (chosen_of n budget priority) c.0 (IsRanking-of n priority) falling c.1 before after set step in
+      let same = merge_misses_same n budget priority (ranking_of n priority) (chosen_of n budget priority) c.0
+      (IsRanking-of n priority) falling c.1 before after set step in
       let shorter = merge_shorter n budget priority before after set step in
       omega arith
 
   -- the counts of a run fit 32 bits
-  pub run_small : (start last : List ℕ) (added removed : ℕ) → IsGridSet n start → StepRun n budget priority start last added removed →
+  pub run_small : (start last : List ℕ) (added removed : ℕ) → IsGridSet n start →
+      StepRun n budget priority start last added removed →
       (added ≤ 2 ^ 25) × (removed ≤ 2 ^ 24)
   run_small start last added removed set run =
       let c = closure_of_chosen n budget priority low in
-      let few = run_removed n budget priority (ranking_of n priority) (chosen_of n budget priority) c.0 (IsRanking-of n priority) falling c.1 start last added removed set run in
+      let few = run_removed n budget priority (ranking_of n priority) (chosen_of n budget priority) c.0
+      (IsRanking-of n priority) falling c.1 start last added removed set run in
       let first = length-members n start set in
       let second = length-members n last (run_set n budget priority start last added removed set run) in
       let size = run_size n budget priority start last added removed set run in

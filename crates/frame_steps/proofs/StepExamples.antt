@@ -2,10 +2,16 @@
 use Rattle.std.proofs.Common.{◌≡◌, ℕ, [], ◌∷◌, refl, lit≤}
 use Rattle.mesh_defs.specs.Triangle.{level_of}
 use Rattle.mesh_defs.specs.ClosedSet.{leaves_of, among}
-use Rattle.frame_steps.specs.Steps.{DoesNotFit, IsSplitStep, too_many, needless, IsMergeStep, IsFinished, blocked, all_split, begin, split, merge, IsFrameRun}
+use Rattle.frame_steps.specs.Steps.{DoesNotFit, IsSplitStep, too_many, needless, IsMergeStep, IsFinished, blocked}
+use Rattle.frame_steps.specs.Steps.{all_split, begin, split, merge, IsFrameRun}
 use Rattle.frame_steps.specs.Table.{told_by}
-use Rattle.frame_steps.specs.declared.worked_numbers.TheConstants.{FROM_UPPER_RIGHT, FIRST, WITHOUT_17, WITH_6, WITHOUT_8, WITHOUT_5, WITH_12, WITHOUT_4, SECOND, SECOND_SPLITS, SECOND_MERGES, LEFT_ALONE, WITH_4_AND_6, AND_5, LESS_6, LESS_4, AND_10, FORCED_SPLITS, FORCED_MERGES, FALLING}
-use Rattle.frame_steps.proofs.ExampleLemmas.{grid_set, does_not_fit, split_step, merge_step, room_for, leads_before, leads_positive, zero_leaves}
+use Rattle.frame_steps.specs.declared.worked_numbers.TheConstants.{FROM_UPPER_RIGHT, FIRST, WITHOUT_17, WITH_6}
+use Rattle.frame_steps.specs.declared.worked_numbers.TheConstants.{WITHOUT_8, WITHOUT_5, WITH_12, WITHOUT_4, SECOND}
+use Rattle.frame_steps.specs.declared.worked_numbers.TheConstants.{SECOND_SPLITS, SECOND_MERGES, LEFT_ALONE}
+use Rattle.frame_steps.specs.declared.worked_numbers.TheConstants.{WITH_4_AND_6, AND_5, LESS_6, LESS_4, AND_10}
+use Rattle.frame_steps.specs.declared.worked_numbers.TheConstants.{FORCED_SPLITS, FORCED_MERGES, FALLING}
+use Rattle.frame_steps.proofs.ExampleLemmas.{grid_set, does_not_fit, split_step, merge_step, room_for, leads_before}
+use Rattle.frame_steps.proofs.ExampleLemmas.{leads_positive, zero_leaves}
 
 -- two peaks: the second frame
 
@@ -14,7 +20,9 @@ peaks = told_by FROM_UPPER_RIGHT
 
 pub merge_17 : (step : IsMergeStep 2 9 peaks FIRST WITHOUT_17) × (step.diamond ≡ 17)
 unfolding level_of leaves_of
-merge_17 = merge_step 2 9 peaks FIRST WITHOUT_17 17 refl refl (room_for 2 9 peaks FIRST 17 6 ([]) (2 ∷ 3 ∷ 4 ∷ 5 ∷ 6 ∷ 8 ∷ 11 ∷ 17 ∷ []) (lit≤ tt) refl refl (lit≤ tt) refl) refl
+merge_17 =
+    merge_step 2 9 peaks FIRST WITHOUT_17 17 refl refl (room_for 2 9 peaks FIRST 17 6 ([])
+    (2 ∷ 3 ∷ 4 ∷ 5 ∷ 6 ∷ 8 ∷ 11 ∷ 17 ∷ []) (lit≤ tt) refl refl (lit≤ tt) refl) refl
 
 pub split_6 : (step : IsSplitStep 2 9 peaks WITHOUT_17 WITH_6) × (step.leaf ≡ 6)
 unfolding level_of leaves_of
@@ -22,11 +30,15 @@ split_6 = split_step 2 9 peaks WITHOUT_17 6 ([]) WITH_6 (lit≤ tt) refl refl (l
 
 pub merge_8 : (step : IsMergeStep 2 9 peaks WITH_6 WITHOUT_8) × (step.diamond ≡ 8)
 unfolding level_of leaves_of
-merge_8 = merge_step 2 9 peaks WITH_6 WITHOUT_8 8 refl refl (room_for 2 9 peaks WITH_6 8 12 (15 ∷ 7 ∷ []) (2 ∷ 3 ∷ 4 ∷ 5 ∷ 6 ∷ 7 ∷ 8 ∷ 11 ∷ 12 ∷ 15 ∷ []) (lit≤ tt) refl refl (lit≤ tt) refl) refl
+merge_8 =
+    merge_step 2 9 peaks WITH_6 WITHOUT_8 8 refl refl (room_for 2 9 peaks WITH_6 8 12 (15 ∷ 7 ∷ [])
+    (2 ∷ 3 ∷ 4 ∷ 5 ∷ 6 ∷ 7 ∷ 8 ∷ 11 ∷ 12 ∷ 15 ∷ []) (lit≤ tt) refl refl (lit≤ tt) refl) refl
 
 pub merge_5 : (step : IsMergeStep 2 9 peaks WITHOUT_8 WITHOUT_5) × (step.diamond ≡ 5)
 unfolding level_of leaves_of
-merge_5 = merge_step 2 9 peaks WITHOUT_8 WITHOUT_5 5 refl refl (room_for 2 9 peaks WITHOUT_8 5 12 (15 ∷ 7 ∷ []) (2 ∷ 3 ∷ 4 ∷ 5 ∷ 6 ∷ 7 ∷ 12 ∷ 15 ∷ []) (lit≤ tt) refl refl (lit≤ tt) refl) refl
+merge_5 =
+    merge_step 2 9 peaks WITHOUT_8 WITHOUT_5 5 refl refl (room_for 2 9 peaks WITHOUT_8 5 12 (15 ∷ 7 ∷ [])
+    (2 ∷ 3 ∷ 4 ∷ 5 ∷ 6 ∷ 7 ∷ 12 ∷ 15 ∷ []) (lit≤ tt) refl refl (lit≤ tt) refl) refl
 
 pub split_12 : (step : IsSplitStep 2 9 peaks WITHOUT_5 WITH_12) × (step.leaf ≡ 12)
 unfolding level_of leaves_of
@@ -34,7 +46,9 @@ split_12 = split_step 2 9 peaks WITHOUT_5 12 (15 ∷ 7 ∷ []) WITH_12 (lit≤ t
 
 pub merge_4 : (step : IsMergeStep 2 9 peaks WITH_12 WITHOUT_4) × (step.diamond ≡ 4)
 unfolding level_of leaves_of
-merge_4 = merge_step 2 9 peaks WITH_12 WITHOUT_4 4 refl refl (room_for 2 9 peaks WITH_12 4 25 ([]) (2 ∷ 3 ∷ 4 ∷ 6 ∷ 7 ∷ 12 ∷ 15 ∷ 25 ∷ []) (lit≤ tt) refl refl (lit≤ tt) refl) refl
+merge_4 =
+    merge_step 2 9 peaks WITH_12 WITHOUT_4 4 refl refl (room_for 2 9 peaks WITH_12 4 25 ([])
+    (2 ∷ 3 ∷ 4 ∷ 6 ∷ 7 ∷ 12 ∷ 15 ∷ 25 ∷ []) (lit≤ tt) refl refl (lit≤ tt) refl) refl
 
 pub split_25 : (step : IsSplitStep 2 9 peaks WITHOUT_4 SECOND) × (step.leaf ≡ 25)
 unfolding level_of leaves_of
@@ -50,8 +64,10 @@ peaks_finished = blocked 4 (lit≤ tt) blocked_by_4 (leads_before 2 peaks SECOND
 
 pub peaks_run : IsFrameRun 2 9 peaks FIRST SECOND SECOND_SPLITS SECOND_MERGES
 peaks_run = record {
-  run = split WITHOUT_4 SECOND 4 5 (merge WITH_12 WITHOUT_4 4 4 (split WITHOUT_5 WITH_12 1 4 (merge WITHOUT_8 WITHOUT_5 1 3 (merge WITH_6 WITHOUT_8 1 1
-      (split WITHOUT_17 WITH_6 0 1 (merge FIRST WITHOUT_17 0 0 begin merge_17.0) split_6.0) merge_8.0) merge_5.0) split_12.0) merge_4.0) split_25.0;
+  run = split WITHOUT_4 SECOND 4 5 (merge WITH_12 WITHOUT_4 4 4
+      (split WITHOUT_5 WITH_12 1 4 (merge WITHOUT_8 WITHOUT_5 1 3 (merge WITH_6 WITHOUT_8 1 1
+      (split WITHOUT_17 WITH_6 0 1 (merge FIRST WITHOUT_17 0 0 begin merge_17.0) split_6.0) merge_8.0) merge_5.0)
+      split_12.0) merge_4.0) split_25.0;
   finished = peaks_finished;
 }
 
@@ -66,11 +82,15 @@ split_5 = split_step 2 8 left WITH_4_AND_6 5 ([]) AND_5 (lit≤ tt) refl refl (l
 
 pub merge_6 : (step : IsMergeStep 2 8 left AND_5 LESS_6) × (step.diamond ≡ 6)
 unfolding level_of leaves_of
-merge_6 = merge_step 2 8 left AND_5 LESS_6 6 refl refl (room_for 2 8 left AND_5 6 10 (13 ∷ []) (2 ∷ 3 ∷ 4 ∷ 5 ∷ 6 ∷ 10 ∷ 13 ∷ []) (lit≤ tt) refl refl (lit≤ tt) refl) refl
+merge_6 =
+    merge_step 2 8 left AND_5 LESS_6 6 refl refl (room_for 2 8 left AND_5 6 10 (13 ∷ [])
+    (2 ∷ 3 ∷ 4 ∷ 5 ∷ 6 ∷ 10 ∷ 13 ∷ []) (lit≤ tt) refl refl (lit≤ tt) refl) refl
 
 pub merge_4_too : (step : IsMergeStep 2 8 left LESS_6 LESS_4) × (step.diamond ≡ 4)
 unfolding level_of leaves_of
-merge_4_too = merge_step 2 8 left LESS_6 LESS_4 4 refl refl (room_for 2 8 left LESS_6 4 10 (13 ∷ 6 ∷ []) (2 ∷ 3 ∷ 4 ∷ 5 ∷ 6 ∷ 10 ∷ 13 ∷ []) (lit≤ tt) refl refl (lit≤ tt) refl) refl
+merge_4_too =
+    merge_step 2 8 left LESS_6 LESS_4 4 refl refl (room_for 2 8 left LESS_6 4 10 (13 ∷ 6 ∷ [])
+    (2 ∷ 3 ∷ 4 ∷ 5 ∷ 6 ∷ 10 ∷ 13 ∷ []) (lit≤ tt) refl refl (lit≤ tt) refl) refl
 
 pub split_10 : (step : IsSplitStep 2 8 left LESS_4 AND_10) × (step.leaf ≡ 10)
 unfolding level_of leaves_of
@@ -83,7 +103,8 @@ left_finished = all_split (lit≤ tt) (zero_leaves left (leaves_of 2 (among AND_
 
 pub left_run : IsFrameRun 2 8 left WITH_4_AND_6 AND_10 FORCED_SPLITS FORCED_MERGES
 left_run = record {
-  run = split LESS_4 AND_10 1 2 (merge LESS_6 LESS_4 1 1 (merge AND_5 LESS_6 1 0 (split WITH_4_AND_6 AND_5 0 0 begin split_5.0) merge_6.0) merge_4_too.0) split_10.0;
+  run = split LESS_4 AND_10 1 2 (merge LESS_6 LESS_4 1 1
+      (merge AND_5 LESS_6 1 0 (split WITH_4_AND_6 AND_5 0 0 begin split_5.0) merge_6.0) merge_4_too.0) split_10.0;
   finished = left_finished;
 }
 

@@ -1,4 +1,5 @@
--- Deferred priorities: entries of the queues that keep the bounds of an earlier frame, and those that must be asked anew.
+-- Deferred priorities: entries of the queues that keep the bounds of an earlier frame, and those that must be asked
+-- anew.
 -- Source: Duchaineau et al., "ROAMing Terrain", IEEE Visualization 1997, the part on deferred priority lists; what
 -- straddles is this project's own.
 -- Words: IsEntry, IsMergedInRun, LeafStraddles, DiamondStraddles, DeferredFrame, IsDeferredFrame, IsOpen.
@@ -28,7 +29,8 @@ pub record IsMergedInRun (n budget : ℕ) (priority : ℕ → ℕ) (start : List
   pub step : IsMergeStep n budget priority before after
   pub lead : step.diamond ≡ d
 
--- A leaf straddles where its upper bound comes no later than the blocking triangle; where none blocks, where it is positive.
+-- A leaf straddles where its upper bound comes no later than the blocking triangle; where none blocks, where it is
+-- positive.
 pub record LeafStraddles (priority : ℕ → ℕ) (ranking : List ℕ) (chosen : ℕ) (upper : ℕ → ℕ) (a : ℕ) : Type 0 where
   pub before_blocking : (b : ℕ) → slice_get ranking chosen ≡ Some b → IsNoLater (upper a) a (priority b) b
   pub positive : slice_get ranking chosen ≡ None → 0 < upper a
@@ -37,9 +39,11 @@ pub record LeafStraddles (priority : ℕ → ℕ) (ranking : List ℕ) (chosen :
 -- come no earlier than a diamond that is merged in the frame.
 pub data DiamondStraddles (n budget : ℕ) (priority : ℕ → ℕ) (start : List ℕ) (lower : ℕ → ℕ) (a : ℕ) : Type 0 where
   zero_lower : ((b : ℕ) → IsInDiamond n a b → lower b ≡ 0) → DiamondStraddles n budget priority start lower a
-  after_first : (f : ℕ) → IsFirstLeaf n priority (among start) f → ((b : ℕ) → IsInDiamond n a b → IsBefore (priority f) f (lower b) b) →
+  after_first : (f : ℕ) → IsFirstLeaf n priority (among start) f →
+      ((b : ℕ) → IsInDiamond n a b → IsBefore (priority f) f (lower b) b) →
       DiamondStraddles n budget priority start lower a
-  after_merged : (d : ℕ) → IsMergedInRun n budget priority start d → ((b : ℕ) → IsInDiamond n a b → IsNoLater (priority d) d (lower b) b) →
+  after_merged : (d : ℕ) → IsMergedInRun n budget priority start d →
+      ((b : ℕ) → IsInDiamond n a b → IsNoLater (priority d) d (lower b) b) →
       DiamondStraddles n budget priority start lower a
 
 -- A frame over bounds: those of the stamps, and of a stamp taken now for what is due.
@@ -68,5 +72,7 @@ pub record IsDeferredFrame (w : DeferredFrame) : Type 0 where
 -- an entry of the start that is due, or straddles
 pub data IsOpen (w : DeferredFrame) (a : ℕ) : Type 0 where
   due_entry : IsEntry w.n (among w.start) a → w.due a ≡ true → IsOpen w a
-  open_leaf : Contains (leaves_of w.n (among w.start)) a → w.due a ≡ false → LeafStraddles w.priority w.ranking w.chosen w.upper a → IsOpen w a
-  open_member : CanMerge w.n (among w.start) a → w.due a ≡ false → DiamondStraddles w.n w.budget w.priority w.start w.lower a → IsOpen w a
+  open_leaf : Contains (leaves_of w.n (among w.start)) a → w.due a ≡ false →
+      LeafStraddles w.priority w.ranking w.chosen w.upper a → IsOpen w a
+  open_member : CanMerge w.n (among w.start) a → w.due a ≡ false →
+      DiamondStraddles w.n w.budget w.priority w.start w.lower a → IsOpen w a

@@ -1,4 +1,5 @@
--- What the two queues hold half way through a frame over bounds: the priority where it was asked, and else a bound of it.
+-- What the two queues hold half way through a frame over bounds: the priority where it was asked, and else a bound of
+-- it.
 -- Words: upper_key, lower_key, IsLastKey.
 use Rattle.std.specs.Prelude.{ℕ, Bool, cond, List}
 use Rattle.mesh_defs.specs.ClosedSet.{among}
@@ -15,7 +16,8 @@ upper_key w known a = cond (known a) (w.priority a) (w.upper a)
 unfoldable pub lower_key : DeferredFrame → (ℕ → Bool) → ℕ → ℕ
 lower_key w known a = cond (known a) (w.priority a) (w.lower a)
 
--- c is the better by its key of the diamond of a, and each diamond that can be merged has a triangle that comes no later by its key
+-- c is the better by its key of the diamond of a, and each diamond that can be merged has a triangle that comes no
+-- later by its key
 pub record IsLastKey (w : DeferredFrame) (members : List ℕ) (known : ℕ → Bool) (a c : ℕ) : Type 0 where
   pub mergeable : CanMerge w.n (among members) a
   pub in_diamond : IsInDiamond w.n a c

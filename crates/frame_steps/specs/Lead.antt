@@ -1,6 +1,6 @@
 -- Which triangle stands for a diamond: the one that ranks first, so that a diamond's rank is that of an address.
--- Source: Duchaineau et al., "ROAMing Terrain", IEEE Visualization 1997, the part on the merge queue, where a diamond is
--- named by its two triangles.
+-- Source: Duchaineau et al., "ROAMing Terrain", IEEE Visualization 1997, the part on the merge queue, where a diamond
+-- is named by its two triangles.
 -- Words: IsLead, IsLastLead.
 use Rattle.std.specs.Prelude.{◌≢◌, ℕ, Bool}
 use Rattle.mesh_defs.specs.Triangle.{IsMate}

@@ -1,14 +1,14 @@
 -- Stamps: the bounds that an entry keeps from the frame in which it was read, and how long they hold.
--- Source: Duchaineau et al., "ROAMing Terrain", IEEE Visualization 1997, the part on deferred priority lists. That time is
--- the way that the camera went, and that an edit expires stamps, is this project's own.
+-- Source: Duchaineau et al., "ROAMing Terrain", IEEE Visualization 1997, the part on deferred priority lists. That time
+-- is the way that the camera went, and that an edit expires stamps, is this project's own.
 -- Words: Stamp, Readings, is_due, stamp_now, counted_stamp, HasStamps, IsInStamp, StampsHold,
 -- ReadingsHold.
 use Rattle.std.specs.Prelude.{◌≡◌, ℕ, ◌+◌, ◌≤◌, Bool, true, false, ◌||◌, nat_lt, Option, None, Some}
 use Rattle.mesh_defs.specs.Triangle.{IsAddress}
 use Rattle.frame_steps.specs.Deferred.{DeferredFrame}
 
--- What an entry keeps: the odometer at which it was read, the way for which it holds from there, its upper and lower rank,
--- each by the priority that the entry has in it, and whether an edit has expired it.
+-- What an entry keeps: the odometer at which it was read, the way for which it holds from there, its upper and lower
+-- rank, each by the priority that the entry has in it, and whether an edit has expired it.
 pub record Stamp : Type 0 where
   pub odometer : ℕ
   pub slack : ℕ
@@ -30,7 +30,13 @@ is_due odometer (Some stamp) = stamp.expired || nat_lt (stamp.odometer + stamp.s
 -- the stamp of a that is taken at this odometer
 abbrev pub stamp_now : Readings → ℕ → ℕ → Stamp
 stamp_now readings odometer a =
-    record { odometer = odometer; slack = readings.slack a; upper = readings.upper a; lower = readings.lower a; expired = false }
+    record {
+      odometer = odometer;
+      slack = readings.slack a;
+      upper = readings.upper a;
+      lower = readings.lower a;
+      expired = false;
+    }
 
 -- the stamp by which a counts: its own, or if it is due the one that would be taken now
 abbrev pub counted_stamp : Readings → ℕ → (ℕ → Option Stamp) → ℕ → Stamp

@@ -2,7 +2,8 @@
 -- Source: the dual-queue algorithm of Duchaineau et al., "ROAMing Terrain", IEEE Visualization 1997, the parts on
 -- the two queues; that a merge for room is made only where the merged diamond ranks later than what is split, and
 -- that diamonds of priority 0 are merged at the end, are this project's own.
--- Words: leaf_count, DoesNotFit, IsSplitStep, MustMerge, IsMergeStep, IsFinished, StepRun, HoldsChosen, AreLoose, IsFrameRun.
+-- Words: leaf_count, DoesNotFit, IsSplitStep, MustMerge, IsMergeStep, IsFinished, StepRun, HoldsChosen, AreLoose,
+-- IsFrameRun.
 use Rattle.std.specs.Prelude.{◌≡◌, ℕ, ◌+◌, ◌-◌, ◌<◌, ◌≤◌, ◌↔◌, IsTrue, List, length, take, All}
 use Rattle.mesh_defs.specs.ClosedSet.{leaves_of, among}
 use Rattle.mesh_defs.specs.Ranking.{RanksBefore}
@@ -34,7 +35,8 @@ pub record IsSplitStep (n budget : ℕ) (priority : ℕ → ℕ) (before after :
 -- not fit and ranks before d; or no leaf has a positive priority, and d has none either.
 pub data MustMerge (n budget : ℕ) (priority : ℕ → ℕ) (before : List ℕ) (d : ℕ) : Type 0 where
   too_many : budget < leaf_count n before → MustMerge n budget priority before d
-  makes_room : (f : ℕ) → leaf_count n before ≤ budget → DoesNotFit n budget priority before f → RanksBefore priority f d →
+  makes_room : (f : ℕ) → leaf_count n before ≤ budget → DoesNotFit n budget priority before f →
+      RanksBefore priority f d →
       MustMerge n budget priority before d
   needless : leaf_count n before ≤ budget → All (λ a. priority a ≡ 0) (leaves_of n (among before)) → priority d ≡ 0 →
       MustMerge n budget priority before d
@@ -54,14 +56,16 @@ pub data IsFinished (n budget : ℕ) (priority : ℕ → ℕ) (members : List �
   all_split : leaf_count n members ≤ budget → All (λ a. priority a ≡ 0) (leaves_of n (among members)) →
       ((d : ℕ) → IsLead n priority (among members) d → 0 < priority d) → IsFinished n budget priority members
 
--- Steps from start to another set, with the numbers of addresses that they added and took away: counts of the steps, and
--- not of the difference of the two sets, since a diamond may be merged and come back by force.
+-- Steps from start to another set, with the numbers of addresses that they added and took away: counts of the steps,
+-- and not of the difference of the two sets, since a diamond may be merged and come back by force.
 pub data StepRun (n budget : ℕ) (priority : ℕ → ℕ) (start : List ℕ) : List ℕ → ℕ → ℕ → Type 0 where
   begin : StepRun n budget priority start start 0 0
   split : (before after : List ℕ) (added removed : ℕ) → StepRun n budget priority start before added removed →
-      IsSplitStep n budget priority before after → StepRun n budget priority start after (added + (length after - length before)) removed
+      IsSplitStep n budget priority before after →
+      StepRun n budget priority start after (added + (length after - length before)) removed
   merge : (before after : List ℕ) (added removed : ℕ) → StepRun n budget priority start before added removed →
-      IsMergeStep n budget priority before after → StepRun n budget priority start after added (removed + (length before - length after))
+      IsMergeStep n budget priority before after →
+      StepRun n budget priority start after added (removed + (length before - length after))
 
 -- the diamond of a holds one of the chosen triangles
 pub record HoldsChosen (n : ℕ) (ranking : List ℕ) (chosen a : ℕ) : Type 0 where

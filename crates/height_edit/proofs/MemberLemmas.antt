@@ -1,5 +1,6 @@
 -- The list of the triangles that hold a point has each of them, and is ascending.
-use Rattle.std.proofs.Common.{◌≡◌, ℕ, zero, suc, ◌+◌, ◌-◌, ◌*◌, ◌^◌, ◌<◌, ◌≤◌, ◌↔◌, inl, inr, Bool, true, false, cond, List, ◌∷◌, All, Contains, refl, subst, arith, ⊎_elim}
+use Rattle.std.proofs.Common.{◌≡◌, ℕ, zero, suc, ◌+◌, ◌-◌, ◌*◌, ◌^◌, ◌<◌, ◌≤◌, ◌↔◌, inl, inr, Bool, true, false, cond}
+use Rattle.std.proofs.Common.{List, ◌∷◌, All, Contains, refl, subst, arith, ⊎_elim}
 use Rattle.std.proofs.lemmas.Bool.{cases_lt}
 use Rattle.std.proofs.Math.Pow.{pow_mono}
 use Rattle.mesh_defs.specs.declared.point.Point.{Point}
@@ -16,7 +17,8 @@ record IsHeld (n : ℕ) (p : Point) (from count a : ℕ) : Type 0 where
   pub high : a < from + count
   pub holds : holds_point n a p ≡ true
 
-IsHeld-first : (n : ℕ) (p : Point) (from count a : ℕ) → holds_point n from p ≡ true → from ≡ a → IsHeld n p from (suc count) a
+IsHeld-first : (n : ℕ) (p : Point) (from count a : ℕ) → holds_point n from p ≡ true → from ≡ a →
+    IsHeld n p from (suc count) a
 IsHeld-first n p from count a held same = let P : ℕ → Type 0 = λ b. holds_point n b p ≡ true in
     record { low = omega arith; high = omega arith; holds = subst P same held }
 
@@ -33,7 +35,8 @@ IsHeld-cond n p from count a false rest out later in_rest = IsHeld-later n p fro
 
 IsHeld-in : (n : ℕ) (p : Point) (count from a : ℕ) → IsIn a (held_from n p from count) → IsHeld n p from count a
 IsHeld-in n p zero from a is_in = absurd is_in
-IsHeld-in n p (suc count) from a is_in = IsHeld-cond n p from count a (holds_point n from p) (held_from n p (from + 1) count)
+IsHeld-in n p (suc count) from a is_in =
+    IsHeld-cond n p from count a (holds_point n from p) (held_from n p (from + 1) count)
     refl (IsHeld-in n p count (from + 1) a) is_in
 
 -- and each of them is an entry
@@ -49,9 +52,14 @@ in-held : (n : ℕ) (p : Point) (count from a : ℕ) → IsHeld n p from count a
 in-held n p zero from a held = absurd (omega (arith, held.low, held.high))
 in-held n p (suc count) from a held = ⊎_elim {C = IsIn a (held_from n p from (suc count))}
     (λ lt. later-in a from (holds_point n from p) (held_from n p (from + 1) count)
-    (in-held n p count (from + 1) a (record { low = omega arith; high = omega (arith, held.high); holds = held.holds })))
+    (in-held n p count (from + 1) a (record {
+      low = omega arith;
+      high = omega (arith, held.high);
+      holds = held.holds;
+    })))
     (λ le. let same : a ≡ from = omega (arith, held.low) in
-    let P : ℕ → Type 0 = λ b. IsIn a (cond (holds_point n b p) (b ∷ held_from n p (from + 1) count) (held_from n p (from + 1) count)) in
+    let P : ℕ → Type 0 =
+    λ b. IsIn a (cond (holds_point n b p) (b ∷ held_from n p (from + 1) count) (held_from n p (from + 1) count)) in
     subst P same (first-in a (holds_point n a p) (held_from n p (from + 1) count) held.holds))
     (cases_lt from a)
 
@@ -64,7 +72,8 @@ room-above n =
 -- the entries are the addresses of the grid whose triangles hold the point
 pub holders-members : (n a : ℕ) (p : Point) → Contains (holders n p) a ↔ (IsAddress n a × (holds_point n a p ≡ true))
 holders-members n a p = (
-  λ is_in. let held : IsHeld n p 2 (2 ^ (2 * n + 2) - 2) a = IsHeld-in n p (2 ^ (2 * n + 2) - 2) 2 a (IsIn-contains a (holders n p) is_in) in
+  λ is_in. let held : IsHeld n p 2 (2 ^ (2 * n + 2) - 2) a =
+      IsHeld-in n p (2 ^ (2 * n + 2) - 2) 2 a (IsIn-contains a (holders n p) is_in) in
       (record { low = held.low; high = omega (arith, held.high, room-above n) }, held.holds),
   λ both. let address : IsAddress n a = both.0 in
       Contains-in a (holders n p) (in-held n p (2 ^ (2 * n + 2) - 2) 2 a
@@ -72,7 +81,8 @@ holders-members n a p = (
 )
 
 -- ascending, since a range of addresses is
-IsAscending-cond : (b : Bool) (a : ℕ) (rest : List ℕ) → All (λ c. a < c) rest → IsAscending rest → IsAscending (cond b (a ∷ rest) rest)
+IsAscending-cond : (b : Bool) (a : ℕ) (rest : List ℕ) → All (λ c. a < c) rest → IsAscending rest →
+    IsAscending (cond b (a ∷ rest) rest)
 IsAscending-cond true a rest below ascending = (below, ascending)
 IsAscending-cond false a rest below ascending = ascending
 

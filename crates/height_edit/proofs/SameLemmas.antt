@@ -14,7 +14,8 @@ use Rattle.wedgie_tree.specs.Edits.{AgreesOn}
 pub record HeldLaws : Type 0 where
   pub below : (a k : ℕ) → 2 ≤ a → ((level_of a < k) ↔ (a < 2 ^ (k + 1)))
   pub within : (n a : ℕ) → IsWithin (2 ^ n) (corners_of n a)
-  pub rectangle : (n a : ℕ) (r : Point) → 2 ≤ a → level_of a ≤ 2 * n → holds_point n a r ≡ true → IsInRectangle (corners_of n a) r
+  pub rectangle : (n a : ℕ) (r : Point) → 2 ≤ a → level_of a ≤ 2 * n → holds_point n a r ≡ true →
+      IsInRectangle (corners_of n a) r
 
 -- an address of the grid has a level of the grid
 pub level-fits : HeldLaws → (n a : ℕ) → IsAddress n a → level_of a ≤ 2 * n
@@ -28,9 +29,11 @@ pub AgreesOn-area : HeldLaws → (n : ℕ) (new old : List ℕ) (area : Area) �
     ((i j : ℕ) → i ≤ 2 ^ n → j ≤ 2 ^ n → (is_in_area area i j ≡ true → ⊥) → height_at n new i j ≡ height_at n old i j) →
     (a : ℕ) → IsAddress n a → (MeetsArea (corners_of n a) area → ⊥) → AgreesOn n new old a
 AgreesOn-area laws n new old area others a address apart = λ r held.
-    let inside : IsInRectangle (corners_of n a) r = laws.rectangle n a r address.low (level-fits laws n a address) held in
+    let inside : IsInRectangle (corners_of n a) r =
+    laws.rectangle n a r address.low (level-fits laws n a address) held in
     let w : IsWithin (2 ^ n) (corners_of n a) = laws.within n a in
-    others r.x r.y (omega (arith, inside.right, w.apex_x, w.v0_x, w.v1_x)) (omega (arith, inside.top, w.apex_y, w.v0_y, w.v1_y))
+    others r.x r.y (omega (arith, inside.right, w.apex_x, w.v0_x, w.v1_x))
+    (omega (arith, inside.top, w.apex_y, w.v0_y, w.v1_y))
     (λ in_area. apart (r, record { in_rectangle = inside; in_area = in_area }))
 
 -- heights that changed at a point alone agree on a triangle that does not hold the point
@@ -38,8 +41,11 @@ pub AgreesOn-point : HeldLaws → (n : ℕ) (new old : List ℕ) (x y : ℕ) →
     ((i j : ℕ) → i ≤ 2 ^ n → j ≤ 2 ^ n → (i ≡ x → j ≡ y → ⊥) → height_at n new i j ≡ height_at n old i j) →
     (a : ℕ) → IsAddress n a → holds_point n a (point x y) ≡ false → AgreesOn n new old a
 AgreesOn-point laws n new old x y others a address apart = λ r held.
-    let inside : IsInRectangle (corners_of n a) r = laws.rectangle n a r address.low (level-fits laws n a address) held in
+    let inside : IsInRectangle (corners_of n a) r =
+    laws.rectangle n a r address.low (level-fits laws n a address) held in
     let w : IsWithin (2 ^ n) (corners_of n a) = laws.within n a in
-    others r.x r.y (omega (arith, inside.right, w.apex_x, w.v0_x, w.v1_x)) (omega (arith, inside.top, w.apex_y, w.v0_y, w.v1_y))
+    others r.x r.y (omega (arith, inside.right, w.apex_x, w.v0_x, w.v1_x))
+    (omega (arith, inside.top, w.apex_y, w.v0_y, w.v1_y))
     (λ at_x at_y. let P : Point → Type 0 = λ q. holds_point n a q ≡ true in
-    let here : holds_point n a (point x y) ≡ true = subst P (same_point r.x r.y x y at_x at_y) held in absurd (cc (here, apart)))
+    let here : holds_point n a (point x y) ≡ true = subst P (same_point r.x r.y x y at_x at_y) held in
+    absurd (cc (here, apart)))

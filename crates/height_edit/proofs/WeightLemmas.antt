@@ -80,7 +80,9 @@ in-both (suc (suc leg)) (suc (suc base)) zero back turn apex = let two : back �
 in-both (suc (suc leg)) (suc zero) (suc zero) back turn apex = let one : back ≡ 1 = omega arith in rw one refl
 in-both (suc (suc leg)) (suc (suc base)) (suc zero) back turn apex = let one : back ≡ 1 = omega arith in rw one refl
 in-both (suc (suc leg)) (suc zero) (suc (suc cut)) back turn apex = let none : back ≡ 0 = omega arith in rw none refl
-in-both (suc (suc leg)) (suc (suc base)) (suc (suc cut)) back turn apex = let none : back ≡ 0 = omega arith in rw none refl
+in-both (suc (suc leg)) (suc (suc base)) (suc (suc cut)) back turn apex =
+    let none : back ≡ 0 = omega arith in
+    rw none refl
 
 -- a triangle has the eighths of its two children, by the sides of its lines and of the line that cuts it
 eighths-children : (left base right cut back : ℕ) → left ≤ 2 → right ≤ 2 → cut + back ≡ 2 → (left < right → cut ≡ 2) →
@@ -114,7 +116,8 @@ pub record SideFacts (left base right cut back near far : ℕ) : Type 0 where
 
 sides-by : (l1 l2 b1 b2 r1 r2 m1 m2 k1 k2 n1 n2 f1 f2 : ℕ) → 2 * m2 + r1 + l2 ≡ 2 * m1 + r2 + l1 → k1 ≡ m2 → k2 ≡ m1 →
     2 * n2 + b1 ≡ 2 * n1 + b2 → 2 * f2 + b1 ≡ 2 * f1 + b2 → l1 + b1 + r1 < l2 + b2 + r2 →
-    SideFacts (side_by l1 l2) (side_by b1 b2) (side_by r1 r2) (side_by m1 m2) (side_by k1 k2) (side_by n1 n2) (side_by f1 f2)
+    SideFacts (side_by l1 l2) (side_by b1 b2) (side_by r1 r2) (side_by m1 m2) (side_by k1 k2)
+    (side_by n1 n2) (side_by f1 f2)
 sides-by l1 l2 b1 b2 r1 r2 m1 m2 k1 k2 n1 n2 f1 f2 cut back_1 back_2 near far area = record {
   turn = rw (back_1, back_2) (omega arith);
   less = λ lt. omega arith;
@@ -131,12 +134,14 @@ cut-line ax ay px py qx qy rx ry mx my hx hy =
     omega (arith, ap (λ t. t * ay) hx, ap (λ t. t * ry) hx, ap (λ t. t * ax) hy, ap (λ t. t * rx) hy)
 
 near-line : (px py qx qy rx ry mx my : ℕ) → 2 * mx ≡ px + qx → 2 * my ≡ py + qy →
-    2 * (px * my + mx * ry + rx * py) + (py * qx + qy * rx + ry * px) ≡ 2 * (py * mx + my * rx + ry * px) + (px * qy + qx * ry + rx * py)
+    2 * (px * my + mx * ry + rx * py) + (py * qx + qy * rx + ry * px)
+    ≡ 2 * (py * mx + my * rx + ry * px) + (px * qy + qx * ry + rx * py)
 near-line px py qx qy rx ry mx my hx hy =
     omega (arith, ap (λ t. t * py) hx, ap (λ t. t * ry) hx, ap (λ t. t * px) hy, ap (λ t. t * rx) hy)
 
 far-line : (px py qx qy rx ry mx my : ℕ) → 2 * mx ≡ px + qx → 2 * my ≡ py + qy →
-    2 * (mx * qy + qx * ry + rx * my) + (py * qx + qy * rx + ry * px) ≡ 2 * (my * qx + qy * rx + ry * mx) + (px * qy + qx * ry + rx * py)
+    2 * (mx * qy + qx * ry + rx * my) + (py * qx + qy * rx + ry * px)
+    ≡ 2 * (my * qx + qy * rx + ry * mx) + (px * qy + qx * ry + rx * py)
 far-line px py qx qy rx ry mx my hx hy =
     omega (arith, ap (λ t. t * qy) hx, ap (λ t. t * ry) hx, ap (λ t. t * qx) hy, ap (λ t. t * rx) hy)
 
@@ -217,7 +222,8 @@ weight-not-held c r out =
     (λ base. ⊎_elim {C = weight_in c r ≡ 0}
     (λ l. ap (λ s. eighths (side_at r c.apex c.v0) (side_at r c.v0 c.v1) s) (right-side _ _ l)
     ∙ eighths-outside (side_at r c.apex c.v0) (side_at r c.v0 c.v1))
-    (λ right. let held : is_in_closed c r ≡ true = both_true (le-leb _ _ left) (both_true (le-leb _ _ base) (le-leb _ _ right)) in
+    (λ right. let held : is_in_closed c r ≡ true =
+    both_true (le-leb _ _ left) (both_true (le-leb _ _ base) (le-leb _ _ right)) in
     absurd (cc (held, out)))
     (cases_lt (c.v1.x * c.apex.y + c.apex.x * r.y + r.x * c.v1.y) (c.v1.y * c.apex.x + c.apex.y * r.x + r.y * c.v1.x)))
     (cases_lt (c.v0.x * c.v1.y + c.v1.x * r.y + r.x * c.v0.y) (c.v0.y * c.v1.x + c.v1.y * r.x + r.y * c.v0.x)))
@@ -226,7 +232,8 @@ weight-not-held c r out =
 -- ---- the halves of the square
 
 -- between two opposite lines: inside of one half and outside of the other, or on the base of both
-halves-by : (left base right other_left other_base other_right : ℕ) → base + other_base ≡ 2 → left ≤ 2 → right ≤ 2 → other_left ≤ 2 → other_right ≤ 2 →
+halves-by : (left base right other_left other_base other_right : ℕ) → base + other_base ≡ 2 → left ≤ 2 → right ≤ 2 →
+    other_left ≤ 2 → other_right ≤ 2 →
     eighths left base right + eighths other_left other_base other_right ≤ 8
 halves-by left zero right other_left other_base other_right turn l r ol or =
     omega (arith, eighths-no_base left right, eighths-high other_left other_base other_right)

@@ -1,7 +1,9 @@
 -- A test of lists of addresses that computes whether they are closed sets, and that what passes it is one.
-use Rattle.std.proofs.Common.{◌≡◌, ◌≢◌, ℕ, zero, suc, ◌+◌, ◌*◌, ◌/◌, ◌^◌, ◌<◌, ◌≤◌, inl, inr, Bool, true, false, ◌&&◌, ◌||◌, not, List, [], ◌∷◌, refl, sym, subst, arith}
+use Rattle.std.proofs.Common.{◌≡◌, ◌≢◌, ℕ, zero, suc, ◌+◌, ◌*◌, ◌/◌, ◌^◌, ◌<◌, ◌≤◌, inl, inr, Bool, true, false, ◌&&◌}
+use Rattle.std.proofs.Common.{◌||◌, not, List, [], ◌∷◌, refl, sym, subst, arith}
 use Rattle.std.specs.Prelude.{nat_eq, nat_lt, nat_le}
-use Rattle.std.proofs.lemmas.Bool.{and_from, and_parts, both_ways, not-true, or_left, or_right, eqb-true, eq-eqb, leb-true, le-leb, ltb-true}
+use Rattle.std.proofs.lemmas.Bool.{and_from, and_parts, both_ways, not-true, or_left, or_right, eqb-true, eq-eqb}
+use Rattle.std.proofs.lemmas.Bool.{leb-true, le-leb, ltb-true}
 use Rattle.std.proofs.lemmas.Bool.Decides.{eqb_tells}
 use Rattle.mesh_defs.specs.declared.point.Corners.{Corners}
 use Rattle.mesh_defs.specs.Triangle.{level_of, corners_of, SameEnds, IsSplittable, IsMate}
@@ -93,13 +95,15 @@ parent-at n xs a h low =
 
 mate-at : (n : ℕ) (xs : List ℕ) (a b : ℕ) → entry_fits n xs a ≡ true → IsMate n a b → among xs b ≡ true
 mate-at n xs a b h m =
-    implied _ _ (all_below-at (λ i. not (is_mate n a i) || among xs i) (2 ^ (2 * n + 2)) b ((and_parts _ _ ((and_parts _ _ h).1)).1) m.address.high)
+    implied _ _ (all_below-at (λ i. not (is_mate n a i) || among xs i) (2 ^ (2 * n + 2)) b
+    ((and_parts _ _ ((and_parts _ _ h).1)).1) m.address.high)
     (is_mate-test n a b m)
 
 -- a list each of whose entries fits is a closed set
 pub closed-list : (n : ℕ) (xs : List ℕ) → Each (λ a. entry_fits n xs a ≡ true) xs → IsClosed n (among xs)
 closed-list n xs each =
-    let fits : (a : ℕ) → among xs a ≡ true → entry_fits n xs a ≡ true = each-among (λ a. entry_fits n xs a ≡ true) xs each in
+    let fits : (a : ℕ) → among xs a ≡ true → entry_fits n xs a ≡ true =
+    each-among (λ a. entry_fits n xs a ≡ true) xs each in
     record {
       splittable = λ a h. splittable-at n xs a (fits a h);
       parent = λ a h low. parent-at n xs a (fits a h) low;
@@ -116,7 +120,8 @@ no_mate n a b h m =
     (is_mate-test n a b m)
 
 -- m alone passes the test
-pub only_mate : (n a m b : ℕ) → all_below (λ i. not (is_mate n a i) || nat_eq i m) (2 ^ (2 * n + 2)) ≡ true → IsMate n a b → b ≡ m
+pub only_mate : (n a m b : ℕ) →
+    all_below (λ i. not (is_mate n a i) || nat_eq i m) (2 ^ (2 * n + 2)) ≡ true → IsMate n a b → b ≡ m
 only_mate n a m b h mate =
     eqb-true b m
     (implied _ _ (all_below-at (λ i. not (is_mate n a i) || nat_eq i m) (2 ^ (2 * n + 2)) b h mate.address.high)

@@ -1,5 +1,6 @@
 -- What shows that a short list is a ranking, and that two least closed sets have the same leaves.
-use Rattle.std.proofs.Common.{◌≡◌, ℕ, zero, suc, ◌+◌, ◌-◌, ◌*◌, ◌/◌, ◌^◌, ◌<◌, ◌≤◌, inl, inr, Bool, true, false, ◌&&◌, ◌||◌, not, List, [], ◌∷◌, ◌++◌, refl, ◌∙◌, ap, subst, arith}
+use Rattle.std.proofs.Common.{◌≡◌, ℕ, zero, suc, ◌+◌, ◌-◌, ◌*◌, ◌/◌, ◌^◌, ◌<◌, ◌≤◌, inl, inr, Bool, true, false, ◌&&◌}
+use Rattle.std.proofs.Common.{◌||◌, not, List, [], ◌∷◌, ◌++◌, refl, ◌∙◌, ap, subst, arith}
 use Rattle.std.specs.Prelude.{All, AllPairs, Contains, nat_le, nat_lt}
 use Rattle.std.proofs.lemmas.Bool.{and_from, le-leb, lt-ltb}
 use Rattle.std.proofs.lemmas.List.Elements.{All-cons}
@@ -32,10 +33,12 @@ leaves_under-same (suc k) f g h a =
     ∙ ap (λ (right : List ℕ). node (g a) (leaves_under k g (2 * a)) right a) (leaves_under-same k f g h (2 * a + 1)))
 
 -- the leaves of a least closed set are those of any other one of the same triangles
-pub least-leaves : (n : ℕ) (wanted f g : ℕ → Bool) → IsLeastClosed n wanted f → IsLeastClosed n wanted g → leaves_of n f ≡ leaves_of n g
+pub least-leaves : (n : ℕ) (wanted f g : ℕ → Bool) → IsLeastClosed n wanted f → IsLeastClosed n wanted g →
+    leaves_of n f ≡ leaves_of n g
 unfolding leaves_of
 least-leaves n wanted f g hf hg =
-    let same : (i : ℕ) → f i ≡ g i = λ i. same_tests (f i) (g i) (hf.least g hg.closed hg.holds i) (hg.least f hf.closed hf.holds i) in
+    let same : (i : ℕ) → f i ≡ g i =
+    λ i. same_tests (f i) (g i) (hf.least g hg.closed hg.holds i) (hg.least f hf.closed hf.holds i) in
     rw (leaves_under-same (2 * n) f g same 2, leaves_under-same (2 * n) f g same 3) refl
 
 -- none or one more, by a test
@@ -47,7 +50,10 @@ halvings-bound : (steps k a : ℕ) → a ≤ steps → halvings steps a ≤ k �
 halvings-bound zero k a fuel h = let positive : 0 < 2 ^ k = pow_pos k in omega arith
 halvings-bound (suc steps) zero a fuel h = elim (leb_tells (suc a) 4) [
   | inl e ↦ let low : suc a ≤ 4 = e.1 in omega arith
-  | inr e ↦ let more : suc (halvings steps (a / 2)) ≤ zero = subst (λ (low : Bool). halved low (halvings steps (a / 2)) ≤ zero) (e.0) h in absurd (omega arith)
+  | inr e ↦
+      let more : suc (halvings steps (a / 2)) ≤ zero =
+      subst (λ (low : Bool). halved low (halvings steps (a / 2)) ≤ zero) (e.0) h in
+      absurd (omega arith)
 ]
 halvings-bound (suc steps) (suc k) a fuel h = elim (leb_tells (suc a) 4) [
   | inl e ↦ let low : suc a ≤ 4 = e.1 in let positive : 0 < 2 ^ suc k = pow_pos (suc k) in omega arith
@@ -62,7 +68,9 @@ halvings-bound (suc steps) (suc k) a fuel h = elim (leb_tells (suc a) 4) [
 -- a splittable address is below 4 times 2 ^ (2 n - 1)
 pub splittable-bound : (n a : ℕ) → 1 ≤ n → IsSplittable n a → a < 4 * 2 ^ (2 * n - 1)
 unfolding level_of
-splittable-bound n a low s = let coarse : halvings a a < 2 * n = s.coarse in halvings-bound a (2 * n - 1) a (omega arith) (omega arith)
+splittable-bound n a low s =
+    let coarse : halvings a a < 2 * n = s.coarse in
+    halvings-bound a (2 * n - 1) a (omega arith) (omega arith)
 
 -- Rankings
 

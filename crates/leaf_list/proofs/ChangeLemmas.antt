@@ -1,6 +1,8 @@
 -- What one list has and another has not.
-use Rattle.std.proofs.Common.{◌≡◌, ℕ, inl, inr, Bool, true, false, not, cond, List, [], ◌∷◌, ◌++◌, filter, refl, sym, ◌∙◌, ap, subst, ⊎_elim}
-use Rattle.std.proofs.lemmas.Bool.{cases_Bool, both_ways, not_from_true, not_from_false, not-true, cond-true, cond-false, false_from_ne_true}
+use Rattle.std.proofs.Common.{◌≡◌, ℕ, inl, inr, Bool, true, false, not, cond, List, [], ◌∷◌, ◌++◌, filter, refl, sym}
+use Rattle.std.proofs.Common.{◌∙◌, ap, subst, ⊎_elim}
+use Rattle.std.proofs.lemmas.Bool.{cases_Bool, both_ways, not_from_true, not_from_false, not-true, cond-true}
+use Rattle.std.proofs.lemmas.Bool.{cond-false, false_from_ne_true}
 use Rattle.std.proofs.lemmas.List.Elements.{filter-append}
 use Rattle.mesh_defs.specs.ClosedSet.{among}
 use Rattle.mesh_defs.proofs.ListLemmas.{IsIn, IsIn-among, among-in, IsIn-append, IsIn-append-left, IsIn-append-right}
@@ -15,13 +17,15 @@ step b c x xs ys e f = ap (λ t. cond t (x ∷ xs) xs) e ∙ ap (λ l. cond c (x
 -- two tests that agree at each entry keep the same ones
 pub filter_same : (p q : ℕ → Bool) (xs : List ℕ) → ((b : ℕ) → IsIn b xs → p b ≡ q b) → filter p xs ≡ filter q xs
 filter_same p q [] same = refl
-filter_same p q (x ∷ xs) same = step (p x) (q x) x (filter p xs) (filter q xs) (same x (inl refl)) (filter_same p q xs (λ b h. same b (inr h)))
+filter_same p q (x ∷ xs) same =
+    step (p x) (q x) x (filter p xs) (filter q xs) (same x (inl refl)) (filter_same p q xs (λ b h. same b (inr h)))
 
 -- a test that all pass keeps all
 filter_all : (p : ℕ → Bool) (xs : List ℕ) → ((b : ℕ) → IsIn b xs → p b ≡ true) → filter p xs ≡ xs
 filter_all p [] each = refl
 filter_all p (x ∷ xs) each =
-    cond-true (p x) (x ∷ filter p xs) (filter p xs) (each x (inl refl)) ∙ ap (λ l. x ∷ l) (filter_all p xs (λ b h. each b (inr h)))
+    cond-true (p x) (x ∷ filter p xs) (filter p xs) (each x (inl refl))
+    ∙ ap (λ l. x ∷ l) (filter_all p xs (λ b h. each b (inr h)))
 
 -- one that none passes keeps none
 filter_none : (p : ℕ → Bool) (xs : List ℕ) → ((b : ℕ) → IsIn b xs → p b ≡ false) → filter p xs ≡ []
@@ -37,16 +41,20 @@ filter_in p b (x ∷ xs) is = ⊎_elim
     (λ same. (inl same, subst (λ z. p z ≡ true) same yes))
     (λ later. let r = filter_in p b xs later in (inr r.0, r.1))
     (subst (IsIn b) (cond-true (p x) (x ∷ filter p xs) (filter p xs) yes) is))
-    (λ no. let r = filter_in p b xs (subst (IsIn b) (cond-false (p x) (x ∷ filter p xs) (filter p xs) no) is) in (inr r.0, r.1))
+    (λ no.
+    let r = filter_in p b xs (subst (IsIn b) (cond-false (p x) (x ∷ filter p xs) (filter p xs) no) is) in
+    (inr r.0, r.1))
     (cases_Bool (p x))
 
 -- and what passes and is there is kept
 pub in_filter : (p : ℕ → Bool) (b : ℕ) (xs : List ℕ) → IsIn b xs → p b ≡ true → IsIn b (filter p xs)
 in_filter p b [] is passes = absurd is
 in_filter p b (x ∷ xs) (inl same) passes =
-    subst (IsIn b) (sym (cond-true (p x) (x ∷ filter p xs) (filter p xs) (subst (λ z. p z ≡ true) (sym same) passes))) (inl same)
+    subst (IsIn b)
+    (sym (cond-true (p x) (x ∷ filter p xs) (filter p xs) (subst (λ z. p z ≡ true) (sym same) passes))) (inl same)
 in_filter p b (x ∷ xs) (inr later) passes = ⊎_elim
-    (λ yes. subst (IsIn b) (sym (cond-true (p x) (x ∷ filter p xs) (filter p xs) yes)) (inr (in_filter p b xs later passes)))
+    (λ yes. subst (IsIn b) (sym (cond-true (p x) (x ∷ filter p xs) (filter p xs) yes))
+    (inr (in_filter p b xs later passes)))
     (λ no. subst (IsIn b) (sym (cond-false (p x) (x ∷ filter p xs) (filter p xs) no)) (in_filter p b xs later passes))
     (cases_Bool (p x))
 
@@ -62,17 +70,20 @@ alone-self xs = filter_none (λ a. not (among xs a)) xs (λ b is. not_from_true 
 
 -- to a list without its entries it goes whole
 pub alone-apart : (xs ys : List ℕ) → ((b : ℕ) → IsIn b xs → IsIn b ys → ⊥) → alone xs ys ≡ xs
-alone-apart xs ys apart = filter_all (λ a. not (among ys a)) xs (λ b is. not_from_false (among ys b) (absent b ys (apart b is)))
+alone-apart xs ys apart =
+    filter_all (λ a. not (among ys a)) xs (λ b is. not_from_false (among ys b) (absent b ys (apart b is)))
 
 -- an entry of a list that is apart from a second one is among the first and the second where it is among the first
 among_left : (b : ℕ) (xs ys : List ℕ) → (IsIn b ys → ⊥) → among (xs ++ ys) b ≡ among xs b
 among_left b xs ys apart = same_tests (among (xs ++ ys) b) (among xs b)
-    (λ yes. ⊎_elim (λ left. among-in b xs left) (λ right. absurd (apart right)) (IsIn-append b xs ys (IsIn-among b (xs ++ ys) yes)))
+    (λ yes. ⊎_elim (λ left. among-in b xs left) (λ right. absurd (apart right))
+    (IsIn-append b xs ys (IsIn-among b (xs ++ ys) yes)))
     (λ yes. among-in b (xs ++ ys) (IsIn-append-left b xs ys (IsIn-among b xs yes)))
 
 among_right : (b : ℕ) (xs ys : List ℕ) → (IsIn b xs → ⊥) → among (xs ++ ys) b ≡ among ys b
 among_right b xs ys apart = same_tests (among (xs ++ ys) b) (among ys b)
-    (λ yes. ⊎_elim (λ left. absurd (apart left)) (λ right. among-in b ys right) (IsIn-append b xs ys (IsIn-among b (xs ++ ys) yes)))
+    (λ yes. ⊎_elim (λ left. absurd (apart left)) (λ right. among-in b ys right)
+    (IsIn-append b xs ys (IsIn-among b (xs ++ ys) yes)))
     (λ yes. among-in b (xs ++ ys) (IsIn-append-right b xs ys (IsIn-among b ys yes)))
 
 -- of two lists one behind the other, each part by its own part
@@ -80,8 +91,10 @@ pub alone-both : (l r m s : List ℕ) → ((b : ℕ) → IsIn b l → IsIn b s �
     alone (l ++ r) (m ++ s) ≡ alone l m ++ alone r s
 alone-both l r m s one two =
     filter-append (λ a. not (among (m ++ s) a)) l r
-    ∙ ap (λ xs. xs ++ alone r (m ++ s)) (filter_same (λ a. not (among (m ++ s) a)) (λ a. not (among m a)) l (λ b is. ap not (among_left b m s (one b is))))
-    ∙ ap (λ xs. alone l m ++ xs) (filter_same (λ a. not (among (m ++ s) a)) (λ a. not (among s a)) r (λ b is. ap not (among_right b m s (two b is))))
+    ∙ ap (λ xs. xs ++ alone r (m ++ s)) (filter_same (λ a. not (among (m ++ s) a)) (λ a. not (among m a)) l
+    (λ b is. ap not (among_left b m s (one b is))))
+    ∙ ap (λ xs. alone l m ++ xs) (filter_same (λ a. not (among (m ++ s) a)) (λ a. not (among s a)) r
+    (λ b is. ap not (among_right b m s (two b is))))
 
 -- what stays
 
@@ -99,12 +112,15 @@ pub shared-both : (l r m s : List ℕ) → ((b : ℕ) → IsIn b l → IsIn b s 
     shared (l ++ r) (m ++ s) ≡ shared l m ++ shared r s
 shared-both l r m s one two =
     filter-append (among (m ++ s)) l r
-    ∙ ap (λ xs. xs ++ shared r (m ++ s)) (filter_same (among (m ++ s)) (among m) l (λ b is. among_left b m s (one b is)))
+    ∙ ap (λ xs. xs ++ shared r (m ++ s))
+    (filter_same (among (m ++ s)) (among m) l (λ b is. among_left b m s (one b is)))
     ∙ ap (λ xs. shared l m ++ xs) (filter_same (among (m ++ s)) (among s) r (λ b is. among_right b m s (two b is)))
 
 -- without what is not in another list there is what is in it
 pub alone-alone : (xs ys : List ℕ) → alone xs (alone xs ys) ≡ shared xs ys
-alone-alone xs ys = filter_same (λ a. not (among (alone xs ys) a)) (among ys) xs (λ b is. same_tests (not (among (alone xs ys) b)) (among ys b)
+alone-alone xs ys =
+    filter_same (λ a. not (among (alone xs ys) a)) (among ys) xs
+    (λ b is. same_tests (not (among (alone xs ys) b)) (among ys b)
     (λ kept. ⊎_elim (λ yes. yes)
     (λ no. absurd (both_ways (among (alone xs ys) b) (not-true (among (alone xs ys) b) kept)
     (among-in b (alone xs ys) (in_filter (λ a. not (among ys a)) b xs is (not_from_false (among ys b) no)))))

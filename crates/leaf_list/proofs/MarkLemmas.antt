@@ -1,5 +1,7 @@
 -- Marks at the slots of triangles and of all above them.
-use Rattle.std.proofs.Common.{◌≡◌, ℕ, zero, suc, ◌-◌, ◌/◌, ◌<◌, ◌≤◌, ◌⊎◌, inl, inr, Bool, true, false, List, [], ◌∷◌, get_or, set, replicate, Contains, IsNone, Option, Some, None, IfSome, refl, sym, ◌∙◌, ap, subst, arith, ⊎_elim}
+use Rattle.std.proofs.Common.{◌≡◌, ℕ, zero, suc, ◌-◌, ◌/◌, ◌<◌, ◌≤◌, ◌⊎◌, inl, inr, Bool, true, false, List, [], ◌∷◌}
+use Rattle.std.proofs.Common.{get_or, set, replicate, Contains, IsNone, Option, Some, None, IfSome, refl, sym, ◌∙◌, ap}
+use Rattle.std.proofs.Common.{subst, arith, ⊎_elim}
 use Rattle.std.proofs.lemmas.Bool.{both_ways, cases_lt, true≢false}
 use Rattle.edge_laws.specs.Slots.{address_at, split_set, IsLive, IsPool, has_children}
 use Rattle.edge_laws.proofs.SlotLemmas.{parent_has_children, slot_of, member_parent}
@@ -35,23 +37,29 @@ above_cases v t self = inl refl
 above_cases v t (below x deep under) = inr (deep, under)
 
 -- a mark at a half of the square
-pub marked_half : (n : ℕ) (pairs : List ℕ) (t s : ℕ) (before : List Bool) → IsPool n pairs → t < 4 → IsLive pairs s → address_at pairs s ≡ t →
+pub marked_half : (n : ℕ) (pairs : List ℕ) (t s : ℕ) (before : List Bool) → IsPool n pairs → t < 4 → IsLive pairs s →
+    address_at pairs s ≡ t →
     IsPathMarked pairs t before (set before s true)
 marked_half n pairs t s before pool half live is = record {
   grows = λ r marked. set_stays before s r marked;
   above = λ r other under. ⊎_elim
-      (λ same. let e : s ≡ r = pool.once s r live (is ∙ sym same) in subst (λ k. get_or (set before s true) k true ≡ true) e (set_here before s))
+      (λ same.
+      let e : s ≡ r = pool.once s r live (is ∙ sym same) in
+      subst (λ k. get_or (set before s true) k true ≡ true) e (set_here before s))
       (λ (deep, more). absurd (omega arith))
       (above_cases (address_at pairs r) t (under-true (address_at pairs r) t under));
 }
 
 -- a mark at a child, after those of its parent
-pub marked_child : (n : ℕ) (pairs : List ℕ) (t s : ℕ) (before middle : List Bool) → IsPool n pairs → 4 ≤ t → address_at pairs s ≡ t →
+pub marked_child : (n : ℕ) (pairs : List ℕ) (t s : ℕ) (before middle : List Bool) → IsPool n pairs → 4 ≤ t →
+    address_at pairs s ≡ t →
     IsPathMarked pairs (t / 2) before middle → IsPathMarked pairs t before (set middle s true)
 marked_child n pairs t s before middle pool deep is parent = record {
   grows = λ r marked. set_stays middle s r (parent.grows r marked);
   above = λ r other under. ⊎_elim
-      (λ same. let e : s ≡ r = pool.once s r (omega arith) (is ∙ sym same) in subst (λ k. get_or (set middle s true) k true ≡ true) e (set_here middle s))
+      (λ same.
+      let e : s ≡ r = pool.once s r (omega arith) (is ∙ sym same) in
+      subst (λ k. get_or (set middle s true) k true ≡ true) e (set_here middle s))
       (λ (low, more). set_stays middle s r (parent.above r other (true-under (address_at pairs r) (t / 2) other more)))
       (above_cases (address_at pairs r) t (under-true (address_at pairs r) t under));
 }
@@ -68,10 +76,13 @@ marked_absent pairs t before after absent parent = record {
 }
 
 -- a triangle whose parent is at no slot is at none
-pub not_live : (n : ℕ) (pairs : List ℕ) (t : ℕ) → IsPool n pairs → 4 ≤ t → ((r : ℕ) → address_at pairs r ≡ t / 2 → ⊥) → (r : ℕ) → address_at pairs r ≡ t → ⊥
+pub not_live : (n : ℕ) (pairs : List ℕ) (t : ℕ) → IsPool n pairs → 4 ≤ t → ((r : ℕ) → address_at pairs r ≡ t / 2 → ⊥) →
+    (r : ℕ) → address_at pairs r ≡ t → ⊥
 not_live n pairs t pool deep none r is =
-    let has : has_children pairs (t / 2) ≡ true = subst (λ k. has_children pairs (k / 2) ≡ true) is (parent_has_children pairs r (omega arith)) in
-    let found = slot_of pairs (t / 2) (omega arith) (member_parent n pairs (t / 2) pool (omega arith) has) in none found.0 found.1
+    let has : has_children pairs (t / 2) ≡ true =
+    subst (λ k. has_children pairs (k / 2) ≡ true) is (parent_has_children pairs r (omega arith)) in
+    let found = slot_of pairs (t / 2) (omega arith) (member_parent n pairs (t / 2) pool (omega arith) has) in
+    none found.0 found.1
 
 -- the slots of the halves of the square
 pub half_slot : (pairs : List ℕ) (t s : ℕ) → get_or pairs 0 0 ≡ 1 → 2 ≤ t → t < 4 → s ≡ t - 2 → address_at pairs s ≡ t
@@ -84,18 +95,24 @@ pub deep_by : (t : ℕ) → (t < 4 → true ≡ false) → 4 ≤ t
 deep_by t half = ⊎_elim (λ low. absurd (true≢false (half low))) (λ deep. deep) (cases_lt t 4)
 
 -- the marks after the child's step
-pub marked_by : (n : ℕ) (pairs : List ℕ) (t : ℕ) (w middle after : WalkState) (found : Option Slot) → IsPool n pairs → 4 ≤ t →
+pub marked_by : (n : ℕ) (pairs : List ℕ) (t : ℕ) (w middle after : WalkState) (found : Option Slot) →
+    IsPool n pairs → 4 ≤ t →
     IsPathMarked pairs (t / 2) w.touched middle.touched →
     IfSome found (λ r. (address_at pairs r.0 ≡ t) × (after ≡ record middle { touched = set middle.touched r.0 true })) →
-    (IsNone found → (r : ℕ) → address_at pairs r ≡ t → ⊥) → (IsNone found → after ≡ middle) → IsPathMarked pairs t w.touched after.touched
+    (IsNone found → (r : ℕ) → address_at pairs r ≡ t → ⊥) → (IsNone found → after ≡ middle) →
+    IsPathMarked pairs t w.touched after.touched
 marked_by n pairs t w middle after None pool deep parent there absent same =
-    subst (λ (z : WalkState). IsPathMarked pairs t w.touched z.touched) (sym (same refl)) (marked_absent pairs t w.touched middle.touched (absent refl) parent)
+    subst (λ (z : WalkState). IsPathMarked pairs t w.touched z.touched) (sym (same refl))
+    (marked_absent pairs t w.touched middle.touched (absent refl) parent)
 marked_by n pairs t w middle after (Some r) pool deep parent there absent same =
-    subst (λ (z : WalkState). IsPathMarked pairs t w.touched z.touched) (sym there.1) (marked_child n pairs t r.0 w.touched middle.touched pool deep there.0 parent)
+    subst (λ (z : WalkState). IsPathMarked pairs t w.touched z.touched) (sym there.1)
+    (marked_child n pairs t r.0 w.touched middle.touched pool deep there.0 parent)
 
 -- where what is above each triangle of a list has marks, what has none has not changed
-pub untouched_by : (pairs changed : List ℕ) (touched : List Bool) (before : ℕ → Bool) → IsCovered before (split_set pairs) changed →
-    ((b r : ℕ) → Contains changed b → IsLive pairs r → is_at_or_below (address_at pairs r) b ≡ true → get_or touched r true ≡ true) →
+pub untouched_by : (pairs changed : List ℕ) (touched : List Bool) (before : ℕ → Bool) →
+    IsCovered before (split_set pairs) changed →
+    ((b r : ℕ) → Contains changed b → IsLive pairs r → is_at_or_below (address_at pairs r) b ≡ true →
+    get_or touched r true ≡ true) →
     AreUntouched pairs touched before
 untouched_by pairs changed touched before covered above r live unmarked b under = ⊎_elim
     (λ same. same)

@@ -1,5 +1,6 @@
 -- Where triangles begin and end, depth first, and runs of a list.
-use Rattle.std.proofs.Common.{◌≡◌, ℕ, zero, suc, ◌+◌, ◌-◌, ◌*◌, ◌%◌, ◌^◌, ◌<◌, ◌≤◌, true, nat_lt, List, [], ◌∷◌, ◌++◌, length, drop, get_or, inl, inr, refl, ◌∙◌, ap, arith, ⊎_elim, pow_pos, pow-add}
+use Rattle.std.proofs.Common.{◌≡◌, ℕ, zero, suc, ◌+◌, ◌-◌, ◌*◌, ◌%◌, ◌^◌, ◌<◌, ◌≤◌, true, nat_lt, List, [], ◌∷◌, ◌++◌}
+use Rattle.std.proofs.Common.{length, drop, get_or, inl, inr, refl, ◌∙◌, ap, arith, ⊎_elim, pow_pos, pow-add}
 use Rattle.std.proofs.Math.Nat.{pow-succ', mul-le-mul_right, mul_assoc}
 use Rattle.std.proofs.Math.Seq.{drop-cons}
 use Rattle.std.proofs.lemmas.Bool.{lt-ltb, le-ltb, ltb-false, eqb-true, cond-true, cond-false, cases_Bool}
@@ -69,7 +70,9 @@ end-small a low deep =
     let below = lt-pow-level a low in
     let le : a + 1 ≤ 4 * 2 ^ level_of a = omega arith in
     let times : (a + 1) * p ≤ 4 * 2 ^ level_of a * p = mul-le-mul_right p le in
-    let all : 2 ^ 22 ≡ 2 ^ level_of a * p = ap (λ k. 2 ^ k) (let e : 22 ≡ level_of a + (22 - level_of a) = omega arith in e) ∙ pow-add 2 (level_of a) (22 - level_of a) in
+    let all : 2 ^ 22 ≡ 2 ^ level_of a * p =
+    ap (λ k. 2 ^ k) (let e : 22 ≡ level_of a + (22 - level_of a) = omega arith in e)
+    ∙ pow-add 2 (level_of a) (22 - level_of a) in
     let e = mul_assoc 4 (2 ^ level_of a) p in omega arith
 
 -- a number below 2 ^ 32 loses no bits
@@ -77,17 +80,20 @@ whole : (x : ℕ) → x < 4294967296 → x % 4294967296 ≡ x
 whole x small = omega arith
 
 -- as they are computed
-pub shifted_first : (a x l : ℕ) → 2 ≤ a → level_of a ≤ 22 → x ≡ a → l ≡ level_of a → x * 2 ^ (22 - l) % 4294967296 ≡ first_of a
+pub shifted_first : (a x l : ℕ) → 2 ≤ a → level_of a ≤ 22 → x ≡ a → l ≡ level_of a →
+    x * 2 ^ (22 - l) % 4294967296 ≡ first_of a
 shifted_first a x l low deep is level =
     let small = end-small a low deep in
     let before = first-end a in
     let e : x * 2 ^ (22 - l) ≡ first_of a = ap (λ k. k * 2 ^ (22 - l)) is ∙ ap (λ k. a * 2 ^ (22 - k)) level in
     ap (λ k. k % 4294967296) e ∙ whole (first_of a) (omega arith)
 
-pub shifted_end : (a x l : ℕ) → 2 ≤ a → level_of a ≤ 22 → x ≡ a → l ≡ level_of a → (x + 1) * 2 ^ (22 - l) % 4294967296 ≡ end_of a
+pub shifted_end : (a x l : ℕ) → 2 ≤ a → level_of a ≤ 22 → x ≡ a → l ≡ level_of a →
+    (x + 1) * 2 ^ (22 - l) % 4294967296 ≡ end_of a
 shifted_end a x l low deep is level =
     let small = end-small a low deep in
-    let e : (x + 1) * 2 ^ (22 - l) ≡ end_of a = ap (λ k. (k + 1) * 2 ^ (22 - l)) is ∙ ap (λ k. (a + 1) * 2 ^ (22 - k)) level in
+    let e : (x + 1) * 2 ^ (22 - l) ≡ end_of a =
+    ap (λ k. (k + 1) * 2 ^ (22 - l)) is ∙ ap (λ k. (a + 1) * 2 ^ (22 - k)) level in
     ap (λ k. k % 4294967296) e ∙ whole (end_of a) (omega arith)
 
 -- runs
@@ -97,14 +103,17 @@ pub run-own : (t : ℕ) (own more : List ℕ) → ((b : ℕ) → IsIn b own → 
     run_length t (own ++ more) ≡ length own
 run-own t [] more each none = none
 run-own t (x ∷ own) more each none =
-    cond-true (nat_lt (first_of x) (end_of t)) (1 + run_length t (own ++ more)) 0 (lt-ltb (first_of x) (end_of t) (each x (inl refl)))
+    cond-true (nat_lt (first_of x) (end_of t)) (1 + run_length t (own ++ more)) 0
+    (lt-ltb (first_of x) (end_of t) (each x (inl refl)))
     ∙ (let e = run-own t own more (λ b h. each b (inr h)) none in omega arith)
 
 -- one that begins behind t has no run
 pub run-apart : (t b : ℕ) (more : List ℕ) → end_of t ≤ first_of b → run_length t (b ∷ more) ≡ 0
-run-apart t b more behind = cond-false (nat_lt (first_of b) (end_of t)) (1 + run_length t more) 0 (le-ltb (first_of b) (end_of t) behind)
+run-apart t b more behind =
+    cond-false (nat_lt (first_of b) (end_of t)) (1 + run_length t more) 0 (le-ltb (first_of b) (end_of t) behind)
 
-pub run-behind : (t : ℕ) (xs more : List ℕ) → 1 ≤ length xs → ((b : ℕ) → IsIn b xs → end_of t ≤ first_of b) → run_length t (xs ++ more) ≡ 0
+pub run-behind : (t : ℕ) (xs more : List ℕ) → 1 ≤ length xs → ((b : ℕ) → IsIn b xs → end_of t ≤ first_of b) →
+    run_length t (xs ++ more) ≡ 0
 run-behind t [] more some each = absurd (omega arith)
 run-behind t (x ∷ xs) more some each = run-apart t x (xs ++ more) (each x (inl refl))
 
@@ -136,13 +145,16 @@ drop_past (x ∷ xs) (suc k) past = drop_past xs k (omega arith)
 pub run_more : (t : ℕ) (xs : List ℕ) (k d : ℕ) → k < length xs → first_of (get_or xs k d) < end_of t →
     run_length t (drop k xs) ≡ 1 + run_length t (drop (k + 1) xs)
 run_more t xs k d within before =
-    ap (run_length t) (drop-cons xs k d within) ∙ cond-true (nat_lt (first_of (get_or xs k d)) (end_of t)) (1 + run_length t (drop (suc k) xs)) 0
+    ap (run_length t) (drop-cons xs k d within)
+    ∙ cond-true (nat_lt (first_of (get_or xs k d)) (end_of t)) (1 + run_length t (drop (suc k) xs)) 0
     (lt-ltb (first_of (get_or xs k d)) (end_of t) before)
     ∙ ap (λ j. 1 + run_length t (drop j xs)) (let e : suc k ≡ k + 1 = omega arith in e)
 
 -- and its end
-pub run_over : (t : ℕ) (xs : List ℕ) (k d : ℕ) → k < length xs → end_of t ≤ first_of (get_or xs k d) → run_length t (drop k xs) ≡ 0
-run_over t xs k d within behind = ap (run_length t) (drop-cons xs k d within) ∙ run-apart t (get_or xs k d) (drop (suc k) xs) behind
+pub run_over : (t : ℕ) (xs : List ℕ) (k d : ℕ) → k < length xs → end_of t ≤ first_of (get_or xs k d) →
+    run_length t (drop k xs) ≡ 0
+run_over t xs k d within behind =
+    ap (run_length t) (drop-cons xs k d within) ∙ run-apart t (get_or xs k d) (drop (suc k) xs) behind
 
 pub run_out : (t : ℕ) (xs : List ℕ) (k : ℕ) → length xs ≤ k → run_length t (drop k xs) ≡ 0
 run_out t xs k past = ap (run_length t) (drop_past xs k past)

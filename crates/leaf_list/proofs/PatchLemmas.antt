@@ -1,5 +1,6 @@
 -- Leaves patched, at and below a triangle.
-use Rattle.std.proofs.Common.{◌≡◌, ℕ, zero, suc, ◌+◌, ◌-◌, ◌*◌, ◌≤◌, Bool, true, false, List, [], ◌∷◌, ◌++◌, length, take, drop, get_or, refl, sym, ◌∙◌, ap, subst, arith, ⊎_elim, append_assoc, append-nil}
+use Rattle.std.proofs.Common.{◌≡◌, ℕ, zero, suc, ◌+◌, ◌-◌, ◌*◌, ◌≤◌, Bool, true, false, List, [], ◌∷◌, ◌++◌, length}
+use Rattle.std.proofs.Common.{take, drop, get_or, refl, sym, ◌∙◌, ap, subst, arith, ⊎_elim, append_assoc, append-nil}
 use Rattle.std.proofs.lemmas.Bool.{cases_Bool, both_ways, eq-eqb}
 use Rattle.std.proofs.lemmas.List.{take_at, drop_at}
 use Rattle.mesh_defs.specs.Triangle.{level_of}
@@ -15,7 +16,8 @@ use Rattle.leaf_list.specs.Change.{alone, IsChange}
 use Rattle.leaf_list.specs.Walk.{WalkState, AreUntouched, IsReady, IsPatched, IsWalkBegun}
 use Rattle.leaf_list.proofs.SlotLemmas.{leaves_halves}
 use Rattle.leaf_list.proofs.OrderLemmas.{AreHalved, halved, run-own, run-behind, run-end, begins-in}
-use Rattle.leaf_list.proofs.UnderLemmas.{leaves-some, leaves-within, leaves-above, leaves-same, leaves-apart, halves-apart, halves_meet, leaves-shared}
+use Rattle.leaf_list.proofs.UnderLemmas.{leaves-some, leaves-within, leaves-above, leaves-same, leaves-apart}
+use Rattle.leaf_list.proofs.UnderLemmas.{halves-apart, halves_meet, leaves-shared}
 use Rattle.leaf_list.proofs.ChangeLemmas.{alone-self, alone-apart, alone-both, shared, shared-both, alone-alone}
 
 -- what is to be read
@@ -27,7 +29,8 @@ pub record IsRead (t : ℕ) (own more rest : List ℕ) : Type 0 where
   pub dropped : drop (run_length t rest) rest ≡ more
 
 pub read_own : (levels : ℕ) (before : ℕ → Bool) (t : ℕ) (more rest : List ℕ) → 2 ≤ t → level_of t + levels ≤ 22 →
-    rest ≡ leaves_under levels before t ++ more → run_length t more ≡ 0 → IsRead t (leaves_under levels before t) more rest
+    rest ≡ leaves_under levels before t ++ more → run_length t more ≡ 0 →
+    IsRead t (leaves_under levels before t) more rest
 read_own levels before t more rest low deep listed apart =
     let own : List ℕ = leaves_under levels before t in
     let count : run_length t rest ≡ length own =
@@ -39,29 +42,34 @@ read_own levels before t more rest low deep listed apart =
     }
 
 -- a list that begins with t has no other old leaf there
-pub begins_leaf : (levels : ℕ) (before : ℕ → Bool) (t : ℕ) (more rest : List ℕ) → 2 ≤ t → rest ≡ leaves_under levels before t ++ more →
+pub begins_leaf : (levels : ℕ) (before : ℕ → Bool) (t : ℕ) (more rest : List ℕ) → 2 ≤ t →
+    rest ≡ leaves_under levels before t ++ more →
     begins_with t rest ≡ true → leaves_under levels before t ≡ t ∷ []
 begins_leaf zero before t more rest low listed begins = refl
 begins_leaf (suc levels) before t more rest low listed begins = ⊎_elim
     (λ split.
     let own : List ℕ = leaves_under (suc levels) before t in
-    let is : IsIn t own = begins-in t own more (leaves-some (suc levels) before t) (sym (ap (begins_with t) listed) ∙ begins) in
+    let is : IsIn t own =
+    begins-in t own more (leaves-some (suc levels) before t) (sym (ap (begins_with t) listed) ∙ begins) in
     absurd (let above = leaves-above (suc levels) before t t (omega arith) (omega arith) split is in omega arith))
     (λ whole. leaves_under-whole (suc levels) before t whole)
     (cases_Bool (before t))
 
 -- and one that does not has the old leaves of its children
-pub begins_split : (levels : ℕ) (before : ℕ → Bool) (t : ℕ) (more rest : List ℕ) → rest ≡ leaves_under levels before t ++ more →
+pub begins_split : (levels : ℕ) (before : ℕ → Bool) (t : ℕ) (more rest : List ℕ) →
+    rest ≡ leaves_under levels before t ++ more →
     begins_with t rest ≡ false → (1 ≤ levels) × (before t ≡ true)
 begins_split zero before t more rest listed begins =
     absurd (both_ways (begins_with t rest) begins (ap (begins_with t) listed ∙ eq-eqb t t refl))
 begins_split (suc levels) before t more rest listed begins = ⊎_elim
     (λ split. (omega arith, split))
     (λ whole. absurd (both_ways (begins_with t rest) begins
-    (ap (begins_with t) (listed ∙ ap (λ xs. xs ++ more) (leaves_under-whole (suc levels) before t whole)) ∙ eq-eqb t t refl)))
+    (ap (begins_with t) (listed ∙ ap (λ xs. xs ++ more) (leaves_under-whole (suc levels) before t whole))
+    ∙ eq-eqb t t refl)))
     (cases_Bool (before t))
 
-module _ (pairs : List ℕ) (touched : List Bool) (levels t : ℕ) (w : WalkState) (low : 2 ≤ t) (deep : level_of t + levels ≤ 22)
+module _ (pairs : List ℕ) (touched : List Bool) (levels t : ℕ) (w : WalkState) (low : 2 ≤ t)
+    (deep : level_of t + levels ≤ 22)
     (ready : IsReady pairs touched levels t w.rest) where
   abbrev own : List ℕ
   own = leaves_under levels ready.before t
@@ -73,9 +81,11 @@ module _ (pairs : List ℕ) (touched : List Bool) (levels t : ℕ) (w : WalkStat
   read = read_own levels ready.before t ready.more w.rest low deep ready.listed ready.apart
 
   -- how many old leaves there are
-  pub own_same : AreUntouched pairs touched ready.before → (s : ℕ) → IsLive pairs s → address_at pairs s ≡ t → get_or touched s true ≡ false → own ≡ now
+  pub own_same : AreUntouched pairs touched ready.before → (s : ℕ) → IsLive pairs s → address_at pairs s ≡ t →
+      get_or touched s true ≡ false → own ≡ now
   own_same untouched s live is unmarked = leaves-same levels ready.before (split_set pairs) t low
-      (λ b under. untouched s live unmarked b (subst (λ k. is_at_or_below k b ≡ true) (sym is) (true-under t b low under)))
+      (λ b under. untouched s live unmarked b
+      (subst (λ k. is_at_or_below k b ≡ true) (sym is) (true-under t b low under)))
 
   -- below a slot without a mark all stays: so many there are
   pub kept_room : own ≡ now → run_length t w.rest ≡ length now
@@ -83,14 +93,18 @@ module _ (pairs : List ℕ) (touched : List Bool) (levels t : ℕ) (w : WalkStat
 
   -- and this is the patch
   pub patched_kept : (after : WalkState) → own ≡ now →
-      after ≡ record w { leaves = w.leaves ++ take (run_length t w.rest) w.rest; rest = drop (run_length t w.rest) w.rest } → IsPatched now t w after
+      after ≡ record w
+      { leaves = w.leaves ++ take (run_length t w.rest) w.rest; rest = drop (run_length t w.rest) w.rest } →
+      IsPatched now t w after
   patched_kept after same e =
       let taken : take (run_length t w.rest) w.rest ≡ now = read.taken ∙ same in
       rw e (record {
         leaves = ap (λ xs. w.leaves ++ xs) taken;
         rest = refl;
-        gone = sym (ap (λ xs. w.gone ++ alone xs now) taken ∙ ap (λ xs. w.gone ++ xs) (alone-self now) ∙ append-nil w.gone);
-        come = sym (ap (λ xs. w.come ++ alone now xs) taken ∙ ap (λ xs. w.come ++ xs) (alone-self now) ∙ append-nil w.come);
+        gone = sym (ap (λ xs. w.gone ++ alone xs now) taken
+            ∙ ap (λ xs. w.gone ++ xs) (alone-self now) ∙ append-nil w.gone);
+        come = sym (ap (λ xs. w.come ++ alone now xs) taken
+            ∙ ap (λ xs. w.come ++ xs) (alone-self now) ∙ append-nil w.come);
         touched = refl;
         most = refl;
       })
@@ -102,7 +116,8 @@ module _ (pairs : List ℕ) (touched : List Bool) (levels t : ℕ) (w : WalkStat
       let mine : own ≡ t ∷ [] = begins_leaf levels ready.before t ready.more w.rest low ready.listed begins in
       let one : run_length t w.rest ≡ 1 = read.count ∙ ap length mine in
       let same : own ≡ now = mine ∙ sym leaf in
-      patched_kept after same (e ∙ ap (λ xs. record w { leaves = w.leaves ++ xs; rest = drop 1 w.rest }) (sym (read.taken ∙ mine))
+      patched_kept after same
+      (e ∙ ap (λ xs. record w { leaves = w.leaves ++ xs; rest = drop 1 w.rest }) (sym (read.taken ∙ mine))
       ∙ ap (λ k. record w { leaves = w.leaves ++ take (run_length t w.rest) w.rest; rest = drop k w.rest }) (sym one))
 
   -- one that was split comes for what was below it
@@ -116,7 +131,8 @@ module _ (pairs : List ℕ) (touched : List Bool) (levels t : ℕ) (w : WalkStat
   patched_leaf_comes after leaf begins e =
       let split = begins_split levels ready.before t ready.more w.rest ready.listed begins in
       let apart : (b : ℕ) → IsIn b own → IsIn b (t ∷ []) → ⊥ = λ b is other. ⊎_elim
-      (λ (same : t ≡ b). let above = leaves-above levels ready.before t b (omega arith) split.0 split.1 is in absurd (omega arith)) (λ none. none) other in
+      (λ (same : t ≡ b). let above = leaves-above levels ready.before t b (omega arith) split.0 split.1 is in
+      absurd (omega arith)) (λ none. none) other in
       let taken : take (run_length t w.rest) w.rest ≡ own = read.taken in
       let left : alone (take (run_length t w.rest) w.rest) now ≡ take (run_length t w.rest) w.rest =
       ap (λ xs. alone xs now) taken ∙ ap (alone own) leaf ∙ alone-apart own (t ∷ []) apart ∙ sym taken in
@@ -144,9 +160,11 @@ module _ (pairs : List ℕ) (touched : List Bool) (levels t : ℕ) (w : WalkStat
       let one : run_length t w.rest ≡ 1 = read.count ∙ ap length mine in
       let taken : take (run_length t w.rest) w.rest ≡ t ∷ [] = read.taken ∙ mine in
       let apart : (b : ℕ) → IsIn b now → IsIn b (t ∷ []) → ⊥ = λ b is other. ⊎_elim
-      (λ (same : t ≡ b). let above = leaves-above levels (split_set pairs) t b (omega arith) some split is in absurd (omega arith)) (λ none. none) other in
+      (λ (same : t ≡ b). let above = leaves-above levels (split_set pairs) t b (omega arith) some split is in
+      absurd (omega arith)) (λ none. none) other in
       let left : alone (take (run_length t w.rest) w.rest) now ≡ take 1 w.rest =
-      ap (λ xs. alone xs now) taken ∙ alone-apart (t ∷ []) now (λ b x y. apart b y x) ∙ sym taken ∙ ap (λ k. take k w.rest) one in
+      ap (λ xs. alone xs now) taken ∙ alone-apart (t ∷ []) now (λ b x y. apart b y x) ∙ sym taken
+      ∙ ap (λ k. take k w.rest) one in
       let new : alone now (take (run_length t w.rest) w.rest) ≡ now =
       ap (alone now) taken ∙ alone-apart now (t ∷ []) apart in
       rw e (record {
@@ -171,21 +189,26 @@ module _ (pairs : List ℕ) (touched : List Bool) (levels t : ℕ) (w : WalkStat
         listed = ready.listed ∙ ap (λ xs. xs ++ ready.more) (leaves_under-split levels ready.before t some split)
             ∙ append_assoc (leaves_under (levels - 1) ready.before (2 * t)) others ready.more;
         apart = run-behind (2 * t) others ready.more (leaves-some (levels - 1) ready.before (2 * t + 1))
-            (λ b is. let lies = (leaves-within (levels - 1) ready.before (2 * t + 1) (omega arith) (omega arith) b is).0 in omega arith);
+            (λ b is.
+            let lies = (leaves-within (levels - 1) ready.before (2 * t + 1) (omega arith) (omega arith) b is).0 in
+            omega arith);
         untouched = ready.untouched;
       }
 
   left_read : (some : 1 ≤ levels) → (split : ready.before t ≡ true) →
-      IsRead (2 * t) (leaves_under (levels - 1) ready.before (2 * t)) (leaves_under (levels - 1) ready.before (2 * t + 1) ++ ready.more) w.rest
+      IsRead (2 * t) (leaves_under (levels - 1) ready.before (2 * t))
+      (leaves_under (levels - 1) ready.before (2 * t + 1) ++ ready.more) w.rest
   unfolding ready_left
   left_read some split =
       let r = ready_left some split in
       let left = level_of-left t low in
-      read_own (levels - 1) ready.before (2 * t) (leaves_under (levels - 1) ready.before (2 * t + 1) ++ ready.more) w.rest (omega arith) (omega arith) r.listed r.apart
+      read_own (levels - 1) ready.before (2 * t) (leaves_under (levels - 1) ready.before (2 * t + 1) ++ ready.more)
+      w.rest (omega arith) (omega arith) r.listed r.apart
 
   -- and for the right one after it
   pub ready_right : (middle : WalkState) → 1 ≤ levels → ready.before t ≡ true → middle.touched ≡ touched →
-      middle.rest ≡ drop (run_length (2 * t) w.rest) w.rest → IsReady pairs middle.touched (levels - 1) (2 * t + 1) middle.rest
+      middle.rest ≡ drop (run_length (2 * t) w.rest) w.rest →
+      IsReady pairs middle.touched (levels - 1) (2 * t + 1) middle.rest
   ready_right middle some split marks rest =
       let h : AreHalved t = halved t low (omega arith) in
       let e1 = h.right_end in let e2 = h.end in
@@ -201,7 +224,8 @@ module _ (pairs : List ℕ) (touched : List Bool) (levels t : ℕ) (w : WalkStat
   -- and the two together
   pub patched_both : (middle after : WalkState) → 1 ≤ levels → ready.before t ≡ true → split_set pairs t ≡ true →
       IsPatched (leaves_under (levels - 1) (split_set pairs) (2 * t)) (2 * t) w middle →
-      IsPatched (leaves_under (levels - 1) (split_set pairs) (2 * t + 1)) (2 * t + 1) middle after → IsPatched now t w after
+      IsPatched (leaves_under (levels - 1) (split_set pairs) (2 * t + 1)) (2 * t + 1) middle after →
+      IsPatched now t w after
   patched_both middle after some was split one two =
       let h : AreHalved t = halved t low (omega arith) in
       let e1 = h.left_end in let e2 = h.right_first in let e3 = h.right_end in let e4 = h.end in
@@ -219,16 +243,20 @@ module _ (pairs : List ℕ) (touched : List Bool) (levels t : ℕ) (w : WalkStat
       read_own (levels - 1) ready.before (2 * t + 1) ready.more middle.rest (omega arith) (omega arith) next
       (run-end t (2 * t + 1) ready.more (omega arith) ready.apart) in
       let apart : (has other : ℕ → Bool) (b : ℕ) → IsIn b (leaves_under (levels - 1) has (2 * t)) →
-      IsIn b (leaves_under (levels - 1) other (2 * t + 1)) → ⊥ = λ has other b x y. leaves-apart (levels - 1) has other t low (omega arith) b x y in
+      IsIn b (leaves_under (levels - 1) other (2 * t + 1)) → ⊥ =
+      λ has other b x y. leaves-apart (levels - 1) has other t low (omega arith) b x y in
       let taken : take (run_length t w.rest) w.rest ≡ l ++ r = read.taken ∙ mine in
       let left : alone (take (run_length t w.rest) w.rest) now ≡ alone l m ++ alone r s =
       ap (λ xs. alone xs now) taken ∙ ap (alone (l ++ r)) all
-      ∙ alone-both l r m s (apart ready.before (split_set pairs)) (λ b x y. apart (split_set pairs) ready.before b y x) in
+      ∙ alone-both l r m s (apart ready.before (split_set pairs))
+      (λ b x y. apart (split_set pairs) ready.before b y x) in
       let new : alone now (take (run_length t w.rest) w.rest) ≡ alone m l ++ alone s r =
       ap (alone now) taken ∙ ap (λ xs. alone xs (l ++ r)) all
-      ∙ alone-both m s l r (apart (split_set pairs) ready.before) (λ b x y. apart ready.before (split_set pairs) b y x) in
+      ∙ alone-both m s l r (apart (split_set pairs) ready.before)
+      (λ b x y. apart ready.before (split_set pairs) b y x) in
       record {
-        leaves = two.leaves ∙ ap (λ xs. xs ++ s) one.leaves ∙ append_assoc w.leaves m s ∙ ap (λ xs. w.leaves ++ xs) (sym all);
+        leaves = two.leaves ∙ ap (λ xs. xs ++ s) one.leaves ∙ append_assoc w.leaves m s
+            ∙ ap (λ xs. w.leaves ++ xs) (sym all);
         rest = two.rest ∙ second.dropped ∙ sym read.dropped;
         gone = two.gone ∙ ap (λ xs. middle.gone ++ alone xs s) second.taken ∙ ap (λ xs. xs ++ alone r s) one.gone
             ∙ append_assoc w.gone (alone (take (run_length (2 * t) w.rest) w.rest) m) (alone r s)
@@ -242,7 +270,8 @@ module _ (pairs : List ℕ) (touched : List Bool) (levels t : ℕ) (w : WalkStat
 
 -- the whole
 
-module _ (n : ℕ) (pairs : List ℕ) (levels : ℕ) (w : WalkState) (few : n ≤ 11) (all : levels ≡ 2 * n) (begun : IsWalkBegun n pairs w) where
+module _ (n : ℕ) (pairs : List ℕ) (levels : ℕ) (w : WalkState) (few : n ≤ 11) (all : levels ≡ 2 * n)
+    (begun : IsWalkBegun n pairs w) where
   abbrev was : ℕ → List ℕ
   was a = leaves_under levels begun.before a
 
@@ -256,7 +285,8 @@ module _ (n : ℕ) (pairs : List ℕ) (levels : ℕ) (w : WalkState) (few : n �
   second_level = level_of-root 3 (omega arith) (omega arith)
 
   listed : w.rest ≡ was 2 ++ was 3
-  listed = begun.listed ∙ leaves_halves n begun.before ∙ ap (λ l. leaves_under l begun.before 2 ++ leaves_under l begun.before 3) (sym all)
+  listed = begun.listed ∙ leaves_halves n begun.before
+      ∙ ap (λ l. leaves_under l begun.before 2 ++ leaves_under l begun.before 3) (sym all)
 
   behind : run_length 2 (was 3) ≡ 0
   behind =
@@ -267,13 +297,22 @@ module _ (n : ℕ) (pairs : List ℕ) (levels : ℕ) (w : WalkState) (few : n �
 
   -- what is read for the lower half of the square,
   pub ready_lower : IsReady pairs w.touched levels 2 w.rest
-  ready_lower = record { before = begun.before; more = was 3; listed = listed; apart = behind; untouched = begun.untouched }
+  ready_lower = record {
+    before = begun.before;
+    more = was 3;
+    listed = listed;
+    apart = behind;
+    untouched = begun.untouched;
+  }
 
   lower_read : IsRead 2 (was 2) (was 3) w.rest
-  lower_read = let level = first_level in read_own levels begun.before 2 (was 3) w.rest (omega arith) (omega arith) listed behind
+  lower_read =
+      let level = first_level in
+      read_own levels begun.before 2 (was 3) w.rest (omega arith) (omega arith) listed behind
 
   -- and for the upper one
-  pub ready_upper : (middle : WalkState) → IsPatched (is 2) 2 w middle → IsReady pairs middle.touched levels 3 middle.rest
+  pub ready_upper : (middle : WalkState) → IsPatched (is 2) 2 w middle →
+      IsReady pairs middle.touched levels 3 middle.rest
   ready_upper middle one = record {
     before = begun.before;
     more = [];
@@ -283,10 +322,12 @@ module _ (n : ℕ) (pairs : List ℕ) (levels : ℕ) (w : WalkState) (few : n �
   }
 
   -- the leaves of the pool are written then,
-  pub halves_leaves : (middle after : WalkState) → IsPatched (is 2) 2 w middle → IsPatched (is 3) 3 middle after → after.leaves ≡ leaves_of n (split_set pairs)
+  pub halves_leaves : (middle after : WalkState) → IsPatched (is 2) 2 w middle → IsPatched (is 3) 3 middle after →
+      after.leaves ≡ leaves_of n (split_set pairs)
   halves_leaves middle after one two =
       two.leaves ∙ ap (λ xs. xs ++ is 3) (one.leaves ∙ ap (λ xs. xs ++ is 2) begun.none)
-      ∙ ap (λ l. leaves_under l (split_set pairs) 2 ++ leaves_under l (split_set pairs) 3) all ∙ sym (leaves_halves n (split_set pairs))
+      ∙ ap (λ l. leaves_under l (split_set pairs) 2 ++ leaves_under l (split_set pairs) 3) all
+      ∙ sym (leaves_halves n (split_set pairs))
 
   -- and it is told what went and what came
   pub halves_change : (middle after : WalkState) → IsPatched (is 2) 2 w middle → IsPatched (is 3) 3 middle after →
@@ -295,30 +336,42 @@ module _ (n : ℕ) (pairs : List ℕ) (levels : ℕ) (w : WalkState) (few : n �
       let level = second_level in
       let lower = lower_read in
       let next : middle.rest ≡ was 3 ++ [] = one.rest ∙ lower.dropped ∙ sym (append-nil (was 3)) in
-      let upper : IsRead 3 (was 3) [] middle.rest = read_own levels begun.before 3 [] middle.rest (omega arith) (omega arith) next refl in
-      let written : after.leaves ≡ is 2 ++ is 3 = two.leaves ∙ ap (λ xs. xs ++ is 3) (one.leaves ∙ ap (λ xs. xs ++ is 2) begun.none) in
-      let apart : (has other : ℕ → Bool) (b : ℕ) → IsIn b (leaves_under levels has 2) → IsIn b (leaves_under levels other 3) → ⊥ =
+      let upper : IsRead 3 (was 3) [] middle.rest =
+      read_own levels begun.before 3 [] middle.rest (omega arith) (omega arith) next refl in
+      let written : after.leaves ≡ is 2 ++ is 3 =
+      two.leaves ∙ ap (λ xs. xs ++ is 3) (one.leaves ∙ ap (λ xs. xs ++ is 2) begun.none) in
+      let apart : (has other : ℕ → Bool) (b : ℕ) → IsIn b (leaves_under levels has 2) →
+      IsIn b (leaves_under levels other 3) → ⊥ =
       λ has other b x y. halves-apart levels has other (omega arith) b x y in
       let left : after.gone ≡ alone w.rest after.leaves =
-      two.gone ∙ ap (λ xs. middle.gone ++ alone xs (is 3)) upper.taken ∙ ap (λ xs. xs ++ alone (was 3) (is 3)) (one.gone ∙ ap (λ xs. xs ++ alone (take (run_length 2 w.rest) w.rest) (is 2)) begun.gone
+      two.gone ∙ ap (λ xs. middle.gone ++ alone xs (is 3)) upper.taken ∙ ap (λ xs. xs ++ alone (was 3) (is 3)) (one.gone
+      ∙ ap (λ xs. xs ++ alone (take (run_length 2 w.rest) w.rest) (is 2)) begun.gone
       ∙ ap (λ xs. alone xs (is 2)) lower.taken)
-      ∙ sym (alone-both (was 2) (was 3) (is 2) (is 3) (apart begun.before (split_set pairs)) (λ b x y. apart (split_set pairs) begun.before b y x))
+      ∙ sym (alone-both (was 2) (was 3) (is 2) (is 3) (apart begun.before (split_set pairs))
+      (λ b x y. apart (split_set pairs) begun.before b y x))
       ∙ ap (λ xs. alone xs (is 2 ++ is 3)) (sym listed) ∙ ap (alone w.rest) (sym written) in
       let new : after.come ≡ alone after.leaves w.rest =
-      two.come ∙ ap (λ xs. middle.come ++ alone (is 3) xs) upper.taken ∙ ap (λ xs. xs ++ alone (is 3) (was 3)) (one.come ∙ ap (λ xs. xs ++ alone (is 2) (take (run_length 2 w.rest) w.rest)) begun.come
+      two.come ∙ ap (λ xs. middle.come ++ alone (is 3) xs) upper.taken ∙ ap (λ xs. xs ++ alone (is 3) (was 3)) (one.come
+      ∙ ap (λ xs. xs ++ alone (is 2) (take (run_length 2 w.rest) w.rest)) begun.come
       ∙ ap (alone (is 2)) lower.taken)
-      ∙ sym (alone-both (is 2) (is 3) (was 2) (was 3) (apart (split_set pairs) begun.before) (λ b x y. apart begun.before (split_set pairs) b y x))
+      ∙ sym (alone-both (is 2) (is 3) (was 2) (was 3) (apart (split_set pairs) begun.before)
+      (λ b x y. apart begun.before (split_set pairs) b y x))
       ∙ ap (λ xs. alone xs (was 2 ++ was 3)) (sym written) ∙ ap (alone after.leaves) (sym listed) in
       let one_level = first_level in
       let same : shared w.rest after.leaves ≡ shared after.leaves w.rest =
       ap (λ xs. shared xs after.leaves) listed ∙ ap (shared (was 2 ++ was 3)) written
-      ∙ shared-both (was 2) (was 3) (is 2) (is 3) (apart begun.before (split_set pairs)) (λ b x y. apart (split_set pairs) begun.before b y x)
-      ∙ ap (λ xs. xs ++ shared (was 3) (is 3)) (leaves-shared levels begun.before (split_set pairs) 2 (omega arith) (omega arith))
-      ∙ ap (λ xs. shared (is 2) (was 2) ++ xs) (leaves-shared levels begun.before (split_set pairs) 3 (omega arith) (omega arith))
-      ∙ sym (shared-both (is 2) (is 3) (was 2) (was 3) (apart (split_set pairs) begun.before) (λ b x y. apart begun.before (split_set pairs) b y x))
+      ∙ shared-both (was 2) (was 3) (is 2) (is 3) (apart begun.before (split_set pairs))
+      (λ b x y. apart (split_set pairs) begun.before b y x)
+      ∙ ap (λ xs. xs ++ shared (was 3) (is 3))
+      (leaves-shared levels begun.before (split_set pairs) 2 (omega arith) (omega arith))
+      ∙ ap (λ xs. shared (is 2) (was 2) ++ xs)
+      (leaves-shared levels begun.before (split_set pairs) 3 (omega arith) (omega arith))
+      ∙ sym (shared-both (is 2) (is 3) (was 2) (was 3) (apart (split_set pairs) begun.before)
+      (λ b x y. apart begun.before (split_set pairs) b y x))
       ∙ ap (λ xs. shared xs (was 2 ++ was 3)) (sym written) ∙ ap (shared after.leaves) (sym listed) in
       record {
         left = left;
         new = new;
-        kept = ap (alone w.rest) left ∙ alone-alone w.rest after.leaves ∙ same ∙ sym (alone-alone after.leaves w.rest) ∙ ap (alone after.leaves) (sym new);
+        kept = ap (alone w.rest) left ∙ alone-alone w.rest after.leaves ∙ same ∙ sym (alone-alone after.leaves w.rest)
+            ∙ ap (alone after.leaves) (sym new);
       }

@@ -1,5 +1,6 @@
 -- The leaves at and below a triangle: where they stand, and that they are above none of it.
-use Rattle.std.proofs.Common.{◌≡◌, ℕ, zero, suc, ◌+◌, ◌-◌, ◌*◌, ◌^◌, ◌<◌, ◌≤◌, inl, inr, Bool, true, false, List, [], ◌∷◌, ◌++◌, length, refl, sym, ◌∙◌, ap, subst, arith, ⊎_elim, length-append}
+use Rattle.std.proofs.Common.{◌≡◌, ℕ, zero, suc, ◌+◌, ◌-◌, ◌*◌, ◌^◌, ◌<◌, ◌≤◌, inl, inr, Bool, true, false, List, []}
+use Rattle.std.proofs.Common.{◌∷◌, ◌++◌, length, refl, sym, ◌∙◌, ap, subst, arith, ⊎_elim, length-append}
 use Rattle.std.proofs.lemmas.Bool.{cases_Bool}
 use Rattle.mesh_defs.specs.Triangle.{level_of}
 use Rattle.mesh_defs.specs.ClosedSet.{leaves_under}
@@ -16,11 +17,13 @@ pub split_next : (levels : ℕ) (has : ℕ → Bool) (a : ℕ) → has a ≡ tru
     leaves_under (suc levels) has a ≡ leaves_under levels has (2 * a) ++ leaves_under levels has (2 * a + 1)
 split_next levels has a split =
     leaves_under-split (suc levels) has a (omega arith) split
-    ∙ ap (λ l. leaves_under l has (2 * a) ++ leaves_under l has (2 * a + 1)) (let e : suc levels - 1 ≡ levels = omega arith in e)
+    ∙ ap (λ l. leaves_under l has (2 * a) ++ leaves_under l has (2 * a + 1))
+    (let e : suc levels - 1 ≡ levels = omega arith in e)
 
 -- what holds of both forms holds of the leaves
 pub forked : (P : List ℕ → Type 0) (levels : ℕ) (has : ℕ → Bool) (a : ℕ) →
-    (has a ≡ true → P (leaves_under levels has (2 * a) ++ leaves_under levels has (2 * a + 1))) → (has a ≡ false → P (a ∷ [])) →
+    (has a ≡ true → P (leaves_under levels has (2 * a) ++ leaves_under levels has (2 * a + 1))) →
+    (has a ≡ false → P (a ∷ [])) →
     P (leaves_under (suc levels) has a)
 forked P levels has a both alone = ⊎_elim
     (λ split. subst P (sym (split_next levels has a split)) (both split))
@@ -51,11 +54,18 @@ leaves-within (suc levels) has a low deep b within = forked (λ xs. IsIn b xs �
     let h : AreHalved a = halved a low (omega arith) in
     let left = level_of-left a low in
     let right = level_of-right a low in
-    let e1 = h.some in let e2 = h.first in let e3 = h.left_first in let e4 = h.left_end in let e5 = h.right_first in let e6 = h.right_end in let e7 = h.end in
+    let e1 = h.some in
+    let e2 = h.first in
+    let e3 = h.left_first in
+    let e4 = h.left_end in
+    let e5 = h.right_first in
+    let e6 = h.right_end in
+    let e7 = h.end in
     ⊎_elim
     (λ in_left. let lies : Lies (2 * a) b = leaves-within levels has (2 * a) (omega arith) (omega arith) b in_left in
     let x = lies.0 in let y = lies.1 in (omega arith, omega arith))
-    (λ in_right. let lies : Lies (2 * a + 1) b = leaves-within levels has (2 * a + 1) (omega arith) (omega arith) b in_right in
+    (λ in_right. let lies : Lies (2 * a + 1) b =
+    leaves-within levels has (2 * a + 1) (omega arith) (omega arith) b in_right in
     let x = lies.0 in let y = lies.1 in (omega arith, omega arith))
     (IsIn-append b (leaves_under levels has (2 * a)) (leaves_under levels has (2 * a + 1)) is))
     (λ whole is. ⊎_elim (λ same. lies-self a b same) (λ none. absurd none) is)
@@ -74,12 +84,14 @@ leaves-low (suc levels) has a b within = forked (λ xs. IsIn b xs → a ≤ b) l
     within
 
 -- those of a member have a greater one
-pub leaves-above : (levels : ℕ) (has : ℕ → Bool) (a b : ℕ) → 1 ≤ a → 1 ≤ levels → has a ≡ true → IsIn b (leaves_under levels has a) → a < b
+pub leaves-above : (levels : ℕ) (has : ℕ → Bool) (a b : ℕ) → 1 ≤ a → 1 ≤ levels → has a ≡ true →
+    IsIn b (leaves_under levels has a) → a < b
 leaves-above zero has a b low some split is = absurd (omega arith)
 leaves-above (suc levels) has a b low some split is = ⊎_elim
     (λ in_left. let e = leaves-low levels has (2 * a) b in_left in omega arith)
     (λ in_right. let e = leaves-low levels has (2 * a + 1) b in_right in omega arith)
-    (IsIn-append b (leaves_under levels has (2 * a)) (leaves_under levels has (2 * a + 1)) (subst (IsIn b) (split_next levels has a split) is))
+    (IsIn-append b (leaves_under levels has (2 * a)) (leaves_under levels has (2 * a + 1))
+    (subst (IsIn b) (split_next levels has a split) is))
 
 -- two sets that agree at and below a triangle have the same leaves there
 pub leaves-same : (levels : ℕ) (one two : ℕ → Bool) (a : ℕ) → 2 ≤ a → ((b : ℕ) → IsUnder a b → one b ≡ two b) →
@@ -88,11 +100,13 @@ leaves-same zero one two a low same = refl
 leaves-same (suc levels) one two a low same = ⊎_elim
     (λ (split : two a ≡ true).
     let left = leaves-same levels one two (2 * a) (omega arith) (λ b under. same b (IsUnder-left a b low under)) in
-    let right = leaves-same levels one two (2 * a + 1) (omega arith) (λ b under. same b (IsUnder-right a b low under)) in
+    let right =
+    leaves-same levels one two (2 * a + 1) (omega arith) (λ b under. same b (IsUnder-right a b low under)) in
     split_next levels one a (same a self ∙ split)
     ∙ ap (λ xs. xs ++ leaves_under levels one (2 * a + 1)) left ∙ ap (λ xs. leaves_under levels two (2 * a) ++ xs) right
     ∙ sym (split_next levels two a split))
-    (λ (whole : two a ≡ false). leaves_under-whole (suc levels) one a (same a self ∙ whole) ∙ sym (leaves_under-whole (suc levels) two a whole))
+    (λ (whole : two a ≡ false). leaves_under-whole (suc levels) one a (same a self ∙ whole)
+    ∙ sym (leaves_under-whole (suc levels) two a whole))
     (cases_Bool (two a))
 
 -- none lies below the left and below the right child of a triangle, whatever the sets
@@ -108,10 +122,13 @@ leaves-apart levels one two a low deep b left right =
 
 -- the lower half of the square ends where the upper one begins
 pub halves_meet : end_of 2 ≡ first_of 3
-halves_meet = ap (λ l. 3 * 2 ^ (22 - l)) (level_of-root 2 (omega arith) (omega arith) ∙ sym (level_of-root 3 (omega arith) (omega arith)))
+halves_meet =
+    ap (λ l. 3 * 2 ^ (22 - l)) (level_of-root 2 (omega arith) (omega arith)
+    ∙ sym (level_of-root 3 (omega arith) (omega arith)))
 
 -- so none lies in both
-pub halves-apart : (levels : ℕ) (one two : ℕ → Bool) → levels ≤ 22 → (b : ℕ) → IsIn b (leaves_under levels one 2) → IsIn b (leaves_under levels two 3) → ⊥
+pub halves-apart : (levels : ℕ) (one two : ℕ → Bool) → levels ≤ 22 → (b : ℕ) → IsIn b (leaves_under levels one 2) →
+    IsIn b (leaves_under levels two 3) → ⊥
 halves-apart levels one two deep b lower upper =
     let first = level_of-root 2 (omega arith) (omega arith) in
     let second = level_of-root 3 (omega arith) (omega arith) in
@@ -121,18 +138,26 @@ halves-apart levels one two deep b lower upper =
 
 -- what two sets share as leaves stands in one order in both
 pub leaves-shared : (levels : ℕ) (one two : ℕ → Bool) (a : ℕ) → 2 ≤ a → level_of a + levels ≤ 22 →
-    shared (leaves_under levels one a) (leaves_under levels two a) ≡ shared (leaves_under levels two a) (leaves_under levels one a)
+    shared (leaves_under levels one a) (leaves_under levels two a)
+    ≡ shared (leaves_under levels two a) (leaves_under levels one a)
 leaves-shared zero one two a low deep = refl
 leaves-shared (suc levels) one two a low deep =
-    forked (λ xs. shared xs (leaves_under (suc levels) two a) ≡ shared (leaves_under (suc levels) two a) xs) levels one a
+    forked (λ xs. shared xs (leaves_under (suc levels) two a)
+    ≡ shared (leaves_under (suc levels) two a) xs) levels one a
     (λ here. forked (λ ys. shared (l ++ r) ys ≡ shared ys (l ++ r)) levels two a
-    (λ there. shared-both l r m s (leaves-apart levels one two a low deep) (λ b x y. leaves-apart levels two one a low deep b y x)
-    ∙ ap (λ xs. xs ++ shared r s) (leaves-shared levels one two (2 * a) (omega arith) (omega (arith, level_of-left a low)))
-    ∙ ap (λ xs. shared m l ++ xs) (leaves-shared levels one two (2 * a + 1) (omega arith) (omega (arith, level_of-right a low)))
-    ∙ sym (shared-both m s l r (leaves-apart levels two one a low deep) (λ b x y. leaves-apart levels one two a low deep b y x)))
-    (λ whole. shared-apart (l ++ r) (a ∷ []) (below one here) ∙ sym (shared-apart (a ∷ []) (l ++ r) (λ b x y. below one here b y x))))
+    (λ there. shared-both l r m s (leaves-apart levels one two a low deep)
+    (λ b x y. leaves-apart levels two one a low deep b y x)
+    ∙ ap (λ xs. xs ++ shared r s) (leaves-shared levels one two (2 * a) (omega arith)
+    (omega (arith, level_of-left a low)))
+    ∙ ap (λ xs. shared m l ++ xs) (leaves-shared levels one two (2 * a + 1) (omega arith)
+    (omega (arith, level_of-right a low)))
+    ∙ sym (shared-both m s l r (leaves-apart levels two one a low deep)
+    (λ b x y. leaves-apart levels one two a low deep b y x)))
+    (λ whole. shared-apart (l ++ r) (a ∷ []) (below one here)
+    ∙ sym (shared-apart (a ∷ []) (l ++ r) (λ b x y. below one here b y x))))
     (λ whole. forked (λ ys. shared (a ∷ []) ys ≡ shared ys (a ∷ [])) levels two a
-    (λ there. shared-apart (a ∷ []) (m ++ s) (λ b x y. below two there b y x) ∙ sym (shared-apart (m ++ s) (a ∷ []) (below two there)))
+    (λ there. shared-apart (a ∷ []) (m ++ s) (λ b x y. below two there b y x)
+    ∙ sym (shared-apart (m ++ s) (a ∷ []) (below two there)))
     (λ too. refl))
   where
     l : List ℕ
@@ -147,7 +172,8 @@ leaves-shared (suc levels) one two a low deep =
     s : List ℕ
     s = leaves_under levels two (2 * a + 1)
 
-    below : (has : ℕ → Bool) → has a ≡ true → (b : ℕ) → IsIn b (leaves_under levels has (2 * a) ++ leaves_under levels has (2 * a + 1)) → IsIn b (a ∷ []) → ⊥
+    below : (has : ℕ → Bool) → has a ≡ true → (b : ℕ) →
+        IsIn b (leaves_under levels has (2 * a) ++ leaves_under levels has (2 * a + 1)) → IsIn b (a ∷ []) → ⊥
     below has split b is other = ⊎_elim
         (λ (same : a ≡ b). let above = leaves-above (suc levels) has a b (omega arith) (omega arith) split
         (subst (IsIn b) (sym (split_next levels has a split)) is) in absurd (omega arith))

@@ -3,8 +3,8 @@
 use Rattle.std.specs.Prelude.{◌≡◌, ℕ, List}
 pub use Rattle.mesh_arrays.specs.Changes.{alone}
 
--- Just the triangles of the first list that are not in the second are gone, just those of the second that are not in the first have
--- come, each in the order of its list, and without them the two lists are one.
+-- Just the triangles of the first list that are not in the second are gone, just those of the second that are not in
+-- the first have come, each in the order of its list, and without them the two lists are one.
 pub record IsChange (before after gone come : List ℕ) : Type 0 where
   pub left : gone ≡ alone before after
   pub new : come ≡ alone after before

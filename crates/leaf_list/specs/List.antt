@@ -4,7 +4,8 @@ use Rattle.std.specs.Prelude.{◌≡◌, ◌⊎◌, ℕ, Bool, List, Contains}
 use Rattle.mesh_defs.specs.ClosedSet.{leaves_of}
 use Rattle.leaf_list.specs.Walk.{WalkState}
 
--- the leaves, depth first; those that the last patch left out, and those that it put in; and for how many leaves there is room
+-- the leaves, depth first; those that the last patch left out, and those that it put in; and for how many leaves there
+-- is room
 pub record ListState : Type 0 where
   pub leaves : List ℕ
   pub gone : List ℕ

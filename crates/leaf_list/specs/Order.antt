@@ -1,6 +1,8 @@
--- The order of triangles, depth first: each stands for the triangles of the deepest level below it, which follow one another.
+-- The order of triangles, depth first: each stands for the triangles of the deepest level below it, which follow one
+-- another.
 -- This project's own.
--- Words: first_of, run_length, begins_with; end_of is that of mesh_arrays: the first triangle of level 22 behind those at and below a.
+-- Words: first_of, run_length, begins_with; end_of is that of mesh_arrays: the first triangle of level 22 behind those
+-- at and below a.
 use Rattle.std.specs.Prelude.{ℕ, ◌+◌, ◌-◌, ◌*◌, ◌^◌, Bool, false, nat_lt, nat_eq, cond, List, [], ◌∷◌}
 use Rattle.mesh_defs.specs.Triangle.{level_of}
 pub use Rattle.mesh_arrays.specs.Changes.{end_of}

@@ -8,8 +8,8 @@ use Rattle.leaf_list.specs.Order.{run_length}
 use Rattle.leaf_list.specs.Change.{alone}
 use Rattle.leaf_list.specs.Below.{is_at_or_below}
 
--- the leaves that are written, the old ones that are still to be read, what went and what came so far, the mark of each slot, and for
--- how many leaves there is room
+-- the leaves that are written, the old ones that are still to be read, what went and what came so far, the mark of each
+-- slot, and for how many leaves there is room
 pub record WalkState : Type 0 where
   pub leaves : List ℕ
   pub rest : List ℕ
@@ -19,7 +19,8 @@ pub record WalkState : Type 0 where
   pub most : ℕ
 
 -- there is room for as many leaves as may come
-pub record IsRoomy (leaves before gone come : List ℕ) (touched : List Bool) (at most leaf_room before_room gone_room come_room : ℕ) : Type 0 where
+pub record IsRoomy (leaves before gone come : List ℕ) (touched : List Bool)
+    (at most leaf_room before_room gone_room come_room : ℕ) : Type 0 where
   pub small : most ≤ MOST_LEAVES
   pub few : length leaves ≤ most
   pub past : length before ≤ most
@@ -58,9 +59,11 @@ pub record IsPatched (now : List ℕ) (t : ℕ) (before after : WalkState) : Typ
 -- the slots of t and of all above it have marks, beside those that had one
 pub record IsPathMarked (pairs : List ℕ) (t : ℕ) (before after : List Bool) : Type 0 where
   pub grows : (r : ℕ) → slice_index_or before r true ≡ true → slice_index_or after r true ≡ true
-  pub above : (r : ℕ) → IsLive pairs r → is_at_or_below (address_at pairs r) t ≡ true → slice_index_or after r true ≡ true
+  pub above : (r : ℕ) → IsLive pairs r → is_at_or_below (address_at pairs r) t ≡ true →
+      slice_index_or after r true ≡ true
 
--- nothing is written yet, and what is to be read are the leaves of a set that differs from the pool's at slots with marks alone
+-- nothing is written yet, and what is to be read are the leaves of a set that differs from the pool's at slots with
+-- marks alone
 pub record IsWalkBegun (n : ℕ) (pairs : List ℕ) (w : WalkState) : Type 0 where
   pub none : w.leaves ≡ []
   pub gone : w.gone ≡ []

@@ -1,5 +1,6 @@
 -- One pass over the flags, from the last address down, gives the least closed set.
-use Rattle.std.proofs.Common.{◌≡◌, ℕ, ◌+◌, ◌*◌, ◌/◌, ◌^◌, ◌<◌, ◌≤◌, ◌⊎◌, inl, inr, Bool, false, IsTrue, refl, sym, ◌∙◌, subst, arith, ⊎_elim}
+use Rattle.std.proofs.Common.{◌≡◌, ℕ, ◌+◌, ◌*◌, ◌/◌, ◌^◌, ◌<◌, ◌≤◌, ◌⊎◌, inl, inr, Bool, false, IsTrue, refl, sym, ◌∙◌}
+use Rattle.std.proofs.Common.{subst, arith, ⊎_elim}
 use Rattle.std.proofs.lemmas.Bool.{cases_eq, both_ways}
 use Rattle.mesh_defs.specs.Triangle.{level_of, IsAddress, IsSplittable, IsMate}
 use Rattle.mesh_defs.specs.ClosedSet.{IsClosed, IsLeastClosed}
@@ -37,7 +38,8 @@ half-lt a b low_a low_b same =
 -- beginning, a visit, end
 
 -- at first no address was visited
-pub swept_at_first : (n : ℕ) (wanted : ℕ → Bool) → ((a : ℕ) → IsTrue (wanted a) → IsSplittable n a) → IsSwept n wanted wanted (2 ^ (2 * n + 1))
+pub swept_at_first : (n : ℕ) (wanted : ℕ → Bool) → ((a : ℕ) → IsTrue (wanted a) → IsSplittable n a) →
+    IsSwept n wanted wanted (2 ^ (2 * n + 1))
 swept_at_first n wanted splittable = record {
   holds = λ a h. h;
   forced = λ other c holds. holds;
@@ -47,7 +49,8 @@ swept_at_first n wanted splittable = record {
 }
 
 -- a visit of an address that has no flag changes nothing
-pub swept_skip : (n : ℕ) (wanted has : ℕ → Bool) (k : ℕ) → IsSwept n wanted has (k + 1) → has k ≡ false → IsSwept n wanted has k
+pub swept_skip : (n : ℕ) (wanted has : ℕ → Bool) (k : ℕ) → IsSwept n wanted has (k + 1) →
+    has k ≡ false → IsSwept n wanted has k
 swept_skip n wanted has k s none = record {
   holds = s.holds;
   forced = s.forced;
@@ -63,7 +66,8 @@ swept_skip n wanted has k s none = record {
         (cases_eq k a)
 
 -- a visit of an address that has a flag
-module _ (n : ℕ) (wanted has next : ℕ → Bool) (k : ℕ) (s : IsSwept n wanted has (k + 1)) (is : IsTrue (has k)) (m : IsMarked n k has next) where
+module _ (n : ℕ) (wanted has next : ℕ → Bool) (k : ℕ) (s : IsSwept n wanted has (k + 1)) (is : IsTrue (has k))
+    (m : IsMarked n k has next) where
   -- the address is splittable
   visited : IsSplittable n k
   visited = s.splittable k is
@@ -72,19 +76,23 @@ module _ (n : ℕ) (wanted has next : ℕ → Bool) (k : ℕ) (s : IsSwept n wan
   new-splittable : (a : ℕ) → NewMark n k a → IsSplittable n a
   new-splittable a (own_parent big e) = subst (λ z. IsSplittable n z) (sym e) (IsSplittable-half n k visited big)
   new-splittable a (own_mate mate) = IsSplittable-mate n k a visited mate
-  new-splittable a (mate_parent b mate big e) = subst (λ z. IsSplittable n z) (sym e) (IsSplittable-half n b (IsSplittable-mate n k b visited mate) big)
+  new-splittable a (mate_parent b mate big e) =
+      subst (λ z. IsSplittable n z) (sym e) (IsSplittable-half n b (IsSplittable-mate n k b visited mate) big)
 
   -- and a member of each closed set that holds k
   new-forced : (other : ℕ → Bool) → IsClosed n other → IsTrue (other k) → (a : ℕ) → NewMark n k a → IsTrue (other a)
   new-forced other c h a (own_parent big e) = subst (λ z. IsTrue (other z)) (sym e) (c.parent k h big)
   new-forced other c h a (own_mate mate) = c.mate k a h mate
-  new-forced other c h a (mate_parent b mate big e) = subst (λ z. IsTrue (other z)) (sym e) (c.parent b (c.mate k b h mate) big)
+  new-forced other c h a (mate_parent b mate big e) =
+      subst (λ z. IsTrue (other z)) (sym e) (c.parent b (c.mate k b h mate) big)
 
   -- what is marked from k up is the mate
   new-late : (a : ℕ) → k ≤ a → NewMark n k a → IsMate n k a
   new-late a late (own_parent big e) = absurd (omega arith)
   new-late a late (own_mate mate) = mate
-  new-late a late (mate_parent b mate big e) = let less = half-lt k b visited.low mate.address.low mate.level in absurd (omega arith)
+  new-late a late (mate_parent b mate big e) =
+      let less = half-lt k b visited.low mate.address.low mate.level in
+      absurd (omega arith)
 
   -- a member from k up was one before and later, or is k, or the mate of k
   late_cases : (a : ℕ) → k ≤ a → IsTrue (next a) → ((k + 1 ≤ a) × IsTrue (has a)) ⊎ ((k ≡ a) ⊎ IsMate n k a)
@@ -143,7 +151,8 @@ pub parent_marked-base : (t : ℕ) (has : ℕ → Bool) → t < 4 → IsParentMa
 parent_marked-base t has small = record { keeps = λ a h. h; parent = λ big. absurd (omega arith); only = λ a h. inl h }
 
 -- another marks its parent
-pub parent_marked : (t p : ℕ) (has next : ℕ → Bool) → 4 ≤ t → p ≡ t / 2 → ((a : ℕ) → next a ≡ with_triangle has p a) → IsParentMarked t has next
+pub parent_marked : (t p : ℕ) (has next : ℕ → Bool) → 4 ≤ t → p ≡ t / 2 → ((a : ℕ) → next a ≡ with_triangle has p a) →
+    IsParentMarked t has next
 parent_marked t p has next big half added = record {
   keeps = λ a h. added a ∙ with-old has p a h;
   parent = λ _. subst (λ z. IsTrue (next z)) half (added p ∙ with-new has p);
@@ -151,7 +160,8 @@ parent_marked t p has next big half added = record {
 }
 
 -- a visit of a triangle without a mate
-pub marked-alone : (n k : ℕ) (has next : ℕ → Bool) → ((b : ℕ) → IsMate n k b → ⊥) → IsParentMarked k has next → IsMarked n k has next
+pub marked-alone : (n k : ℕ) (has next : ℕ → Bool) → ((b : ℕ) → IsMate n k b → ⊥) →
+    IsParentMarked k has next → IsMarked n k has next
 marked-alone n k has next alone p = record {
   keeps = p.keeps;
   marks = marks;
@@ -164,7 +174,8 @@ marked-alone n k has next alone p = record {
     marks a (mate_parent b mate big e) = absurd (alone b mate)
 
 -- a visit of a triangle with a mate u: its parent, u, the parent of u
-pub marked-pair : (n k u : ℕ) (has first half next : ℕ → Bool) → IsAddress n k → IsMate n k u → IsParentMarked k has first →
+pub marked-pair : (n k u : ℕ) (has first half next : ℕ → Bool) → IsAddress n k → IsMate n k u →
+    IsParentMarked k has first →
     ((a : ℕ) → half a ≡ with_triangle first u a) → IsParentMarked u half next → IsMarked n k has next
 marked-pair n k u has first half next address is p added q = record {
   keeps = λ a h. later a (p.keeps a h);
@@ -183,7 +194,8 @@ marked-pair n k u has first half next address is p added q = record {
 
     marks : (a : ℕ) → NewMark n k a → IsTrue (next a)
     marks a (own_parent big e) = later a (subst (λ z. IsTrue (first z)) (sym e) (p.parent big))
-    marks a (own_mate mate) = subst (λ z. IsTrue (next z)) (mate_unique n k u a address is mate) (q.keeps u (added u ∙ with-new first u))
+    marks a (own_mate mate) =
+        subst (λ z. IsTrue (next z)) (mate_unique n k u a address is mate) (q.keeps u (added u ∙ with-new first u))
     marks a (mate_parent b mate big e) =
         let same : u ≡ b = mate_unique n k u b address is mate in
         subst (λ z. IsTrue (next z)) (sym e) (subst (λ z. 4 ≤ z → IsTrue (next (z / 2))) same q.parent big)

@@ -31,6 +31,7 @@ pub record IsLeastMesh (n tolerance : ℕ) (priority : ℕ → ℕ) (triangles :
   pub within : worst_of priority triangles ≤ tolerance
   pub inside : (others : List ℕ) → IsConforming n others → worst_of priority others ≤ tolerance →
       IsSubset (ancestors_of triangles) (ancestors_of others)
-  pub fewest : (others : List ℕ) → IsConforming n others → worst_of priority others ≤ tolerance → length triangles ≤ length others
+  pub fewest : (others : List ℕ) → IsConforming n others → worst_of priority others ≤ tolerance →
+      length triangles ≤ length others
   pub refined : (others : List ℕ) → IsConforming n others → worst_of priority others ≤ tolerance →
       (a : ℕ) → Contains others a → IsLyingIn triangles a

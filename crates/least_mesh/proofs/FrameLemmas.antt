@@ -11,7 +11,8 @@ use Rattle.least_laws.specs.Least.{is_worse, IsLeastList}
 use Rattle.least_laws.specs.Sweep.{is_flagged}
 
 -- the same wanted triangles have the same least closed sets
-least-wanted : (n : ℕ) (wanted other has : ℕ → Bool) → ((a : ℕ) → wanted a ≡ other a) → IsLeastClosed n wanted has → IsLeastClosed n other has
+least-wanted : (n : ℕ) (wanted other has : ℕ → Bool) → ((a : ℕ) → wanted a ≡ other a) → IsLeastClosed n wanted has →
+    IsLeastClosed n other has
 least-wanted n wanted other has same p = record {
   closed = p.closed;
   holds = λ a h. p.holds a (same a ∙ h);
@@ -19,8 +20,10 @@ least-wanted n wanted other has same p = record {
 }
 
 -- the flags that were asked, those before and after the sweep, and those that were read for the leaves
-pub listed : (n m tolerance count : ℕ) (priority : ℕ → ℕ) (asked before after read : List Bool) (list : List ℕ) → m ≡ n → before ≡ asked → read ≡ after →
-    ((a : ℕ) → is_flagged asked a ≡ is_worse n tolerance priority a) → IsLeastClosed m (is_flagged before) (is_flagged after) →
+pub listed : (n m tolerance count : ℕ) (priority : ℕ → ℕ) (asked before after read : List Bool) (list : List ℕ) →
+    m ≡ n → before ≡ asked → read ≡ after →
+    ((a : ℕ) → is_flagged asked a ≡ is_worse n tolerance priority a) →
+    IsLeastClosed m (is_flagged before) (is_flagged after) →
     take count list ≡ leaves_of m (is_flagged read) → IsLeastList n tolerance priority (take count list)
 listed n m tolerance count priority asked before after read list grid as_asked as_read worse swept leaves = record {
   has = is_flagged after;
@@ -31,10 +34,13 @@ listed n m tolerance count priority asked before after read list grid as_asked a
 }
 
 -- no leaf is finer than the finest
-pub levels-listed : (n : ℕ) (has : ℕ → Bool) (list : List ℕ) → list ≡ leaves_of n has → All (λ a. level_of a ≤ 2 * n) list
+pub levels-listed : (n : ℕ) (has : ℕ → Bool) (list : List ℕ) → list ≡ leaves_of n has →
+    All (λ a. level_of a ≤ 2 * n) list
 levels-listed n has list e = subst (λ (l : List ℕ). All (λ a. level_of a ≤ 2 * n) l) (sym e)
     (All-weaker (IsAddress n) (λ a. level_of a ≤ 2 * n) (level-le n) (leaves_of n has) (IsAddress-leaves_of n has))
 
 -- and they are conforming
-pub conforming-listed : (n : ℕ) (wanted has : ℕ → Bool) (list : List ℕ) → IsLeastClosed n wanted has → list ≡ leaves_of n has → IsConforming n list
-conforming-listed n wanted has list p e = subst (λ (l : List ℕ). IsConforming n l) (sym e) (IsConforming-leaves_of n has p.closed)
+pub conforming-listed : (n : ℕ) (wanted has : ℕ → Bool) (list : List ℕ) → IsLeastClosed n wanted has →
+    list ≡ leaves_of n has → IsConforming n list
+conforming-listed n wanted has list p e =
+    subst (λ (l : List ℕ). IsConforming n l) (sym e) (IsConforming-leaves_of n has p.closed)

@@ -11,7 +11,8 @@ use Rattle.edge_laws.specs.Chief.{chief_of}
 use Rattle.edge_laws.proofs.ChiefLemmas.{chief_of-low, chief_of-mate}
 
 -- all members of a split diamond have the same chief
-chief_of-same : (n : ℕ) (pairs : List ℕ) (a b : ℕ) → IsPool n pairs → 2 ≤ a → has_children pairs a ≡ true → IsInDiamond n a b → chief_of b ≡ chief_of a
+chief_of-same : (n : ℕ) (pairs : List ℕ) (a b : ℕ) → IsPool n pairs → 2 ≤ a → has_children pairs a ≡ true →
+    IsInDiamond n a b → chief_of b ≡ chief_of a
 chief_of-same n pairs a b pool low is_split (inl own) = ap chief_of own
 chief_of-same n pairs a b pool low is_split (inr mate) =
     let fits = (pool.closed.splittable a (has_children-set pairs a low is_split)).coarse in
@@ -25,12 +26,15 @@ pub mate_live : (pairs : List ℕ) (s t : ℕ) → IsLive pairs s → 1 ≤ mate
 mate_live pairs s t low some is = let high = mate_of-low (address_at pairs s) low some in omega arith
 
 -- whatever slot has the chief of a member is the same slot
-pub chief_same : (n : ℕ) (pairs : List ℕ) (s r : Slot) → IsPool n pairs → IsLive pairs s.0 → has_children pairs (address_at pairs s.0) ≡ true →
+pub chief_same : (n : ℕ) (pairs : List ℕ) (s r : Slot) → IsPool n pairs → IsLive pairs s.0 →
+    has_children pairs (address_at pairs s.0) ≡ true →
     address_at pairs r.0 ≡ chief_of (address_at pairs s.0) →
-    (t u : Slot) → IsInDiamond n (address_at pairs s.0) (address_at pairs t.0) → address_at pairs u.0 ≡ chief_of (address_at pairs t.0) → u ≡ r
+    (t u : Slot) → IsInDiamond n (address_at pairs s.0) (address_at pairs t.0) →
+    address_at pairs u.0 ≡ chief_of (address_at pairs t.0) → u ≡ r
 chief_same n pairs s r pool low is_split is t u member other =
     let a : ℕ = address_at pairs s.0 in
-    let same : address_at pairs u.0 ≡ address_at pairs r.0 = other ∙ chief_of-same n pairs a (address_at pairs t.0) pool low is_split member ∙ sym is in
+    let same : address_at pairs u.0 ≡ address_at pairs r.0 =
+    other ∙ chief_of-same n pairs a (address_at pairs t.0) pool low is_split member ∙ sym is in
     let high = chief_of-low a low in
     let slot : ℕ → Slot = λ number. record { 0 = number } in
     sym (ap slot (pool.once r.0 u.0 (omega arith) (sym same)))

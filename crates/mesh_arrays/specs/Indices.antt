@@ -28,7 +28,8 @@ point_at n k = point (k % side_of n) (2 ^ n - k / side_of n)
 
 -- the triangles of a list of indices, three at a time: apex, v0 and v1
 abbrev pub triangles_at : ℕ → List ℕ → List Corners
-triangles_at n (i ∷ (j ∷ (k ∷ indices))) = record { apex = point_at n i; v0 = point_at n j; v1 = point_at n k } ∷ triangles_at n indices
+triangles_at n (i ∷ (j ∷ (k ∷ indices))) =
+    record { apex = point_at n i; v0 = point_at n j; v1 = point_at n k } ∷ triangles_at n indices
 triangles_at n _ = []
 
 -- each sample point of the square lies strictly inside exactly one of the triangles

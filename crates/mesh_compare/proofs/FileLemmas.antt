@@ -1,5 +1,6 @@
 -- What is left of a file while it is read.
-use Rattle.std.proofs.Common.{◌≡◌, ℕ, ◌≤◌, List, [], ◌++◌, length, take, drop, Option, Some, None, refl, sym, ap, ◌∙◌, append_assoc, take-append-drop, length-append, arith}
+use Rattle.std.proofs.Common.{◌≡◌, ℕ, ◌≤◌, List, [], ◌++◌, length, take, drop, Option, Some, None, refl, sym, ap, ◌∙◌}
+use Rattle.std.proofs.Common.{append_assoc, take-append-drop, length-append, arith}
 use Rattle.std.proofs.Math.Seq.{take-append_seam}
 use Rattle.std.proofs.lemmas.List.{length-take-le, take-take, take-append-le}
 use Rattle.mesh_compare.specs.Differs.{left_of, HasFront}
@@ -14,7 +15,8 @@ pub front-none : (file : Option (List ℕ)) → HasFront [] file file
 front-none file bytes is = (bytes, is, refl)
 
 -- one front behind another
-pub front-then : (front more : List ℕ) (file left left' : Option (List ℕ)) → HasFront front file left → HasFront more left left' →
+pub front-then : (front more : List ℕ) (file left left' : Option (List ℕ)) → HasFront front file left →
+    HasFront more left left' →
     HasFront (front ++ more) file left'
 front-then front more file left left' has then bytes is =
     let first = has bytes is in
@@ -22,7 +24,8 @@ front-then front more file left left' has then bytes is =
     (second.0, second.1, first.2 ∙ ap (λ t. front ++ t) second.2 ∙ sym (append_assoc front more second.0))
 
 -- a read into the front of a window of this length
-pub left-filled : (count len : ℕ) (bytes old new behind : List ℕ) (unread : Option (List ℕ)) → count ≤ len → count ≤ length bytes →
+pub left-filled : (count len : ℕ) (bytes old new behind : List ℕ) (unread : Option (List ℕ)) →
+    count ≤ len → count ≤ length bytes →
     unread ≡ Some (drop count bytes) → new ≡ take count bytes ++ drop count old →
     left_of (take count (take len (new ++ behind))) unread ≡ Some bytes
 left-filled count len bytes old new behind unread room within takes gives =

@@ -1,5 +1,6 @@
 -- What a first difference tells of two texts.
-use Rattle.std.proofs.Common.{◌≡◌, ◌≢◌, ℕ, suc, List, [], ◌∷◌, take, Option, Some, None, slice_get, refl, sym, ap, ap₂, ◌∙◌, arith, eq-eqb}
+use Rattle.std.proofs.Common.{◌≡◌, ◌≢◌, ℕ, suc, List, [], ◌∷◌, take, Option, Some, None, slice_get, refl, sym, ap, ap₂}
+use Rattle.std.proofs.Common.{◌∙◌, arith, eq-eqb}
 use Rattle.std.specs.Prelude.{option_map, ◌==◌}
 use Rattle.std.proofs.lemmas.Bool.{cond-true, cond-false, eqb-true, eqb-false}
 use Rattle.std.proofs.lemmas.Option.{same_Some}
@@ -20,7 +21,8 @@ heads : {P : Type 0} (a b : ℕ) (text bytes : List ℕ) →
 heads a b text bytes same other =
     by_bool (a == b)
     (λ e. same (eqb-true a b e) (cond-true (a == b) (option_map (λ k. suc k) (first_difference text bytes)) (Some 0) e))
-    (λ e. other (eqb-false a b e) (cond-false (a == b) (option_map (λ k. suc k) (first_difference text bytes)) (Some 0) e))
+    (λ e. other (eqb-false a b e) (cond-false (a == b)
+    (option_map (λ k. suc k) (first_difference text bytes)) (Some 0) e))
 
 -- no place moved on by one is none
 moved-none : (found : Option ℕ) → option_map (λ k. suc k) found ≡ None → found ≡ None
@@ -40,7 +42,8 @@ same-text [] (b ∷ bytes) is = absurd (grind arith)
 same-text (a ∷ text) [] is = absurd (grind arith)
 same-text (a ∷ text) (b ∷ bytes) is =
     heads a b text bytes
-    (λ same rest. ap₂ (λ (x : ℕ) xs. x ∷ xs) same (same-text text bytes (moved-none (first_difference text bytes) (sym rest ∙ is))))
+    (λ same rest. ap₂ (λ (x : ℕ) xs. x ∷ xs) same
+    (same-text text bytes (moved-none (first_difference text bytes) (sym rest ∙ is))))
     (λ other rest. absurd (let e : Some 0 ≡ None = sym rest ∙ is in grind arith))
 
 -- before the place of their difference texts are the same
@@ -55,7 +58,8 @@ same-before (a ∷ text) (b ∷ bytes) at is =
     (λ other rest. rw (← same_Some 0 at (sym rest ∙ is)) refl)
 
 -- at that place they differ, or one has ended
-pub other-at : (text bytes : List ℕ) (at : ℕ) → first_difference text bytes ≡ Some at → slice_get text at ≢ slice_get bytes at
+pub other-at : (text bytes : List ℕ) (at : ℕ) → first_difference text bytes ≡ Some at →
+    slice_get text at ≢ slice_get bytes at
 other-at [] [] at is = absurd (grind arith)
 other-at [] (b ∷ bytes) at is = rw (← same_Some 0 at is) (λ e. grind arith)
 other-at (a ∷ text) [] at is = rw (← same_Some 0 at is) (λ e. grind arith)

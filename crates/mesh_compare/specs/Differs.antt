@@ -1,6 +1,7 @@
 -- Where a file differs from a text, and how far the two go together. This project's own words.
 -- Words: first_difference, FindsDifference, HasFront, Gives, Matches, Agrees, IsReadInPart, left_of.
-use Rattle.std.specs.Prelude.{◌≡◌, ℕ, suc, ◌<◌, ◌==◌, if◌then◌else◌, List, [], ◌∷◌, ◌++◌, length, Option, Some, None, option_map}
+use Rattle.std.specs.Prelude.{◌≡◌, ℕ, suc, ◌<◌, ◌==◌, if◌then◌else◌, List, [], ◌∷◌, ◌++◌, length, Option, Some, None}
+use Rattle.std.specs.Prelude.{option_map}
 use Rattle.roam_edge.specs.Told.{IsPrefix}
 
 -- the first place, counted from 0, where two texts differ or where only one goes on; none where they are the same
@@ -31,10 +32,12 @@ Gives (Some byte) file left = HasFront (byte ∷ []) file left
 -- The file begins with this piece; or it differs from the piece at a place of it, whatever follows the piece.
 abbrev pub Matches : List ℕ → Option (List ℕ) → Option (List ℕ) → Option ℕ → Type 0
 Matches piece file left None = HasFront piece file left
-Matches piece file left (Some k) = (k < length piece) × ((more : List ℕ) → FindsDifference (piece ++ more) file (Some k))
+Matches piece file left (Some k) =
+    (k < length piece) × ((more : List ℕ) → FindsDifference (piece ++ more) file (Some k))
 
 -- So many bytes of a text were compared, and the file has them. Of both the rest is left.
-pub record Agrees (text : List ℕ) (file : Option (List ℕ)) (to_come : List ℕ) (left : Option (List ℕ)) (at : ℕ) : Type 0 where
+pub record Agrees (text : List ℕ) (file : Option (List ℕ)) (to_come : List ℕ)
+    (left : Option (List ℕ)) (at : ℕ) : Type 0 where
   pub front : List ℕ
   pub of_text : text ≡ front ++ to_come
   pub of_file : HasFront front file left

@@ -1,5 +1,6 @@
 -- Membership by recursion, and counts of entries that pass a test.
-use Rattle.std.proofs.Common.{◌≡◌, ℕ, zero, suc, ◌+◌, ◌<◌, ◌≤◌, ◌⊎◌, inl, inr, Bool, true, false, cond, eqb, List, [], ◌∷◌, ◌++◌, length, Contains, refl, sym, ◌∙◌, ap, subst, arith, ⊎_elim, count_by, eq-eqb}
+use Rattle.std.proofs.Common.{◌≡◌, ℕ, zero, suc, ◌+◌, ◌<◌, ◌≤◌, ◌⊎◌, inl, inr, Bool, true, false, cond, eqb, List, []}
+use Rattle.std.proofs.Common.{◌∷◌, ◌++◌, length, Contains, refl, sym, ◌∙◌, ap, subst, arith, ⊎_elim, count_by, eq-eqb}
 use Rattle.std.proofs.lemmas.Bool.{eqb-true, or_cases, or_left, or_right, cond-true, cond-false, cases_Bool, false≢true}
 use Rattle.std.proofs.lemmas.List.Sums.{sum_by-cons, sum_by-le-sum_by}
 use Rattle.std.specs.List.{list_any}
@@ -21,7 +22,8 @@ pub Contains-in : (a : ℕ) (xs : List ℕ) → IsIn a xs → Contains xs a
 Contains-in a [] h = absurd h
 Contains-in a (x ∷ xs) (inl e) = (zero, omega arith, e)
 Contains-in a (x ∷ xs) (inr h) =
-    let rest : Contains xs a = Contains-in a xs h in (suc rest.0, (let below : rest.0 < length xs = rest.1 in omega arith), rest.2)
+    let rest : Contains xs a = Contains-in a xs h in
+    (suc rest.0, (let below : rest.0 < length xs = rest.1 in omega arith), rest.2)
 
 -- from the test of membership, and to it
 pub IsIn-among : (a : ℕ) (xs : List ℕ) → among xs a ≡ true → IsIn a xs
@@ -108,7 +110,8 @@ some-count p (x ∷ xs) h = ⊎_elim
     (cases_Bool (p x))
 
 -- where one is counted, two entries that pass are the same
-pub one_entry : (p : ℕ → Bool) (xs : List ℕ) (a b : ℕ) → count_by p xs ≤ 1 → IsIn a xs → IsIn b xs → p a ≡ true → p b ≡ true → a ≡ b
+pub one_entry : (p : ℕ → Bool) (xs : List ℕ) (a b : ℕ) → count_by p xs ≤ 1 → IsIn a xs → IsIn b xs →
+    p a ≡ true → p b ≡ true → a ≡ b
 one_entry p [] a b one in_a in_b is_a is_b = absurd in_a
 one_entry p (x ∷ xs) a b one (inl e) (inl f) is_a is_b = sym e ∙ f
 one_entry p (x ∷ xs) a b one (inl e) (inr h) is_a is_b =
@@ -121,7 +124,8 @@ one_entry p (x ∷ xs) a b one (inr h) (inr k) is_a is_b =
     let c = count-cons p x xs in one_entry p xs a b (omega arith) h k is_a is_b
 
 -- a narrower test counts no more
-pub count-narrower : (p q : ℕ → Bool) (xs : List ℕ) → ((t : ℕ) → p t ≡ true → q t ≡ true) → count_by p xs ≤ count_by q xs
+pub count-narrower : (p q : ℕ → Bool) (xs : List ℕ) → ((t : ℕ) → p t ≡ true → q t ≡ true) →
+    count_by p xs ≤ count_by q xs
 count-narrower p q xs within =
     sum_by-le-sum_by (λ t. cond (p t) 1 0) (λ t. cond (q t) 1 0) xs (λ t. at (p t) (q t) (within t))
   where
@@ -152,7 +156,8 @@ length-without a (x ∷ xs) h = ⊎_elim
     (cases_Bool (eqb x a))
 
 -- and its count goes
-count-without : (p : ℕ → Bool) (a : ℕ) (xs : List ℕ) → IsIn a xs → count_by p xs ≡ one_if (p a) + count_by p (without a xs)
+count-without : (p : ℕ → Bool) (a : ℕ) (xs : List ℕ) → IsIn a xs →
+    count_by p xs ≡ one_if (p a) + count_by p (without a xs)
 unfolding without
 count-without p a [] h = absurd h
 count-without p a (x ∷ xs) h = ⊎_elim
@@ -161,11 +166,13 @@ count-without p a (x ∷ xs) h = ⊎_elim
     let c = count-cons p x xs in omega arith)
     (λ no. let e = ap (count_by p) (cond-false (eqb x a) xs (x ∷ without a xs) no) in
     let c = count-cons p x xs in let d = count-cons p x (without a xs) in
-    let rest : count_by p xs ≡ one_if (p a) + count_by p (without a xs) = count-without p a xs (later x a xs no h) in omega arith)
+    let rest : count_by p xs ≡ one_if (p a) + count_by p (without a xs) = count-without p a xs (later x a xs no h) in
+    omega arith)
     (cases_Bool (eqb x a))
 
 -- each test counts as many in the one as in the other
-pub count-counts : (p : ℕ → Bool) (xs ys : List ℕ) → ((a : ℕ) → count_by (λ t. eqb t a) xs ≡ count_by (λ t. eqb t a) ys) → count_by p xs ≡ count_by p ys
+pub count-counts : (p : ℕ → Bool) (xs ys : List ℕ) →
+    ((a : ℕ) → count_by (λ t. eqb t a) xs ≡ count_by (λ t. eqb t a) ys) → count_by p xs ≡ count_by p ys
 count-counts p [] [] same = refl
 count-counts p [] (y ∷ ys) same =
     let c = count-yes (λ t. eqb t y) y ys (eq-eqb y y refl) in let e = same y in absurd (omega arith)
@@ -175,11 +182,13 @@ count-counts p (x ∷ xs) ys same =
     let found : (t : ℕ) × IsIn t ys × (eqb t x ≡ true) = some-count (λ t. eqb t x) ys (omega arith) in
     let there : IsIn x ys = subst (λ t. IsIn t ys) (eqb-true found.0 x found.2) found.1 in
     let rest : count_by p xs ≡ count_by p (without x ys) = count-counts p xs (without x ys)
-    (λ a. let f = same a in let g = count-cons (λ t. eqb t a) x xs in let h = count-without (λ t. eqb t a) x ys there in omega arith) in
+    (λ a. let f = same a in let g = count-cons (λ t. eqb t a) x xs in
+    let h = count-without (λ t. eqb t a) x ys there in omega arith) in
     let first = count-cons p x xs in let l = count-without p x ys there in omega arith
 
 -- each number as often in the one as in the other
-pub length-counts : (xs ys : List ℕ) → ((a : ℕ) → count_by (λ t. eqb t a) xs ≡ count_by (λ t. eqb t a) ys) → length xs ≡ length ys
+pub length-counts : (xs ys : List ℕ) →
+    ((a : ℕ) → count_by (λ t. eqb t a) xs ≡ count_by (λ t. eqb t a) ys) → length xs ≡ length ys
 length-counts [] [] same = refl
 length-counts [] (y ∷ ys) same =
     let c = count-yes (λ t. eqb t y) y ys (eq-eqb y y refl) in let e = same y in absurd (omega arith)
@@ -189,5 +198,6 @@ length-counts (x ∷ xs) ys same =
     let found : (t : ℕ) × IsIn t ys × (eqb t x ≡ true) = some-count (λ t. eqb t x) ys (omega arith) in
     let there : IsIn x ys = subst (λ t. IsIn t ys) (eqb-true found.0 x found.2) found.1 in
     let rest : length xs ≡ length (without x ys) = length-counts xs (without x ys)
-    (λ a. let f = same a in let g = count-cons (λ t. eqb t a) x xs in let h = count-without (λ t. eqb t a) x ys there in omega arith) in
+    (λ a. let f = same a in let g = count-cons (λ t. eqb t a) x xs in
+    let h = count-without (λ t. eqb t a) x ys there in omega arith) in
     let l = length-without x ys there in omega arith

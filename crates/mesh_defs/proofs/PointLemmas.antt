@@ -1,5 +1,6 @@
 -- Points in lists: the greatest value over those that pass a test, and the points of the grid; the test of two points.
-use Rattle.std.proofs.Common.{◌≡◌, ℕ, zero, suc, ◌+◌, ◌^◌, ◌<◌, ◌≤◌, ◌⊎◌, Bool, true, false, cond, max, List, [], ◌∷◌, ◌++◌, map, eqb, refl, ap, ap₂, arith, ⊎_elim, inl, inr}
+use Rattle.std.proofs.Common.{◌≡◌, ℕ, zero, suc, ◌+◌, ◌^◌, ◌<◌, ◌≤◌, ◌⊎◌, Bool, true, false, cond, max, List, [], ◌∷◌}
+use Rattle.std.proofs.Common.{◌++◌, map, eqb, refl, ap, ap₂, arith, ⊎_elim, inl, inr}
 use Rattle.std.proofs.lemmas.Bool.{cases_lt, and_parts, and_from, eqb-true, eq-eqb}
 use Rattle.std.specs.List.{filter, flat_map, range_with_len}
 use Rattle.mesh_defs.specs.declared.point.Point.{Point}
@@ -72,7 +73,8 @@ IsPointIn-rows : (side a k x y : ℕ) → x < side → a ≤ y → y < a + k →
     IsPointIn (point x y) (flat_map (λ j. map (λ i. point i j) (range_with_len 0 side)) (range_with_len a k))
 IsPointIn-rows side a zero x y fits from to = absurd (omega arith)
 IsPointIn-rows side a (suc k) x y fits from to =
-    ⊎_elim {C = IsPointIn (point x y) (flat_map (λ j. map (λ i. point i j) (range_with_len 0 side)) (range_with_len a (suc k)))}
+    ⊎_elim {C =
+    IsPointIn (point x y) (flat_map (λ j. map (λ i. point i j) (range_with_len 0 side)) (range_with_len a (suc k)))}
     (λ later. IsPointIn-append-right (point x y) (map (λ i. point i a) (range_with_len 0 side))
     (flat_map (λ j. map (λ i. point i j) (range_with_len 0 side)) (range_with_len (a + 1) k))
     (IsPointIn-rows side (a + 1) k x y fits (omega arith) (omega arith)))
@@ -98,4 +100,5 @@ same_point-eq p q is =
 -- and equal points pass it
 pub eq-same_point : (p q : Point) → p ≡ q → is_same_point p q ≡ true
 eq-same_point p q e =
-    and_from (eqb p.x q.x) (eqb p.y q.y) (eq-eqb p.x q.x (ap (λ (r : Point). r.x) e)) (eq-eqb p.y q.y (ap (λ (r : Point). r.y) e))
+    and_from (eqb p.x q.x) (eqb p.y q.y) (eq-eqb p.x q.x (ap (λ (r : Point). r.x) e))
+    (eq-eqb p.y q.y (ap (λ (r : Point). r.y) e))

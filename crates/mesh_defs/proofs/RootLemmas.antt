@@ -1,5 +1,6 @@
 -- The square root by digits in base 2 is the square root, rounded down.
-use Rattle.std.proofs.Common.{◌≡◌, ℕ, zero, suc, ◌+◌, ◌*◌, ◌/◌, ◌≤◌, Bool, true, false, leb, refl, sym, arith, leb-true, leb-false, if◌then◌else◌}
+use Rattle.std.proofs.Common.{◌≡◌, ℕ, zero, suc, ◌+◌, ◌*◌, ◌/◌, ◌≤◌, Bool, true, false, leb, refl, sym, arith, leb-true}
+use Rattle.std.proofs.Common.{leb-false, if◌then◌else◌}
 use Rattle.mesh_defs.specs.BoundingBox.{IsRoot, root_by, root_of}
 
 -- one more digit: from the root r of a quarter, twice r or one more

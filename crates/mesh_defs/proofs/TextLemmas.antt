@@ -1,5 +1,8 @@
 -- The vertices and the text of the two base triangles.
-use Rattle.std.proofs.Common.{◌≡◌, ℕ, zero, suc, ◌+◌, ◌*◌, ◌^◌, ◌<◌, ◌≤◌, List, [], ◌∷◌, ◌++◌, map, filter, flat_map, position, unwrap_or, Bool, true, false, cond, ◌&&◌, ◌||◌, eqb, refl, sym, ◌∙◌, ap, ap₂, arith, true≢false, eq-eqb, ne_eqb, add-one, add-zero, append_assoc, append-nil, mul-zero, pow_pos, Option, None, Some}
+use Rattle.std.proofs.Common.{◌≡◌, ℕ, zero, suc, ◌+◌, ◌*◌, ◌^◌, ◌<◌, ◌≤◌, List, [], ◌∷◌, ◌++◌, map, filter, flat_map}
+use Rattle.std.proofs.Common.{position, unwrap_or, Bool, true, false, cond, ◌&&◌, ◌||◌, eqb, refl, sym, ◌∙◌, ap, ap₂}
+use Rattle.std.proofs.Common.{arith, true≢false, eq-eqb, ne_eqb, add-one, add-zero, append_assoc, append-nil, mul-zero}
+use Rattle.std.proofs.Common.{pow_pos, Option, None, Some}
 use Rattle.std.specs.List.{range_with_len, list_any}
 use Rattle.std.proofs.lemmas.Bool.{false≢true, and_left, and_right, and_from}
 use Rattle.std.proofs.lemmas.List.Elements.{filter-append}
@@ -10,7 +13,8 @@ use Rattle.mesh_defs.specs.Triangle.{level_of, corners_of}
 use Rattle.mesh_defs.specs.BoundingBox.{point, points_of}
 use Rattle.mesh_defs.specs.Thickness.{height_of}
 use Rattle.mesh_defs.specs.View.{ViewPlane}
-use Rattle.mesh_defs.specs.MeshText.{has_corner, vertices_of, vertex_number, vertex_line, face_line, face_lines, mesh_text, numbers_line, group_line, triangle_mark}
+use Rattle.mesh_defs.specs.MeshText.{has_corner, vertices_of, vertex_number, vertex_line, face_line, face_lines}
+use Rattle.mesh_defs.specs.MeshText.{mesh_text, numbers_line, group_line, triangle_mark}
 
 -- a list whose pieces are empty but for the first and the last
 

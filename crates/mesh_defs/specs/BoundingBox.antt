@@ -3,7 +3,8 @@
 -- Source: the nested bounds of Duchaineau et al., "ROAMing Terrain", IEEE Visualization 1997,
 -- the part on nested bounds;
 -- that every grid point of the closed triangle counts is this project's own choice.
-use Rattle.std.specs.Prelude.{ℕ, zero, suc, ◌+◌, ◌*◌, ◌/◌, ◌<◌, ◌≤◌, min, max, Bool, ◌&&◌, nat_le, if◌then◌else◌, List, [], ◌∷◌, map, filter, flat_map, ℤ, pos, ◌-ℤ◌, int_lt, unsigned_abs}
+use Rattle.std.specs.Prelude.{ℕ, zero, suc, ◌+◌, ◌*◌, ◌/◌, ◌<◌, ◌≤◌, min, max, Bool, ◌&&◌, nat_le, if◌then◌else◌, List}
+use Rattle.std.specs.Prelude.{[], ◌∷◌, map, filter, flat_map, ℤ, pos, ◌-ℤ◌, int_lt, unsigned_abs}
 use Rattle.std.specs.List.{range_with_len}
 use Rattle.mesh_defs.specs.declared.point.Point.{Point}
 use Rattle.mesh_defs.specs.declared.point.Corners.{Corners}

@@ -1,6 +1,7 @@
 -- The text of a mesh as a Wavefront OBJ file: its vertices, its triangles, and groups by their marks.
 -- Source: the Wavefront object file format, the lines v, f and g. Every line ends with one LF (10).
-use Rattle.std.specs.Prelude.{ℕ, ◌+◌, ◌*◌, Bool, true, false, ◌&&◌, ◌||◌, ◌==◌, if◌then◌else◌, List, [], ◌∷◌, ◌++◌, filter, flat_map, position, length, Option, Some, None, unwrap_or, codes, decimal}
+use Rattle.std.specs.Prelude.{ℕ, ◌+◌, ◌*◌, Bool, true, false, ◌&&◌, ◌||◌, ◌==◌, if◌then◌else◌, List, [], ◌∷◌, ◌++◌}
+use Rattle.std.specs.Prelude.{filter, flat_map, position, length, Option, Some, None, unwrap_or, codes, decimal}
 use Rattle.std.specs.List.{list_any}
 use Rattle.mesh_defs.specs.declared.point.Point.{Point}
 use Rattle.mesh_defs.specs.declared.point.Corners.{Corners}

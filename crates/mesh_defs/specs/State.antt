@@ -4,7 +4,8 @@
 -- Words: State, SceneState, scene_of, start_state, with_camera, with_heights, with_height, with_plane, without_planes,
 -- with_budget, Area, is_in_area, clamped, raised_at, raised_heights, with_raised, priority_seen, priority_in, text_in,
 -- move_length.
-use Rattle.std.specs.Prelude.{ℕ, ◌+◌, ◌-◌, ◌^◌, ◌/◌, ◌%◌, min, Bool, ◌&&◌, nat_le, if◌then◌else◌, List, [], ◌∷◌, ◌++◌, map, slice_set, ℤ, pos, ◌+ℤ◌, ◌-ℤ◌, int_lt, unsigned_abs}
+use Rattle.std.specs.Prelude.{ℕ, ◌+◌, ◌-◌, ◌^◌, ◌/◌, ◌%◌, min, Bool, ◌&&◌, nat_le, if◌then◌else◌, List, [], ◌∷◌, ◌++◌}
+use Rattle.std.specs.Prelude.{map, slice_set, ℤ, pos, ◌+ℤ◌, ◌-ℤ◌, int_lt, unsigned_abs}
 use Rattle.std.specs.List.{enumerate_from}
 use Rattle.mesh_defs.specs.HeightField.{HeightField, side_of, place_of}
 use Rattle.mesh_defs.specs.BoundingBox.{CameraAt}
@@ -74,7 +75,8 @@ clamped maxval v = if int_lt v (pos 0) then 0 else min maxval (unsigned_abs v)
 abbrev pub raised_at : HeightField → Area → ℤ → ℕ × ℕ → ℕ
 raised_at field area dz entry =
     let side : ℕ = side_of field.n in
-    if is_in_area area (entry.0 % side) (2 ^ field.n - entry.0 / side) then clamped field.maxval (pos entry.1 +ℤ dz) else entry.1
+    if is_in_area area (entry.0 % side) (2 ^ field.n - entry.0 / side)
+    then clamped field.maxval (pos entry.1 +ℤ dz) else entry.1
 
 -- all heights in file order, those of the area raised by dz and brought into 0 to maxval
 abbrev pub raised_heights : HeightField → Area → ℤ → List ℕ

@@ -1,5 +1,6 @@
 -- The sums of areas: how great they are, what they weigh, and the plane height by its parts.
-use Rattle.std.proofs.Common.{◌≡◌, ℕ, ◌-◌, ◌*◌, ◌/◌, ◌^◌, ◌<◌, ◌≤◌, List, refl, ◌∙◌, ap, ap₂, arith, mul-le-mul_left, pow_mono}
+use Rattle.std.proofs.Common.{◌≡◌, ℕ, ◌-◌, ◌*◌, ◌/◌, ◌^◌, ◌<◌, ◌≤◌, List, refl, ◌∙◌, ap, ap₂, arith, mul-le-mul_left}
+use Rattle.std.proofs.Common.{pow_mono}
 use Rattle.std.proofs.Math.Nat.{div-le_self}
 use Rattle.mesh_defs.specs.declared.point.Point.{Point}
 use Rattle.mesh_defs.specs.declared.point.Corners.{Corners}
@@ -27,7 +28,9 @@ product i j k l le more =
 
 -- a point of the grid lies in the largest square
 pub IsInSquare-largest : (n x y : ℕ) → n ≤ 11 → x ≤ 2 ^ n → y ≤ 2 ^ n → IsInSquare (2 ^ 11) (point x y)
-IsInSquare-largest n x y small fits fits_y = let le : 2 ^ n ≤ 2 ^ 11 = pow_mono small in record { x = omega arith; y = omega arith }
+IsInSquare-largest n x y small fits fits_y =
+    let le : 2 ^ n ≤ 2 ^ 11 = pow_mono small in
+    record { x = omega arith; y = omega arith }
 
 -- a side times weighted heights is small, and so is a part of it
 pub product-small : (m sum area : ℕ) → m ≤ 2048 → sum ≤ 3298534883328 → (m * sum < 2 ^ 53) × (m * sum / area < 2 ^ 53)
@@ -43,8 +46,10 @@ pub area-across : (r p q : Point) (s : Across) → AreSumsAcross r p q s → s.h
 area-across r p q s a = ap₂ (λ i j. i - j) a.high a.low
 
 -- so the sums weigh the heights as the definition does
-pub sum_of_weighted-across : (n : ℕ) (heights : List ℕ) (facet : Facet) (r : Point) (s : Areas) → IsFacet n heights facet →
-    AreAcross facet.corners r s → sum_of_weighted s facet.apex facet.v0 facet.v1 ≡ weighted facet.corners (height_of n heights) r
+pub sum_of_weighted-across : (n : ℕ) (heights : List ℕ) (facet : Facet) (r : Point) (s : Areas) →
+    IsFacet n heights facet →
+    AreAcross facet.corners r s →
+    sum_of_weighted s facet.apex facet.v0 facet.v1 ≡ weighted facet.corners (height_of n heights) r
 sum_of_weighted-across n heights facet r s f a =
     let c : Corners = facet.corners in rw (
       area-across r c.v0 c.v1 s.apex a.apex,
@@ -56,16 +61,20 @@ sum_of_weighted-across n heights facet r s f a =
     ) refl
 
 -- the plane height by its parts
-pub plane_height-facet : (n : ℕ) (heights : List ℕ) (a : ℕ) (facet : Facet) (r : Point) (s : Areas) (m sum : ℕ) → IsFacet n heights facet →
-    facet.corners ≡ corners_of n a → AreAcross facet.corners r s → m ≡ 2 ^ n → sum ≡ sum_of_weighted s facet.apex facet.v0 facet.v1 →
+pub plane_height-facet : (n : ℕ) (heights : List ℕ) (a : ℕ) (facet : Facet) (r : Point) (s : Areas) (m sum : ℕ) →
+    IsFacet n heights facet →
+    facet.corners ≡ corners_of n a → AreAcross facet.corners r s → m ≡ 2 ^ n →
+    sum ≡ sum_of_weighted s facet.apex facet.v0 facet.v1 →
     m * sum / facet.area ≡ plane_height n heights a r
 unfolding plane_height
 plane_height-facet n heights a facet r s m sum f is across side total =
-    let whole : sum ≡ weighted facet.corners (height_of n heights) r = total ∙ sum_of_weighted-across n heights facet r s f across in
+    let whole : sum ≡ weighted facet.corners (height_of n heights) r =
+    total ∙ sum_of_weighted-across n heights facet r s f across in
     rw (side, whole, f.area) (ap (λ d. 2 ^ n * weighted d (height_of n heights) r / area_of d) is)
 
 -- its area is not 0
-pub area-some : (n : ℕ) (heights : List ℕ) (a : ℕ) (facet : Facet) → 2 ≤ a → level_of a ≤ 2 * n → IsFacet n heights facet →
+pub area-some : (n : ℕ) (heights : List ℕ) (a : ℕ) (facet : Facet) → 2 ≤ a → level_of a ≤ 2 * n →
+    IsFacet n heights facet →
     facet.corners ≡ corners_of n a → 0 < facet.area
 area-some n heights a facet low fits f is =
     let some = area_of-some n a (IsAddress-level n a low fits) in

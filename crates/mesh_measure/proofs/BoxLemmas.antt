@@ -18,10 +18,12 @@ use Rattle.deviation_laws.proofs.PlaneLemmas.{area_of-some, IsMean-held}
 -- a held point lies in the bounding rectangle
 IsInRectangle-held : (n a : ℕ) (r : Point) → IsAddress n a → holds_point n a r ≡ true → IsInRectangle (corners_of n a) r
 IsInRectangle-held n a r address held =
-    IsInRectangle-mean (area_of (corners_of n a)) (corners_of n a) r _ _ _ (area_of-some n a address) (IsMean-held n a r address held)
+    IsInRectangle-mean (area_of (corners_of n a)) (corners_of n a) r _ _ _ (area_of-some n a address)
+    (IsMean-held n a r address held)
 
 -- a held point lies within the bounds of the corners
-pub IsInBounds-held : (n a : ℕ) (c : Corners) (bounds : Bounds) (r : Point) → IsAddress n a → c ≡ corners_of n a → AreBounds c bounds →
+pub IsInBounds-held : (n a : ℕ) (c : Corners) (bounds : Bounds) (r : Point) → IsAddress n a →
+    c ≡ corners_of n a → AreBounds c bounds →
     is_in_closed c r ≡ true → IsInBounds c bounds r
 IsInBounds-held n a c bounds r address is b held =
     let box = subst (λ d. IsInRectangle d r) (sym is)
@@ -46,15 +48,19 @@ pub held-le : (n : ℕ) (heights : List ℕ) (a : ℕ) (r : Point) → IsAddress
     off_plane n heights a r ≤ greatest (offs_in n heights a)
 held-le n heights a r address held =
     let inside = in_grid-held n a r address held in
-    le-greatest (off_plane n heights a) (holds_point n a) r held (points_of n) (IsPointIn-points_of n r inside.0 inside.1)
+    le-greatest (off_plane n heights a) (holds_point n a) r held (points_of n)
+    (IsPointIn-points_of n r inside.0 inside.1)
 
 -- so the greatest value within the bounds is that over all held points
-pub greatest-most : (n : ℕ) (heights : List ℕ) (a : ℕ) (c : Corners) (bounds : Bounds) (most : ℕ) → IsAddress n a → c ≡ corners_of n a →
-    AreBounds c bounds → IsMost (IsInBounds c bounds) (off_plane n heights a) most → most ≡ greatest (offs_in n heights a)
+pub greatest-most : (n : ℕ) (heights : List ℕ) (a : ℕ) (c : Corners) (bounds : Bounds) (most : ℕ) →
+    IsAddress n a → c ≡ corners_of n a →
+    AreBounds c bounds → IsMost (IsInBounds c bounds) (off_plane n heights a) most →
+    most ≡ greatest (offs_in n heights a)
 greatest-most n heights a c bounds most address is b h =
     let f = off_plane n heights a in
     let above : greatest (offs_in n heights a) ≤ most = greatest-le most f (holds_point n a)
-    (λ p held. h.bound p (IsInBounds-held n a c bounds p address is b (subst (λ d. is_in_closed d p ≡ true) (sym is) held))) (points_of n) in
+    (λ p held. h.bound p (IsInBounds-held n a c bounds p address is b
+    (subst (λ d. is_in_closed d p ≡ true) (sym is) held))) (points_of n) in
     let below : most ≤ greatest (offs_in n heights a) = ⊎_elim
     (λ e. omega arith)
     (λ (s : (r : Point) × IsInBounds c bounds r × (f r ≡ most)).

@@ -1,5 +1,6 @@
 -- The columns of a row that lie on the inner sides of edges, and the greatest value along columns.
-use Rattle.std.proofs.Common.{◌≡◌, ℕ, ◌+◌, ◌-◌, ◌*◌, ◌/◌, ◌<◌, ◌≤◌, ◌↔◌, inl, inr, min, max, true, refl, sym, ◌∙◌, ap, arith, ⊎_elim, mul-le-mul_left}
+use Rattle.std.proofs.Common.{◌≡◌, ℕ, ◌+◌, ◌-◌, ◌*◌, ◌/◌, ◌<◌, ◌≤◌, ◌↔◌, inl, inr, min, max, true, refl, sym, ◌∙◌, ap}
+use Rattle.std.proofs.Common.{arith, ⊎_elim, mul-le-mul_left}
 use Rattle.std.proofs.Math.Nat.{le-div_iff_mul-le}
 use Rattle.std.proofs.lemmas.Bool.{cases_lt, leb-true, le-leb, and_parts, and_from}
 use Rattle.mesh_defs.specs.declared.point.Point.{Point}
@@ -17,7 +18,8 @@ use Rattle.mesh_measure.specs.Columns.{IsColumn, IsGreatestAlong}
 up-iff : (need slope x : ℕ) → 0 < slope → ((need + slope - 1) / slope ≤ x) ↔ (need ≤ x * slope)
 up-iff need slope x some =
     let q : ℕ = (need + slope - 1) / slope in
-    let more : (x + 1 ≤ q) ↔ ((x + 1) * slope ≤ need + slope - 1) = le-div_iff_mul-le {k = slope} {x = x + 1} {y = need + slope - 1} some in (
+    let more : (x + 1 ≤ q) ↔ ((x + 1) * slope ≤ need + slope - 1) =
+    le-div_iff_mul-le {k = slope} {x = x + 1} {y = need + slope - 1} some in (
       λ le. ⊎_elim
           (λ (less : x * slope < need). let above = more.1 (omega arith) in absurd (omega arith))
           (λ (fits : need ≤ x * slope). fits)
@@ -59,7 +61,8 @@ pub column-end : (low high py qy from end rest stop x : ℕ) → py < qy → low
     ((from ≤ x) × (x < stop)) ↔ (((from ≤ x) × (x < end)) × (low + x * qy ≤ high + x * py))
 column-end low high py qy from end rest stop x steep some is at =
     let slope : ℕ = qy - py in
-    let iff : (x ≤ rest / slope) ↔ (x * slope ≤ rest) = le-div_iff_mul-le {k = slope} {x = x} {y = rest} (omega arith) in
+    let iff : (x ≤ rest / slope) ↔ (x * slope ≤ rest) =
+    le-div_iff_mul-le {k = slope} {x = x} {y = rest} (omega arith) in
     let parts : x * (slope + py) ≡ x * qy = ap (λ k. x * k) (omega arith) in (
       λ c.
           let a : from ≤ x = c.0 in
@@ -100,7 +103,8 @@ columns-held c y s all left base held a one two three x =
           let r = (one x).0 q.0 in (
             r.0,
             and_from (is_left_or_on (point x y) c.apex c.v0) _ (first.0 r.1)
-                (and_from (is_left_or_on (point x y) c.v0 c.v1) (is_left_or_on (point x y) c.v1 c.apex) (second.0 q.1) (third.0 p.1)),
+                (and_from (is_left_or_on (point x y) c.v0 c.v1) (is_left_or_on (point x y) c.v1 c.apex)
+                (second.0 q.1) (third.0 p.1)),
           ),
       λ h.
           let legs = and_parts (is_left_or_on (point x y) c.apex c.v0) _ h.1 in

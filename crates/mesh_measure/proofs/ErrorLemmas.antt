@@ -1,5 +1,6 @@
 -- The error of a triangle: from its gaps, how great it is, and whether it is above a tolerance.
-use Rattle.std.proofs.Common.{◌≡◌, ℕ, ◌+◌, ◌*◌, ◌/◌, ◌^◌, ◌<◌, ◌≤◌, ◌↔◌, inl, inr, true, List, All, length, get_or, sym, ◌∙◌, ap, subst, arith, ⊎_elim, mul-le-mul_left}
+use Rattle.std.proofs.Common.{◌≡◌, ℕ, ◌+◌, ◌*◌, ◌/◌, ◌^◌, ◌<◌, ◌≤◌, ◌↔◌, inl, inr, true, List, All, length, get_or, sym}
+use Rattle.std.proofs.Common.{◌∙◌, ap, subst, arith, ⊎_elim, mul-le-mul_left}
 use Rattle.std.proofs.Math.Nat.{le-div_iff_mul-le, le_of_mul-le-mul_left}
 use Rattle.std.proofs.lemmas.Bool.{cases_lt}
 use Rattle.std.proofs.lemmas.List.{get_or_past}
@@ -29,7 +30,8 @@ height-le heights top k bounded = ⊎_elim {C = get_or heights k 0 ≤ top}
     (λ lt. bounded k 0 lt) (λ ge. omega (arith, get_or_past heights k 0 ge)) (cases_lt k (length heights))
 
 -- the plane of a triangle is nowhere above the greatest height, at a point that the triangle holds
-plane_height-le : (n : ℕ) (heights : List ℕ) (top a : ℕ) (r : Point) → IsAddress n a → All (λ h. h ≤ top) heights → holds_point n a r ≡ true →
+plane_height-le : (n : ℕ) (heights : List ℕ) (top a : ℕ) (r : Point) → IsAddress n a → All (λ h. h ≤ top) heights →
+    holds_point n a r ≡ true →
     plane_height n heights a r ≤ 2 ^ n * top
 plane_height-le n heights top a r address bounded held =
     let c : Corners = corners_of n a in
@@ -43,23 +45,27 @@ plane_height-le n heights top a r address bounded held =
     let three : w * height_of n heights c.v1 ≤ w * top = mul-le-mul_left w (height c.v1) in
     let all : (u + v + w) * top ≡ area_of c * top = ap (λ k. k * top) sum in
     let weights : weighted c (height_of n heights) r ≤ area_of c * top = omega arith in
-    let scaled : 2 ^ n * weighted c (height_of n heights) r ≤ 2 ^ n * (area_of c * top) = mul-le-mul_left (2 ^ n) weights in
+    let scaled : 2 ^ n * weighted c (height_of n heights) r ≤ 2 ^ n * (area_of c * top) =
+    mul-le-mul_left (2 ^ n) weights in
     let exact = plane_height-exact n heights a r address in
     let swap : 2 ^ n * (area_of c * top) ≡ area_of c * (2 ^ n * top) = omega arith in
     le_of_mul-le-mul_left {k = area_of c} (omega arith) (area_of-some n a address)
 
 -- so no error is
-pub error-le : (n : ℕ) (heights : List ℕ) (top a : ℕ) → IsAddress n a → All (λ h. h ≤ top) heights → greatest (offs_in n heights a) ≤ 2 ^ n * top
+pub error-le : (n : ℕ) (heights : List ℕ) (top a : ℕ) → IsAddress n a → All (λ h. h ≤ top) heights →
+    greatest (offs_in n heights a) ≤ 2 ^ n * top
 error-le n heights top a address bounded = greatest-le (2 ^ n * top) (off_plane n heights a) (holds_point n a)
     (λ r held.
     let plane = plane_height-le n heights top a r address bounded held in
-    let surface : 2 ^ n * height_of n heights r ≤ 2 ^ n * top = mul-le-mul_left (2 ^ n) (height-le heights top (place_of n r.x r.y) bounded) in
+    let surface : 2 ^ n * height_of n heights r ≤ 2 ^ n * top =
+    mul-le-mul_left (2 ^ n) (height-le heights top (place_of n r.x r.y) bounded) in
     omega arith) (points_of n)
 
 -- ---- bounds
 
 -- they lie in the grid
-pub bounds-in_grid : (n a : ℕ) (c : Corners) (bounds : Bounds) → c ≡ corners_of n a → AreBounds c bounds → (bounds.right ≤ 2 ^ n) × (bounds.high ≤ 2 ^ n)
+pub bounds-in_grid : (n a : ℕ) (c : Corners) (bounds : Bounds) → c ≡ corners_of n a → AreBounds c bounds →
+    (bounds.right ≤ 2 ^ n) × (bounds.high ≤ 2 ^ n)
 bounds-in_grid n a c bounds is b =
     let w : IsWithin (2 ^ n) c = subst (λ d. IsWithin (2 ^ n) d) (sym is) (IsWithin-corners_of n a) in
     let right = b.right in
@@ -68,11 +74,14 @@ bounds-in_grid n a c bounds is b =
 -- ---- the error by the gaps
 
 -- the greatest gap, times 2^n over twice the area
-pub error-most : (n : ℕ) (heights : List ℕ) (a : ℕ) (c : Corners) (bounds : Bounds) (m area limit most : ℕ) → IsAddress n a → c ≡ corners_of n a →
+pub error-most : (n : ℕ) (heights : List ℕ) (a : ℕ) (c : Corners) (bounds : Bounds) (m area limit most : ℕ) →
+    IsAddress n a → c ≡ corners_of n a →
     AreBounds c bounds → m ≡ 2 ^ n → area ≡ area_of c → most ≤ limit →
-    IsMostUntil (IsInBounds c bounds) (gap_of c (height_of n heights)) limit most → m * most / area ≡ greatest (offs_in n heights a)
+    IsMostUntil (IsInBounds c bounds) (gap_of c (height_of n heights)) limit most →
+    m * most / area ≡ greatest (offs_in n heights a)
 error-most n heights a c bounds m area limit most address is b side size few h =
-    let whole : IsMost (IsInBounds c bounds) (gap_of c (height_of n heights)) most = record { bound = h.bound few; reached = h.reached } in
+    let whole : IsMost (IsInBounds c bounds) (gap_of c (height_of n heights)) most =
+    record { bound = h.bound few; reached = h.reached } in
     let gaps : IsMost (IsInBounds c bounds) (gap_of (corners_of n a) (height_of n heights)) most =
     subst (λ d. IsMost (IsInBounds c bounds) (gap_of d (height_of n heights)) most) is whole in
     greatest-most n heights a c bounds (m * most / area) address is b
@@ -80,22 +89,26 @@ error-most n heights a c bounds m area limit most address is b side size few h =
 
 -- a gap is at most a part of the tolerance exactly where the surface is at most the tolerance off
 gap-iff : (n : ℕ) (heights : List ℕ) (a tolerance : ℕ) (r : Point) → IsAddress n a →
-    (gap_of (corners_of n a) (height_of n heights) r ≤ area_of (corners_of n a) * tolerance / 2 ^ n) ↔ (off_plane n heights a r ≤ tolerance)
+    (gap_of (corners_of n a) (height_of n heights) r ≤ area_of (corners_of n a) * tolerance / 2 ^ n)
+    ↔ (off_plane n heights a r ≤ tolerance)
 gap-iff n heights a tolerance r address =
     let area : ℕ = area_of (corners_of n a) in
     let gap : ℕ = gap_of (corners_of n a) (height_of n heights) r in
     let off : ℕ = off_plane n heights a r in
     let some : 0 < 2 ^ n = pow_pos n in
     let same : area * off ≡ 2 ^ n * gap = off_plane-gap n heights a r address in
-    let iff : (gap ≤ area * tolerance / 2 ^ n) ↔ (gap * 2 ^ n ≤ area * tolerance) = le-div_iff_mul-le {k = 2 ^ n} {x = gap} {y = area * tolerance} some in (
+    let iff : (gap ≤ area * tolerance / 2 ^ n) ↔ (gap * 2 ^ n ≤ area * tolerance) =
+    le-div_iff_mul-le {k = 2 ^ n} {x = gap} {y = area * tolerance} some in (
       λ le.
           let product : gap * 2 ^ n ≤ area * tolerance = iff.0 le in
-          let scaled : area * off ≤ area * tolerance = omega arith in le_of_mul-le-mul_left {k = area} scaled (area_of-some n a address),
+          let scaled : area * off ≤ area * tolerance = omega arith in
+          le_of_mul-le-mul_left {k = area} scaled (area_of-some n a address),
       λ le. let scaled : area * off ≤ area * tolerance = mul-le-mul_left area le in iff.1 (omega arith),
     )
 
 -- a point that shows that the error is above the tolerance
-pub error-above : (n : ℕ) (heights : List ℕ) (a tolerance limit most : ℕ) (c : Corners) → IsAddress n a → c ≡ corners_of n a →
+pub error-above : (n : ℕ) (heights : List ℕ) (a tolerance limit most : ℕ) (c : Corners) →
+    IsAddress n a → c ≡ corners_of n a →
     limit ≡ area_of c * tolerance / 2 ^ n → limit < most → IsMostReached c (gap_of c (height_of n heights)) most →
     tolerance < greatest (offs_in n heights a)
 error-above n heights a tolerance limit most c address is at above reached = ⊎_elim
@@ -103,7 +116,8 @@ error-above n heights a tolerance limit most c address is at above reached = ⊎
     (λ (s : (r : Point) × (is_in_closed c r ≡ true) × (gap_of c (height_of n heights) r ≡ most)).
     let off : ℕ = off_plane n heights a s.0 in
     let held : holds_point n a s.0 ≡ true = subst (λ d. is_in_closed d s.0 ≡ true) is s.1 in
-    let gap : gap_of (corners_of n a) (height_of n heights) s.0 ≡ most = subst (λ d. gap_of d (height_of n heights) s.0 ≡ most) is s.2 in
+    let gap : gap_of (corners_of n a) (height_of n heights) s.0 ≡ most =
+    subst (λ d. gap_of d (height_of n heights) s.0 ≡ most) is s.2 in
     let same : limit ≡ area_of (corners_of n a) * tolerance / 2 ^ n = at ∙ ap (λ d. area_of d * tolerance / 2 ^ n) is in
     let le = held-le n heights a s.0 address held in
     ⊎_elim
@@ -113,21 +127,26 @@ error-above n heights a tolerance limit most c address is at above reached = ⊎
     reached
 
 -- the gap that was found says whether the error is above the tolerance
-pub error-iff : (n : ℕ) (heights : List ℕ) (a tolerance limit most : ℕ) (c : Corners) (bounds : Bounds) → IsAddress n a → c ≡ corners_of n a →
+pub error-iff : (n : ℕ) (heights : List ℕ) (a tolerance limit most : ℕ) (c : Corners) (bounds : Bounds) →
+    IsAddress n a → c ≡ corners_of n a →
     AreBounds c bounds → limit ≡ area_of c * tolerance / 2 ^ n →
-    IsMostUntil (IsInBounds c bounds) (gap_of c (height_of n heights)) limit most → (limit < most) ↔ (tolerance < greatest (offs_in n heights a))
+    IsMostUntil (IsInBounds c bounds) (gap_of c (height_of n heights)) limit most →
+    (limit < most) ↔ (tolerance < greatest (offs_in n heights a))
 error-iff n heights a tolerance limit most c bounds address is b at h = (
   λ above. error-above n heights a tolerance limit most c address is at above (⊎_elim
       (λ none. inl none)
-      (λ (s : (r : Point) × IsInBounds c bounds r × (gap_of c (height_of n heights) r ≡ most)). inr (s.0, s.1.held, s.2))
+      (λ (s : (r : Point) × IsInBounds c bounds r × (gap_of c (height_of n heights) r ≡ most)).
+      inr (s.0, s.1.held, s.2))
       h.reached),
   λ above. ⊎_elim
       (λ (less : limit < most). less)
       (λ (fits : most ≤ limit).
-      let few : greatest (offs_in n heights a) ≤ tolerance = greatest-le tolerance (off_plane n heights a) (holds_point n a)
+      let few : greatest (offs_in n heights a) ≤ tolerance =
+      greatest-le tolerance (off_plane n heights a) (holds_point n a)
       (λ r held.
       let inside : is_in_closed c r ≡ true = subst (λ d. is_in_closed d r ≡ true) (sym is) held in
-      let gap : gap_of c (height_of n heights) r ≤ most = h.bound fits r (IsInBounds-held n a c bounds r address is b inside) in
+      let gap : gap_of c (height_of n heights) r ≤ most =
+      h.bound fits r (IsInBounds-held n a c bounds r address is b inside) in
       let le : gap_of c (height_of n heights) r ≤ area_of c * tolerance / 2 ^ n = omega arith in
       (gap-iff n heights a tolerance r address).0
       (subst (λ d. gap_of d (height_of n heights) r ≤ area_of d * tolerance / 2 ^ n) is le)) (points_of n) in

@@ -1,5 +1,6 @@
 -- From the gaps, which are times twice the area, to how far the surface is from the plane, times 2^n.
-use Rattle.std.proofs.Common.{◌≡◌, ℕ, ◌+◌, ◌*◌, ◌/◌, ◌^◌, ◌<◌, ◌≤◌, inl, inr, List, refl, sym, ◌∙◌, ap, arith, ⊎_elim, mul-le-mul_left}
+use Rattle.std.proofs.Common.{◌≡◌, ℕ, ◌+◌, ◌*◌, ◌/◌, ◌^◌, ◌<◌, ◌≤◌, inl, inr, List, refl, sym, ◌∙◌, ap, arith, ⊎_elim}
+use Rattle.std.proofs.Common.{mul-le-mul_left}
 use Rattle.std.proofs.lemmas.Nat.{div-mul-add}
 use Rattle.mesh_defs.specs.declared.point.Point.{Point}
 use Rattle.mesh_defs.specs.Triangle.{IsAddress, corners_of}
@@ -22,8 +23,10 @@ off_plane-gap n heights a r address =
     let weight : ℕ = weighted (corners_of n a) (height_of n heights) r in
     let z : ℕ = plane_height n heights a r in
     let exactly : area * z ≡ 2 ^ n * weight = plane_height-exact n heights a r address in
-    let left : area * apart (2 ^ n * surface) z ≡ apart (area * (2 ^ n * surface)) (area * z) = apart-scaled area (2 ^ n * surface) z in
-    let right : 2 ^ n * apart (area * surface) weight ≡ apart (2 ^ n * (area * surface)) (2 ^ n * weight) = apart-scaled (2 ^ n) (area * surface) weight in
+    let left : area * apart (2 ^ n * surface) z ≡ apart (area * (2 ^ n * surface)) (area * z) =
+    apart-scaled area (2 ^ n * surface) z in
+    let right : 2 ^ n * apart (area * surface) weight ≡ apart (2 ^ n * (area * surface)) (2 ^ n * weight) =
+    apart-scaled (2 ^ n) (area * surface) weight in
     let swap : area * (2 ^ n * surface) ≡ 2 ^ n * (area * surface) = omega arith in
     left ∙ rw (swap, exactly) (sym right)
 
@@ -46,7 +49,8 @@ IsMost-off_plane n heights a P m area most address side size h = ⊎_elim
     (λ (s : (r : Point) × P r × (gap_of (corners_of n a) (height_of n heights) r ≡ most)).
     let total : area * off_plane n heights a s.0 ≡ m * most =
     ap (λ k. k * off_plane n heights a s.0) size ∙ off_plane-gap n heights a s.0 address ∙ rw (side, s.2) refl in
-    let result : m * most / area ≡ off_plane n heights a s.0 = exact area (off_plane n heights a s.0) (m * most) some total in
+    let result : m * most / area ≡ off_plane n heights a s.0 =
+    exact area (off_plane n heights a s.0) (m * most) some total in
     record {
       bound = λ r p. off-le r p (off_plane n heights a s.0) total result;
       reached = inr (s.0, s.1, sym result);
@@ -56,11 +60,13 @@ IsMost-off_plane n heights a P m area most address side size h = ⊎_elim
     some : 0 < area
     some = let positive = area_of-some n a address in omega arith
 
-    off-le : (r : Point) → P r → (z : ℕ) → area * z ≡ m * most → m * most / area ≡ z → off_plane n heights a r ≤ m * most / area
+    off-le : (r : Point) → P r → (z : ℕ) → area * z ≡ m * most → m * most / area ≡ z →
+        off_plane n heights a r ≤ m * most / area
     off-le r p z total result =
         let near : area * off_plane n heights a r ≡ 2 ^ n * gap_of (corners_of n a) (height_of n heights) r =
         ap (λ k. k * off_plane n heights a r) size ∙ off_plane-gap n heights a r address in
-        let le : 2 ^ n * gap_of (corners_of n a) (height_of n heights) r ≤ 2 ^ n * most = mul-le-mul_left (2 ^ n) (h.bound r p) in
+        let le : 2 ^ n * gap_of (corners_of n a) (height_of n heights) r ≤ 2 ^ n * most =
+        mul-le-mul_left (2 ^ n) (h.bound r p) in
         let same : m * most ≡ 2 ^ n * most = ap (λ k. k * most) side in
         let smaller : off_plane n heights a r ≤ z = le_of_mul-le-mul_left {k = area} (omega arith) some in
         omega arith

@@ -13,7 +13,8 @@ use Rattle.mesh_measure.specs.Areas.{AreSumsAcross, AreAcross}
 use Rattle.mesh_measure.specs.Line.{IsRowLineOf}
 
 -- one edge: its area times a height, by both sums
-edge-part : (p q : Point) (y x height z : ℕ) (s : Across) → AreSumsAcross (point 0 y) p q s → height ≡ z → is_left_or_on (point x y) p q ≡ true →
+edge-part : (p q : Point) (y x height z : ℕ) (s : Across) → AreSumsAcross (point 0 y) p q s → height ≡ z →
+    is_left_or_on (point x y) p q ≡ true →
     doubled_area (point x y) p q * z + (s.low * height + x * (q.y * height)) ≡ s.high * height + x * (p.y * height)
 edge-part p q y x height z s a same left =
     let le = leb-true (p.y * q.x + q.y * x + y * p.x) (p.x * q.y + q.x * y + x * p.y) left in
@@ -43,12 +44,14 @@ line-weights c f y apex v0 v1 s line one two three a high low rise fall x held =
     omega arith
 
 -- a sum some columns on is small
-pub sums-small : (start x slope : ℕ) → start ≤ 2473901162496 → x ≤ 2049 → slope ≤ 402653184 → start + x * slope ≤ 4398046511104
+pub sums-small : (start x slope : ℕ) → start ≤ 2473901162496 → x ≤ 2049 → slope ≤ 402653184 →
+    start + x * slope ≤ 4398046511104
 sums-small start x slope small few flat =
     let first : x * slope ≤ x * 402653184 = mul-le-mul_left x flat in omega arith
 
 -- so is it after some more
-pub sums-small-on : (start x slope next k rise : ℕ) → start ≤ 2473901162496 → x + k ≤ 2049 → slope ≤ 402653184 → next ≡ start + x * slope →
+pub sums-small-on : (start x slope next k rise : ℕ) → start ≤ 2473901162496 → x + k ≤ 2049 → slope ≤ 402653184 →
+    next ≡ start + x * slope →
     rise ≡ slope → next + k * rise ≤ 4398046511104
 sums-small-on start x slope next k rise small few flat is same =
     let all = sums-small start (x + k) slope small few flat in

@@ -35,4 +35,5 @@ pub record AreSmall (s : Areas) : Type 0 where
 
 -- three numbers, each as often as the area across from its corner
 abbrev pub sum_of_weighted : Areas → ℕ → ℕ → ℕ → ℕ
-sum_of_weighted s apex v0 v1 = (s.apex.high - s.apex.low) * apex + (s.v0.high - s.v0.low) * v0 + (s.v1.high - s.v1.low) * v1
+sum_of_weighted s apex v0 v1 =
+    (s.apex.high - s.apex.low) * apex + (s.v0.high - s.v0.low) * v0 + (s.v1.high - s.v1.low) * v1

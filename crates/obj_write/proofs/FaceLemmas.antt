@@ -1,5 +1,6 @@
 -- Corners of a child from those of its parent, by places.
-use Rattle.std.proofs.Common.{◌≡◌, ◌⊎◌, inl, inr, ℕ, zero, suc, ◌+◌, ◌-◌, ◌*◌, ◌/◌, ◌%◌, ◌^◌, ◌<◌, ◌≤◌, List, ◌++◌, length, set, refl, sym, ◌∙◌, ap, subst, arith}
+use Rattle.std.proofs.Common.{◌≡◌, ◌⊎◌, inl, inr, ℕ, zero, suc, ◌+◌, ◌-◌, ◌*◌, ◌/◌, ◌%◌, ◌^◌, ◌<◌, ◌≤◌, List, ◌++◌}
+use Rattle.std.proofs.Common.{length, set, refl, sym, ◌∙◌, ap, subst, arith}
 use Rattle.std.proofs.lemmas.List.{set-append_right}
 use Rattle.std.proofs.lemmas.List.Elements.{All-set}
 use Rattle.std.proofs.Math.Pow.{pow_mono}
@@ -15,7 +16,8 @@ use Rattle.obj_write.specs.VertexMarks.{grid_place}
 use Rattle.obj_write.proofs.PlaceLemmas.{place-below}
 
 -- where both sums are even, the place between two points is half the sum of their places
-place-between : (s a b c d : ℕ) → (a + c) % 2 ≡ 0 → (b + d) % 2 ≡ 0 → ((b * s + a) + (d * s + c)) / 2 ≡ ((b + d) / 2) * s + (a + c) / 2
+place-between : (s a b c d : ℕ) → (a + c) % 2 ≡ 0 → (b + d) % 2 ≡ 0 →
+    ((b * s + a) + (d * s + c)) / 2 ≡ ((b + d) / 2) * s + (a + c) / 2
 place-between s a b c d even_x even_y =
     let i : ℕ = (a + c) / 2 in
     let j : ℕ = (b + d) / 2 in
@@ -27,7 +29,8 @@ place-between s a b c d even_x even_y =
 
 -- the place of the midpoint of a base
 pub middle-place : (n t : ℕ) → level_of t < 2 * n →
-    (grid_place n (corners_of n t).v0 + grid_place n (corners_of n t).v1) / 2 ≡ grid_place n (midpoint (corners_of n t).v0 (corners_of n t).v1)
+    (grid_place n (corners_of n t).v0 + grid_place n (corners_of n t).v1) / 2
+    ≡ grid_place n (midpoint (corners_of n t).v0 (corners_of n t).v1)
 middle-place n t coarse =
     let c = corners_of n t in
     let even = HasEvenBase-corners_of n t coarse in

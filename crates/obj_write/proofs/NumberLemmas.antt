@@ -1,5 +1,7 @@
 -- The numbers that are counted from marks are those of the vertices.
-use Rattle.std.proofs.Common.{◌≡◌, ℕ, zero, suc, ◌+◌, ◌*◌, ◌^◌, ◌<◌, ◌≤◌, Bool, true, false, cond, ◌||◌, not, ltb, List, [], ◌∷◌, ◌++◌, length, map, filter, get_or, position, unwrap_or, Some, None, refl, inl, inr, sym, ◌∙◌, ap, ap₂, arith, append_assoc}
+use Rattle.std.proofs.Common.{◌≡◌, ℕ, zero, suc, ◌+◌, ◌*◌, ◌^◌, ◌<◌, ◌≤◌, Bool, true, false, cond, ◌||◌, not, ltb, List}
+use Rattle.std.proofs.Common.{[], ◌∷◌, ◌++◌, length, map, filter, get_or, position, unwrap_or, Some, None, refl, inl}
+use Rattle.std.proofs.Common.{inr, sym, ◌∙◌, ap, ap₂, arith, append_assoc}
 use Rattle.std.specs.List.{range_with_len, list_any, position_or_len}
 use Rattle.std.proofs.lemmas.Bool.{or_parts, lt-ltb, cases_lt}
 use Rattle.std.proofs.lemmas.List.{get_or-map, length-map, length_push}
@@ -17,12 +19,14 @@ use Rattle.mesh_defs.proofs.PointLemmas.{same_point-eq, eq-same_point}
 use Rattle.bintree_laws.specs.Corners.{IsInSquare}
 
 -- the first that passes stands behind those that do not
-first-found : (p : Point → Bool) (vs : List Point) (q : Point) (more : List Point) → list_any p vs ≡ false → p q ≡ true →
+first-found : (p : Point → Bool) (vs : List Point) (q : Point) (more : List Point) →
+    list_any p vs ≡ false → p q ≡ true →
     position_or_len p (vs ++ q ∷ more) ≡ length vs
 first-found p [] q more none here = ap (λ b. cond (not b) (1 + position_or_len p more) 0) here
 first-found p (v ∷ vs) q more none here =
     let both = or_parts (p v) (list_any p vs) none in
-    let rest : 1 + position_or_len p (vs ++ q ∷ more) ≡ suc (length vs) = let e = first-found p vs q more both.1 here in omega arith in
+    let rest : 1 + position_or_len p (vs ++ q ∷ more) ≡ suc (length vs) =
+    let e = first-found p vs q more both.1 here in omega arith in
     ap (λ b. cond (not b) (1 + position_or_len p (vs ++ q ∷ more)) 0) both.0 ∙ rest
 
 length-middle : (vs : List Point) (q : Point) (more : List Point) → length vs < length (vs ++ q ∷ more)
@@ -157,7 +161,8 @@ module _ (n : ℕ) (passes : Point → Bool) where
 
 -- the vertices by their places
 pub vertices-placed : (n : ℕ) (triangles : List ℕ) →
-    vertices_of n triangles ≡ filter (is_vertex n triangles) (map (place_point n) (range_with_len 0 (side_of n * side_of n)))
+    vertices_of n triangles ≡ filter (is_vertex n triangles)
+    (map (place_point n) (range_with_len 0 (side_of n * side_of n)))
 unfolding vertices_of
 vertices-placed n triangles = ap (filter (is_vertex n triangles)) (points-placed n)
 
@@ -221,10 +226,12 @@ module _ (n : ℕ) (triangles : List ℕ) (k : ℕ) (below : k < side_of n * sid
       let vertices : List Point = vertices_of n triangles in
       by_bool (is_vertex n triangles (place_point n k))
       (λ e. e)
-      (λ e. absurd (some_there (number-at-place n triangles k below ∙ ap (λ b. cond b (vertex_number vertices (place_point n k)) 0) e)))
+      (λ e. absurd (some_there (number-at-place n triangles k below
+      ∙ ap (λ b. cond b (vertex_number vertices (place_point n k)) 0) e)))
 
 -- the number at the place of a vertex
-pub number-of-vertex : (n : ℕ) (triangles : List ℕ) (p : Point) → IsInSquare (2 ^ n) p → is_vertex n triangles p ≡ true →
+pub number-of-vertex : (n : ℕ) (triangles : List ℕ) (p : Point) → IsInSquare (2 ^ n) p →
+    is_vertex n triangles p ≡ true →
     get_or (numbers_of n triangles) (grid_place n p) 0 ≡ vertex_number (vertices_of n triangles) p
 number-of-vertex n triangles p within shown =
     let again = point-again n p within.x in

@@ -1,5 +1,7 @@
 -- Numbers that are mended in places are those of the vertices as they are now.
-use Rattle.std.proofs.Common.{◌≡◌, ◌≢◌, ℕ, zero, suc, ◌+◌, ◌*◌, ◌/◌, ◌-◌, ◌^◌, ◌<◌, ◌≤◌, Bool, true, false, cond, List, [], ◌∷◌, ◌++◌, length, take, drop, get_or, All, refl, sym, ◌∙◌, ap, ap₂, arith, add-one, ⊎_elim, take-append-drop}
+use Rattle.std.proofs.Common.{◌≡◌, ◌≢◌, ℕ, zero, suc, ◌+◌, ◌*◌, ◌/◌, ◌-◌, ◌^◌, ◌<◌, ◌≤◌, Bool, true, false, cond, List}
+use Rattle.std.proofs.Common.{[], ◌∷◌, ◌++◌, length, take, drop, get_or, All, refl, sym, ◌∙◌, ap, ap₂, arith, add-one}
+use Rattle.std.proofs.Common.{⊎_elim, take-append-drop}
 use Rattle.std.proofs.Math.ListN.{set, length-set}
 use Rattle.std.proofs.Math.Nat.{div-lt_iff_lt-mul, mul-le-mul}
 use Rattle.std.proofs.lemmas.Bool.{false≢true, cases_eq}
@@ -111,7 +113,8 @@ numbers-again n triangles =
 pub marked-numbers : (n : ℕ) (triangles : List ℕ) →
     marked (numbers_of n triangles) ≡ length (vertices_of n triangles)
 marked-numbers n triangles =
-    ap marked (sym (numbered-marks n triangles)) ∙ marked-numbered 0 (vertex_marks n triangles) ∙ marked-marks n triangles
+    ap marked (sym (numbered-marks n triangles)) ∙ marked-numbered 0 (vertex_marks n triangles)
+    ∙ marked-marks n triangles
 
 -- marks alike
 
@@ -161,7 +164,8 @@ pub length-changes : (n : ℕ) (changes : List VertexChange) (xs : List ℕ) →
     length (with_changes n changes xs) ≡ length xs
 length-changes n [] xs = refl
 length-changes n (c ∷ changes) xs =
-    length-changes n changes (set xs (grid_place n c.point) (cond c.shown 1 0)) ∙ length-set xs (grid_place n c.point) (cond c.shown 1 0)
+    length-changes n changes (set xs (grid_place n c.point) (cond c.shown 1 0))
+    ∙ length-set xs (grid_place n c.point) (cond c.shown 1 0)
 
 -- one change more, behind the others
 pub changes-more : (n : ℕ) (changes : List VertexChange) (c : VertexChange) (xs : List ℕ) →
@@ -169,14 +173,15 @@ pub changes-more : (n : ℕ) (changes : List VertexChange) (c : VertexChange) (x
 changes-more n [] c xs = refl
 changes-more n (d ∷ changes) c xs = changes-more n changes c (set xs (grid_place n d.point) (cond d.shown 1 0))
 
--- With the changes the marks are those of a test, which passes where a change shows a vertex, and where there is no change
--- and a mark was before.
+-- With the changes the marks are those of a test, which passes where a change shows a vertex, and where there is no
+-- change and a mark was before.
 changed-marks : (n : ℕ) (passes : Point → Bool) (changes : List VertexChange) (xs : List ℕ) (k : ℕ) →
     k < side_of n * side_of n → length xs ≡ side_of n * side_of n →
     All (λ c. IsInSquare (2 ^ n) c.point) changes → All (λ c. c.shown ≡ passes c.point) changes →
     (All (λ c. c.point ≢ place_point n k) changes → is_mark (get_or xs k 0) ≡ passes (place_point n k)) →
     is_mark (get_or (with_changes n changes xs) k 0) ≡ passes (place_point n k)
-changed-marks n passes [] xs k low long within told rest = rest (All-nil (λ (c : VertexChange). c.point ≢ place_point n k))
+changed-marks n passes [] xs k low long within told rest =
+    rest (All-nil (λ (c : VertexChange). c.point ≢ place_point n k))
 changed-marks n passes (c ∷ changes) xs k low long within told rest =
     let at : ℕ = grid_place n c.point in
     let square = All-head (λ (d : VertexChange). IsInSquare (2 ^ n) d.point) c changes within in
@@ -202,7 +207,8 @@ changed-marks n passes (c ∷ changes) xs k low long within told rest =
 -- the point at a place lies in the square
 place-within : (n k : ℕ) → k < side_of n * side_of n → IsInSquare (2 ^ n) (place_point n k)
 place-within n k below =
-    let row : k / side_of n < side_of n = (div-lt_iff_lt-mul {k = side_of n} {x = k} {y = side_of n} (omega arith)).1 below in
+    let row : k / side_of n < side_of n =
+    (div-lt_iff_lt-mul {k = side_of n} {x = k} {y = side_of n} (omega arith)).1 below in
     record { x = omega arith; y = omega arith }
 
 -- with the changes that tell of other triangles the marks are at the same places as their numbers
@@ -246,7 +252,8 @@ last-one c (suc x) some = refl
 pub last-none : (xs : List ℕ) (at : ℕ) → at < length xs → get_or xs at 0 ≡ 0 →
     last_number 0 (take (at + 1) xs) ≡ last_number 0 (take at xs)
 last-none xs at below none =
-    ap (last_number 0) (take_more xs at 0 below ∙ ap (λ x. take at xs ++ x ∷ []) none) ∙ last-append 0 (take at xs) (0 ∷ [])
+    ap (last_number 0) (take_more xs at 0 below ∙ ap (λ x. take at xs ++ x ∷ []) none)
+    ∙ last-append 0 (take at xs) (0 ∷ [])
 
 -- and one at which there is
 pub last-some : (xs : List ℕ) (at : ℕ) → at < length xs → get_or xs at 0 ≢ 0 →
@@ -285,7 +292,8 @@ pub grid_few : (n : ℕ) → n ≤ 11 → side_of n * side_of n < 2 ^ 32
 grid_few n small =
     let le : 2 ^ n ≤ 2048 = (side_small n small).1 in
     let side : side_of n ≤ 2049 = omega arith in
-    let square : side_of n * side_of n ≤ 2049 * 2049 = mul-le-mul {n₁ = side_of n} {m₁ = side_of n} {n₂ = 2049} {m₂ = 2049} side side in
+    let square : side_of n * side_of n ≤ 2049 * 2049 =
+    mul-le-mul {n₁ = side_of n} {m₁ = side_of n} {n₂ = 2049} {m₂ = 2049} side side in
     omega arith
 
 -- there are as many numbers as points

@@ -1,11 +1,13 @@
 -- The points of the grid by their places, and the marks at the places of the vertices.
-use Rattle.std.proofs.Common.{◌≡◌, ℕ, zero, suc, ◌+◌, ◌*◌, ◌/◌, ◌%◌, ◌^◌, ◌<◌, ◌≤◌, Bool, true, false, cond, ◌||◌, List, [], ◌∷◌, ◌++◌, length, map, flat_map, get_or, replicate, refl, sym, ◌∙◌, ap, ap₂, arith}
+use Rattle.std.proofs.Common.{◌≡◌, ℕ, zero, suc, ◌+◌, ◌*◌, ◌/◌, ◌%◌, ◌^◌, ◌<◌, ◌≤◌, Bool, true, false, cond, ◌||◌, List}
+use Rattle.std.proofs.Common.{[], ◌∷◌, ◌++◌, length, map, flat_map, get_or, replicate, refl, sym, ◌∙◌, ap, ap₂, arith}
 use Rattle.std.specs.List.{range_with_len}
 use Rattle.std.proofs.Math.ListN.{set, length-set}
 use Rattle.std.proofs.Math.Bool.{or-true, or-false}
 use Rattle.std.proofs.lemmas.Bool.{false≢true}
 use Rattle.std.proofs.lemmas.Grind.{same_number_lists}
-use Rattle.std.proofs.lemmas.List.{get_or-set_same, get_or-set_other, get_or-map, length-map, length-replicate, get_or-replicate, map-append}
+use Rattle.std.proofs.lemmas.List.{get_or-set_same, get_or-set_other, get_or-map, length-map, length-replicate}
+use Rattle.std.proofs.lemmas.List.{get_or-replicate, map-append}
 use Rattle.std.proofs.lemmas.List.Folds.{list_any-append}
 use Rattle.std.proofs.lemmas.List.FromFn.{get_or-map-range_with_len, length-map-range_with_len}
 use Rattle.std.proofs.lemmas.Nat.{mul-add-lt, div-mul-add, mod-mul-add, div-add-mod'}
@@ -67,7 +69,8 @@ place-again n k = div-add-mod' k (side_of n)
 -- the point at the place of a point
 pub point-again : (n : ℕ) (p : Point) → p.x ≤ 2 ^ n → place_point n (grid_place n p) ≡ p
 point-again n p x =
-    ap₂ (λ i j. point i j) (mod-mul-add p.y (side_of n) p.x (omega arith)) (div-mul-add p.y (side_of n) p.x (omega arith))
+    ap₂ (λ i j. point i j) (mod-mul-add p.y (side_of n) p.x (omega arith))
+    (div-mul-add p.y (side_of n) p.x (omega arith))
 
 -- the place of a point of the square is one of the grid's
 pub place-below : (n : ℕ) (p : Point) → IsInSquare (2 ^ n) p → grid_place n p < side_of n * side_of n
@@ -78,13 +81,15 @@ abbrev bit : Bool → ℕ
 bit b = cond b 1 0
 
 -- a mark that is set
-module _ (n : ℕ) (p : Point) (within : IsInSquare (2 ^ n) p) (xs : List ℕ) (long : length xs ≡ side_of n * side_of n) where
+module _ (n : ℕ) (p : Point) (within : IsInSquare (2 ^ n) p) (xs : List ℕ)
+    (long : length xs ≡ side_of n * side_of n) where
   mark-set : (k : ℕ) (b : Bool) → get_or xs k 0 ≡ bit b →
       get_or (set xs (grid_place n p) 1) k 0 ≡ bit (b || is_same_point (place_point n k) p)
   mark-set k b before =
       by_bool (is_same_point (place_point n k) p)
       (λ e.
-      let there : k ≡ grid_place n p = sym (place-again n k) ∙ ap (grid_place n) (same_point-eq (place_point n k) p e) in
+      let there : k ≡ grid_place n p =
+      sym (place-again n k) ∙ ap (grid_place n) (same_point-eq (place_point n k) p e) in
       let low : grid_place n p < length xs = let below = place-below n p within in omega arith in
       ap (λ i. get_or (set xs (grid_place n p) 1) i 0) there
       ∙ get_or-set_same xs (grid_place n p) 1 0 low

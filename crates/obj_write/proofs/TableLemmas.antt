@@ -1,5 +1,6 @@
 -- Places without a number are counted at once.
-use Rattle.std.proofs.Common.{◌≡◌, ◌≢◌, ℕ, zero, suc, ◌+◌, ◌/◌, ◌-◌, ◌<◌, ◌≤◌, Bool, true, false, List, [], ◌∷◌, ◌++◌, length, take, drop, get_or, sym, ◌∙◌, ap, subst, arith, append_assoc}
+use Rattle.std.proofs.Common.{◌≡◌, ◌≢◌, ℕ, zero, suc, ◌+◌, ◌/◌, ◌-◌, ◌<◌, ◌≤◌, Bool, true, false, List, [], ◌∷◌, ◌++◌}
+use Rattle.std.proofs.Common.{length, take, drop, get_or, sym, ◌∙◌, ap, subst, arith, append_assoc}
 use Rattle.std.proofs.lemmas.Bool.{false≢true}
 use Rattle.std.proofs.lemmas.List.{take_more, drop_more}
 use Rattle.obj_write.specs.VertexMarks.{numbered, marked}
@@ -11,27 +12,34 @@ counted-next : (marks xs : List ℕ) (count at : ℕ) → at < length xs → get
 counted-next marks xs count at below none so =
     let few = so.few in
     let rest : drop at xs ≡ 0 ∷ drop (at + 1) xs = drop_more xs at 0 below ∙ ap (λ x. x ∷ drop (at + 1) xs) none in
-    let first : take (at + 1) xs ≡ take at xs ++ 0 ∷ [] = take_more xs at 0 below ∙ ap (λ x. take at xs ++ x ∷ []) none in
+    let first : take (at + 1) xs ≡ take at xs ++ 0 ∷ [] =
+    take_more xs at 0 below ∙ ap (λ x. take at xs ++ x ∷ []) none in
     let behind : List ℕ = numbered count (drop (at + 1) xs) in
     record {
       few = omega arith;
       within = omega arith;
-      so_far = so.so_far ∙ ap (λ r. take at xs ++ numbered count r) rest ∙ sym (append_assoc (take at xs) (0 ∷ []) behind)
+      so_far =
+          so.so_far ∙ ap (λ r. take at xs ++ numbered count r) rest ∙ sym (append_assoc (take at xs) (0 ∷ []) behind)
           ∙ ap (λ t. t ++ behind) (sym first);
       total = so.total ∙ ap (λ r. count + marked r) rest;
     }
 
 -- so many places more, at which no mark stands
 counted-on : (marks xs : List ℕ) (count at m : ℕ) → at + m ≤ length xs →
-    ((k : ℕ) → at ≤ k → k < at + m → get_or xs k 0 ≡ 0) → IsCounted marks xs count at → IsCounted marks xs count (at + m)
-counted-on marks xs count at zero fits none so = let same : at ≡ at + 0 = omega arith in subst (IsCounted marks xs count) same so
+    ((k : ℕ) → at ≤ k → k < at + m → get_or xs k 0 ≡ 0) → IsCounted marks xs count at →
+    IsCounted marks xs count (at + m)
+counted-on marks xs count at zero fits none so =
+    let same : at ≡ at + 0 = omega arith in
+    subst (IsCounted marks xs count) same so
 counted-on marks xs count at (suc m) fits none so =
     let before = counted-on marks xs count at m (omega arith) (λ k low high. none k low (omega arith)) so in
     let next : at + m + 1 ≡ at + suc m = omega arith in
-    subst (IsCounted marks xs count) next (counted-next marks xs count (at + m) (omega arith) (none (at + m) (omega arith) (omega arith)) before)
+    subst (IsCounted marks xs count) next
+    (counted-next marks xs count (at + m) (omega arith) (none (at + m) (omega arith) (omega arith)) before)
 
 -- a block whose flag is not set
-pub counted-block : (marks xs : List ℕ) (used : List Bool) (count block : ℕ) → AreFlagged xs used → get_or used block false ≡ false →
+pub counted-block : (marks xs : List ℕ) (used : List Bool) (count block : ℕ) → AreFlagged xs used →
+    get_or used block false ≡ false →
     IsCounted marks xs count (block_end xs block) → IsCounted marks xs count (block_end xs (block + 1))
 counted-block marks xs used count block flagged unused so =
     let from = block_end xs block in
@@ -55,5 +63,6 @@ flagged-other xs ys used block flagged long set others =
     record {
       room = omega arith;
       close = omega arith;
-      clear = λ k unused. others k (λ here. false≢true (sym unused ∙ ap (λ b. get_or used b false) here ∙ set)) ∙ flagged.clear k unused;
+      clear = λ k unused. others k (λ here. false≢true (sym unused ∙ ap (λ b. get_or used b false) here ∙ set))
+          ∙ flagged.clear k unused;
     }

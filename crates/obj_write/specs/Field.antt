@@ -14,7 +14,8 @@ field_bytes f = take f.len f.bytes
 
 -- three fields behind a letter, and the line's end
 abbrev pub letter_line : ℕ → Field → Field → Field → List ℕ
-letter_line letter first second third = (letter ∷ []) ++ (field_bytes first ++ (field_bytes second ++ (field_bytes third ++ codes "\n")))
+letter_line letter first second third =
+    (letter ∷ []) ++ (field_bytes first ++ (field_bytes second ++ (field_bytes third ++ codes "\n")))
 
 -- the field is that of the number
 pub record IsFieldOf (f : Field) (k : ℕ) : Type 0 where

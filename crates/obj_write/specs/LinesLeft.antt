@@ -26,5 +26,6 @@ vertex_text v k = vertex_lines_from v.wedges.now.n v.wedges.now.heights v.spacin
 -- the lines of the faces of a view, from a triangle on, with the mark before it
 unfoldable pub face_text : MeshView → ℕ → Option Mark → List ℕ
 face_text v i before =
-    face_lines v.wedges.now.n v.wedges.now.heights v.spacing v.planes.now (vertices_of v.wedges.now.n v.leaves.now) before
+    face_lines v.wedges.now.n v.wedges.now.heights v.spacing v.planes.now
+    (vertices_of v.wedges.now.n v.leaves.now) before
     (drop i v.leaves.now)

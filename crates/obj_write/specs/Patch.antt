@@ -11,7 +11,8 @@ use Rattle.obj_write.specs.VertexMarks.{grid_place, is_vertex}
 abbrev pub AreNumbers : ℕ → List ℕ → Type 0
 AreNumbers n numbers = (triangles : List ℕ) × (numbers ≡ numbers_of n triangles)
 
--- Two lists of triangles have the same vertices but for the points of the changes, and the second has those that they show.
+-- Two lists of triangles have the same vertices but for the points of the changes, and the second has those that they
+-- show.
 pub record AreChanges (n : ℕ) (before after : List ℕ) (changes : List VertexChange) : Type 0 where
   pub told : All (λ c. c.shown ≡ is_vertex n after c.point) changes
   pub others : (p : Point) → IsInSquare (2 ^ n) p → All (λ c. c.point ≢ p) changes →

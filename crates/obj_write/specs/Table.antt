@@ -1,13 +1,15 @@
 -- A table of numbers with a flag for each block of 64 places. This project's own words.
 -- Words: is_used, AreFlagged, block_end, IsCounted.
-use Rattle.std.specs.Prelude.{◌≡◌, ℕ, ◌+◌, ◌*◌, ◌/◌, ◌≤◌, ◌++◌, Bool, false, List, length, take, drop, min, slice_index, slice_index_or}
+use Rattle.std.specs.Prelude.{◌≡◌, ℕ, ◌+◌, ◌*◌, ◌/◌, ◌≤◌, ◌++◌, Bool, false, List, length, take, drop, min, slice_index}
+use Rattle.std.specs.Prelude.{slice_index_or}
 use Rattle.obj_write.specs.VertexMarks.{numbered, marked}
 
 -- the flag of the block of a place
 abbrev pub is_used : List Bool → ℕ → Bool
 is_used used k = slice_index_or used (k / 64) false
 
--- each place has a block with a flag, no flag is more than needed, and no number stands in a block whose flag is not set
+-- each place has a block with a flag, no flag is more than needed, and no number stands in a block whose flag is not
+-- set
 pub record AreFlagged (numbers : List ℕ) (used : List Bool) : Type 0 where
   pub room : length numbers ≤ 64 * length used
   pub close : 64 * length used ≤ length numbers + 64

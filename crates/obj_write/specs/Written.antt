@@ -20,4 +20,5 @@ IsPartOfMesh prefix number bytes part =
 -- where it is told, one unfinished mesh with a prefix of these bytes came behind what was there
 abbrev pub GrowsByPart : Option (List WrittenMesh) → Option (List WrittenMesh) → List ℕ → ℕ → List ℕ → Type 0
 GrowsByPart before now name number bytes =
-    (all : List WrittenMesh) → before ≡ Some all → (front : List ℕ) × IsPrefix front bytes × (now ≡ Some (all ++ mesh_with name number front false ∷ []))
+    (all : List WrittenMesh) → before ≡ Some all →
+    (front : List ℕ) × IsPrefix front bytes × (now ≡ Some (all ++ mesh_with name number front false ∷ []))

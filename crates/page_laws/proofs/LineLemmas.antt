@@ -1,5 +1,6 @@
 -- Texts of lines whose fields have one blank between them: the fields are read back, and a line is one.
-use Rattle.std.proofs.Common.{◌≡◌, ◌≢◌, ℕ, zero, suc, ◌+◌, ◌-◌, ◌%◌, ◌^◌, ◌<◌, ◌≤◌, Bool, false, List, [], ◌∷◌, ◌++◌, length, map, get_or, refl, sym, ap, ap₂, ◌∙◌, arith, lit<}
+use Rattle.std.proofs.Common.{◌≡◌, ◌≢◌, ℕ, zero, suc, ◌+◌, ◌-◌, ◌%◌, ◌^◌, ◌<◌, ◌≤◌, Bool, false, List, [], ◌∷◌, ◌++◌}
+use Rattle.std.proofs.Common.{length, map, get_or, refl, sym, ap, ap₂, ◌∙◌, arith, lit<}
 use Rattle.std.specs.Prelude.{◌||◌, ◌==◌, decimal, All}
 use Rattle.std.specs.List.{flat_map}
 use Rattle.std.proofs.lemmas.List.{append-nil}
@@ -27,7 +28,9 @@ from-decimal = decimal_by_steps (λ n ds. AreFrom 33 ds) (λ n small. (omega ari
 
 -- a byte of a field separates none
 big-other : (byte : ℕ) → 33 ≤ byte → is_gap byte ≡ false
-big-other byte big = ap₂ (λ (a b : Bool). a || b) (ne_eqb byte 32 (λ e. absurd (omega arith))) (ne_eqb byte 9 (λ e. absurd (omega arith)))
+big-other byte big =
+    ap₂ (λ (a b : Bool). a || b) (ne_eqb byte 32 (λ e. absurd (omega arith)))
+    (ne_eqb byte 9 (λ e. absurd (omega arith)))
 
 all-other : (bytes : List ℕ) → AreFrom 33 bytes → All IsOther bytes
 all-other [] a = All-nil IsOther
@@ -36,16 +39,19 @@ all-other (byte ∷ bytes) a = All-cons IsOther byte bytes (big-other byte a.0) 
 -- fields
 
 -- a field, and what is behind its blank
-pub fields-word : (field rest : List ℕ) → 0 < length field → AreFrom 33 field → fields_of (field ++ 32 ∷ rest) ≡ field ∷ fields_of rest
+pub fields-word : (field rest : List ℕ) → 0 < length field → AreFrom 33 field →
+    fields_of (field ++ 32 ∷ rest) ≡ field ∷ fields_of rest
 fields-word [] rest some a = absurd (omega arith)
 fields-word (byte ∷ run) rest some a =
-    fields-run byte run (32 ∷ rest) (big-other byte a.0) (all-other run a.1) refl ∙ ap (λ l. (byte ∷ run) ∷ l) (fields-gap 32 rest refl)
+    fields-run byte run (32 ∷ rest) (big-other byte a.0) (all-other run a.1) refl
+    ∙ ap (λ l. (byte ∷ run) ∷ l) (fields-gap 32 rest refl)
 
 -- the last field
 pub fields-end : (field : List ℕ) → 0 < length field → AreFrom 33 field → fields_of field ≡ field ∷ []
 fields-end [] some a = absurd (omega arith)
 fields-end (byte ∷ run) some a =
-    ap (λ l. fields_of (byte ∷ l)) (sym (append-nil run)) ∙ fields-run byte run [] (big-other byte a.0) (all-other run a.1) refl
+    ap (λ l. fields_of (byte ∷ l)) (sym (append-nil run))
+    ∙ fields-run byte run [] (big-other byte a.0) (all-other run a.1) refl
 
 -- no CR is dropped
 at-no_cr : (bytes : List ℕ) (k : ℕ) → AreFrom 32 bytes → get_or bytes k 0 ≢ 13
@@ -78,4 +84,5 @@ lines-ended f (x ∷ xs) = ap (λ l. f x ++ 10 ∷ [] ++ l) (lines-ended f xs)
 -- bytes from the blank on are one line
 pub no-end : (bytes : List ℕ) → AreFrom 32 bytes → IsOneLine bytes
 no-end [] a = All-nil (λ byte. byte ≢ 10)
-no-end (byte ∷ bytes) a = All-cons (λ b. b ≢ 10) byte bytes (λ e. (let own = a.0 in absurd (omega arith))) (no-end bytes a.1)
+no-end (byte ∷ bytes) a =
+    All-cons (λ b. b ≢ 10) byte bytes (λ e. (let own = a.0 in absurd (omega arith))) (no-end bytes a.1)

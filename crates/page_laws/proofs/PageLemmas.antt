@@ -1,5 +1,6 @@
 -- Text that goes to a sink through a page.
-use Rattle.std.proofs.Common.{◌≡◌, ℕ, List, [], ◌∷◌, ◌++◌, Option, Some, Result, Ok, Err, refl, sym, ap, ◌∙◌, append_assoc, ◌+◌, ◌<◌, length, take, drop, get_or}
+use Rattle.std.proofs.Common.{◌≡◌, ℕ, List, [], ◌∷◌, ◌++◌, Option, Some, Result, Ok, Err, refl, sym, ap, ◌∙◌}
+use Rattle.std.proofs.Common.{append_assoc, ◌+◌, ◌<◌, length, take, drop, get_or}
 use Rattle.std.specs.List.{flat_map}
 use Rattle.std.proofs.lemmas.List.{append-nil, take_more, take-append-drop}
 use Rattle.std.proofs.lemmas.Grind.{flat_map-append}
@@ -20,26 +21,32 @@ put-more before now page page' text more grown put = record {
 }
 
 -- a page that the sink got
-pub put-written : {T E : Type 0} (before mid now : Option (List ℕ)) (page page' piece text : List ℕ) (x : T) → piece ≡ page → page' ≡ [] →
+pub put-written : {T E : Type 0} (before mid now : Option (List ℕ)) (page page' piece text : List ℕ) (x : T) →
+    piece ≡ page → page' ≡ [] →
     IsPut before mid page text → Appends {T = T} {E = E} mid now piece (Ok x) → IsPut before now page' text
 put-written before mid now page page' piece text x same empty put appends = record {
   holds = λ all is.
       let p = put.holds all is in (
         p.0 ++ page,
-        appends.ok (all ++ p.0) p.1 ∙ ap (λ l. Some ((all ++ p.0) ++ l)) same ∙ ap (λ l. Some l) (append_assoc all p.0 page),
+        appends.ok (all ++ p.0) p.1 ∙ ap (λ l. Some ((all ++ p.0) ++ l)) same
+            ∙ ap (λ l. Some l) (append_assoc all p.0 page),
         p.2 ∙ sym (append-nil (p.0 ++ page)) ∙ ap (λ l. (p.0 ++ page) ++ l) (sym empty),
       );
 }
 
 -- a page of which the sink got a part
-pub cut-written : {T E : Type 0} (before mid now : Option (List ℕ)) (page text : List ℕ) (e : E) → IsPut before mid page text →
+pub cut-written : {T E : Type 0} (before mid now : Option (List ℕ)) (page text : List ℕ) (e : E) →
+    IsPut before mid page text →
     Appends {T = T} {E = E} mid now page (Err e) → IsWrittenInPart before now text
 cut-written before mid now page text e put appends = record {
   holds = λ all is.
       let p = put.holds all is in
       let cut = appends.failed (all ++ p.0) p.1 in (
         p.0 ++ cut.0,
-        record { back = cut.1.back; joined = p.2 ∙ ap (λ l. p.0 ++ l) cut.1.joined ∙ sym (append_assoc p.0 cut.0 cut.1.back) },
+        record {
+          back = cut.1.back;
+          joined = p.2 ∙ ap (λ l. p.0 ++ l) cut.1.joined ∙ sym (append_assoc p.0 cut.0 cut.1.back);
+        },
         cut.2 ∙ ap (λ l. Some l) (append_assoc all p.0 cut.0),
       );
 }
@@ -51,7 +58,10 @@ cut-longer before now text more whole is_whole cut = record {
   holds = λ all is.
       let c = cut.holds all is in (
         c.0,
-        record { back = c.1.back ++ more; joined = is_whole ∙ ap (λ l. l ++ more) c.1.joined ∙ append_assoc c.0 c.1.back more },
+        record {
+          back = c.1.back ++ more;
+          joined = is_whole ∙ ap (λ l. l ++ more) c.1.joined ∙ append_assoc c.0 c.1.back more;
+        },
         c.2,
       );
 }
@@ -64,12 +74,14 @@ appends-put before now text x put = record {
   failed = tt;
 }
 
-pub appends-cut : {T E : Type 0} (before now : Option (List ℕ)) (text : List ℕ) (e : E) → IsWrittenInPart before now text →
+pub appends-cut : {T E : Type 0} (before now : Option (List ℕ)) (text : List ℕ) (e : E) →
+    IsWrittenInPart before now text →
     Appends {T = T} {E = E} before now text (Err e)
 appends-cut before now text e cut = record { ok = tt; failed = cut.holds }
 
 -- the last page
-pub appends-rest : {T E : Type 0} (before mid now : Option (List ℕ)) (page text : List ℕ) (answer : Result T E) → IsPut before mid page text →
+pub appends-rest : {T E : Type 0} (before mid now : Option (List ℕ)) (page text : List ℕ) (answer : Result T E) →
+    IsPut before mid page text →
     Appends mid now page answer → Appends before now text answer
 appends-rest before mid now page text (Ok x) put appends =
     appends-put before now text x (put-written before mid now page [] page text x refl refl put appends)
@@ -82,13 +94,16 @@ appends-rest before mid now page text (Err e) put appends =
 pub texts-cut : {A : Type 0} (f : A → List ℕ) (text : List ℕ) (xs : List A) (k : ℕ) →
     text ++ flat_map f xs ≡ (text ++ flat_map f (take k xs)) ++ flat_map f (drop k xs)
 texts-cut f text xs k =
-    ap (λ l. text ++ flat_map f l) (sym (take-append-drop k xs)) ∙ ap (λ l. text ++ l) (flat_map-append f (take k xs) (drop k xs))
+    ap (λ l. text ++ flat_map f l) (sym (take-append-drop k xs))
+    ∙ ap (λ l. text ++ l) (flat_map-append f (take k xs) (drop k xs))
     ∙ sym (append_assoc text (flat_map f (take k xs)) (flat_map f (drop k xs)))
 
 -- one more
-pub texts-next : {A : Type 0} (f : A → List ℕ) (text : List ℕ) (xs : List A) (k : ℕ) (x : A) → k < length xs → x ≡ get_or xs k x →
+pub texts-next : {A : Type 0} (f : A → List ℕ) (text : List ℕ) (xs : List A) (k : ℕ) (x : A) →
+    k < length xs → x ≡ get_or xs k x →
     text ++ flat_map f (take (k + 1) xs) ≡ (text ++ flat_map f (take k xs)) ++ f x
 texts-next f text xs k x within is =
     ap (λ l. text ++ flat_map f l) (take_more xs k x within ∙ ap (λ y. take k xs ++ y ∷ []) (sym is))
-    ∙ ap (λ l. text ++ l) (flat_map-append f (take k xs) (x ∷ []) ∙ ap (λ l. flat_map f (take k xs) ++ l) (append-nil (f x)))
+    ∙ ap (λ l. text ++ l) (flat_map-append f (take k xs) (x ∷ [])
+    ∙ ap (λ l. flat_map f (take k xs) ++ l) (append-nil (f x)))
     ∙ sym (append_assoc text (flat_map f (take k xs)) (f x))

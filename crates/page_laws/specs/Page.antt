@@ -4,7 +4,8 @@ use Rattle.roam_edge.specs.Told.{IsPrefix}
 
 -- the text was put since the sink told `before`: it has got all of it but for what the page holds
 pub record IsPut (before now : Option (List ℕ)) (page text : List ℕ) : Type 0 where
-  pub holds : (all : List ℕ) → before ≡ Some all → (front : List ℕ) × (now ≡ Some (all ++ front)) × (text ≡ front ++ page)
+  pub holds : (all : List ℕ) → before ≡ Some all →
+      (front : List ℕ) × (now ≡ Some (all ++ front)) × (text ≡ front ++ page)
 
 -- since the sink told `before`, it has got a prefix of this text
 pub record IsWrittenInPart (before now : Option (List ℕ)) (text : List ℕ) : Type 0 where

@@ -1,5 +1,7 @@
 -- What an answer for a whole file tells of its header and its raster.
-use Rattle.std.proofs.Common.{◌≡◌, ◌≢◌, ℕ, ◌+◌, ◌-◌, ◌<◌, ◌≤◌, ◌⊎◌, ◌↔◌, Bool, true, false, nat_lt, if◌then◌else◌, List, length, take, Result, Ok, Err, IfErr, refl, sym, ap, ◌∙◌, inl, inr, subst, arith, length-append}
+use Rattle.std.proofs.Common.{◌≡◌, ◌≢◌, ℕ, ◌+◌, ◌-◌, ◌<◌, ◌≤◌, ◌⊎◌, ◌↔◌, Bool, true, false, nat_lt, if◌then◌else◌, List}
+use Rattle.std.proofs.Common.{length, take, Result, Ok, Err, IfErr, refl, sym, ap, ◌∙◌, inl, inr, subst, arith}
+use Rattle.std.proofs.Common.{length-append}
 use Rattle.text_laws.proofs.WordLemmas.{length-flat}
 use Rattle.text_laws.proofs.AnswerLemmas.{err-same, ok-err}
 use Rattle.text_laws.proofs.ListLemmas.{All-back}
@@ -19,16 +21,21 @@ use Rattle.pgm_raster.specs.Progress as samples
 use Rattle.pgm_grid.specs.declared.fault.PgmFault.{PgmFault}
 use Rattle.pgm_grid.specs.declared.fault.PgmFault.TheVariants.{Truncated, NoMemory}
 use Rattle.pgm_grid.specs.PgmText.{point_count, form_of, most_file_bytes, IsFileText, HasHeader}
-use Rattle.pgm_grid.specs.Progress.{header_fault, raster_fault, grid_with, grid_answer, samples_at, file_answer, grid_of}
-use Rattle.pgm_grid.specs.Laws.{AreBytes, TextsAreRead, GridsHaveTexts, GridsHaveHeaders, CutTextsAreRefused, TrailingBytesAreRefused, GreatSamplesAreRefused, BadSamplesAreRefused, LongFilesAreRefused, OthersAreAbsent}
+use Rattle.pgm_grid.specs.Progress.{header_fault, raster_fault, grid_with, grid_answer, samples_at, file_answer}
+use Rattle.pgm_grid.specs.Progress.{grid_of}
+use Rattle.pgm_grid.specs.Laws.{AreBytes, TextsAreRead, GridsHaveTexts, GridsHaveHeaders, CutTextsAreRefused}
+use Rattle.pgm_grid.specs.Laws.{TrailingBytesAreRefused, GreatSamplesAreRefused, BadSamplesAreRefused}
+use Rattle.pgm_grid.specs.Laws.{LongFilesAreRefused, OthersAreAbsent}
 use Rattle.pgm_grid.proofs.GridLemmas.{points_small}
-use Rattle.pgm_grid.proofs.FaultLemmas.{apart, no_header-memory, header-truncated, same_header, no_raster-memory, same_raster}
+use Rattle.pgm_grid.proofs.FaultLemmas.{apart, no_header-memory, header-truncated, same_header, no_raster-memory}
+use Rattle.pgm_grid.proofs.FaultLemmas.{same_raster}
 use Rattle.pgm_grid.proofs.ReaderLemmas.{raster-refused}
 
 -- Answers.
 
 -- a refusal of the header
-pub file-header : (total : ℕ) (answer : HeaderAnswer) (fault : HeaderFault) → file_answer total answer ≡ Err (header_fault fault) → answer ≡ Bad fault
+pub file-header : (total : ℕ) (answer : HeaderAnswer) (fault : HeaderFault) →
+    file_answer total answer ≡ Err (header_fault fault) → answer ≡ Bad fault
 file-header total Part fault e = absurd (header-truncated fault (sym (err-same _ _ e)))
 file-header total (Whole h rest) fault e =
     let found = raster-refused h (samples_at h (total - length rest) rest) (header_fault fault) e in
@@ -47,15 +54,20 @@ file-raster total (Bad fault') fault other e = absurd (apart fault' fault (err-s
 
 -- the file ends too early
 pub file-truncated : (total : ℕ) (answer : HeaderAnswer) → file_answer total answer ≡ Err Truncated
-    → (answer ≡ Part) ⊎ ((h : Header) × (rest : List ℕ) × (answer ≡ Whole h rest) × (samples_at h (total - length rest) rest ≡ Err raster.Truncated))
+    → (answer ≡ Part) ⊎ ((h : Header) × (rest : List ℕ) × (answer ≡ Whole h rest)
+    × (samples_at h (total - length rest) rest ≡ Err raster.Truncated))
 file-truncated total Part e = inl refl
 file-truncated total (Whole h rest) e =
     let found = raster-refused h (samples_at h (total - length rest) rest) Truncated e in
     inr (h, rest, refl, found.1 ∙ ap Err (same_raster found.0 raster.Truncated found.2))
 file-truncated total (Bad fault) e = absurd (header-truncated fault (err-same _ _ e))
 
-answer-ok : (h : Header) (answer : samples.RasterAnswer) (g : HeightField) → grid_answer h answer ≡ Ok g → (answer ≡ Ok g.heights) × (g ≡ grid_with h g.heights)
-answer-ok h (Ok heights) g e = (ap Ok (ap (λ (f : HeightField). f.heights) (ok-same _ _ e)), sym (ok-same _ _ e) ∙ ap (grid_with h) (ap (λ (f : HeightField). f.heights) (ok-same _ _ e)))
+answer-ok : (h : Header) (answer : samples.RasterAnswer) (g : HeightField) → grid_answer h answer ≡ Ok g →
+    (answer ≡ Ok g.heights) × (g ≡ grid_with h g.heights)
+answer-ok h (Ok heights) g e = (
+  ap Ok (ap (λ (f : HeightField). f.heights) (ok-same _ _ e)),
+  sym (ok-same _ _ e) ∙ ap (grid_with h) (ap (λ (f : HeightField). f.heights) (ok-same _ _ e)),
+)
   where
     ok-same : (one other : HeightField) → ◌≡◌ {A = Result HeightField PgmFault} (Ok one) (Ok other) → one ≡ other
     ok-same one other same = cc
@@ -63,15 +75,18 @@ answer-ok h (Err fault) g e = absurd (ok-err g (raster_fault fault) (sym e))
 
 -- a grid
 pub file-ok : (total : ℕ) (answer : HeaderAnswer) (g : HeightField) → file_answer total answer ≡ Ok g
-    → (h : Header) × (rest : List ℕ) × (answer ≡ Whole h rest) × (samples_at h (total - length rest) rest ≡ Ok g.heights) × (g ≡ grid_with h g.heights)
+    → (h : Header) × (rest : List ℕ) × (answer ≡ Whole h rest)
+    × (samples_at h (total - length rest) rest ≡ Ok g.heights) × (g ≡ grid_with h g.heights)
 file-ok total Part g e = absurd (ok-err g Truncated (sym e))
-file-ok total (Whole h rest) g e = (let found = answer-ok h (samples_at h (total - length rest) rest) g e in (h, rest, refl, found.0, found.1))
+file-ok total (Whole h rest) g e =
+    (let found = answer-ok h (samples_at h (total - length rest) rest) g e in (h, rest, refl, found.0, found.1))
 file-ok total (Bad fault) g e = absurd (ok-err g (header_fault fault) (sym e))
 
 pub file-memory : (total : ℕ) (answer : HeaderAnswer) → file_answer total answer ≡ Err NoMemory → ⊥
 file-memory total Part e = cc
 file-memory total (Whole h rest) e =
-    let found = raster-refused h (samples_at h (total - length rest) rest) NoMemory e in no_raster-memory found.0 found.2
+    let found = raster-refused h (samples_at h (total - length rest) rest) NoMemory e in
+    no_raster-memory found.0 found.2
 file-memory total (Bad fault) e = no_header-memory fault (err-same _ _ e)
 
 -- Headers of files.
@@ -85,7 +100,8 @@ module _ (bytes : List ℕ) (h : Header) where
   -- the header and what follows are the file
   pub has-length : (at : ℕ) (rest : List ℕ) → HasHeader bytes h at rest → at + length rest ≡ length bytes
   has-length at rest has =
-      let sum : length bytes ≡ length has.text + length rest = ap length has.cut ∙ length-append has.text rest in omega (arith, sum, has.place)
+      let sum : length bytes ≡ length has.text + length rest = ap length has.cut ∙ length-append has.text rest in
+      omega (arith, sum, has.place)
 
   pub has-whole : head.HeaderTextsAreRead → (at : ℕ) (rest : List ℕ) → HasHeader bytes h at rest
       → (reading.header_of bytes ≡ Whole h rest) × (length bytes - length rest ≡ at)
@@ -94,7 +110,8 @@ module _ (bytes : List ℕ) (h : Header) where
     omega (arith, has-length at rest has),
   )
 
-  pub whole-has : head.ReadTextsAreHeaders → (rest : List ℕ) → reading.header_of bytes ≡ Whole h rest → HasHeader bytes h (length bytes - length rest) rest
+  pub whole-has : head.ReadTextsAreHeaders → (rest : List ℕ) → reading.header_of bytes ≡ Whole h rest →
+      HasHeader bytes h (length bytes - length rest) rest
   whole-has read rest e =
       let found = read bytes rest h e in
       record {
@@ -104,11 +121,13 @@ module _ (bytes : List ℕ) (h : Header) where
         short = found.3;
         accepts = found.4;
         cut = found.5;
-        place = (let sum : length bytes ≡ length found.0 + length rest = ap length found.5 ∙ length-append found.0 rest in omega (arith, sum));
+        place = (let sum : length bytes ≡ length found.0 + length rest =
+            ap length found.5 ∙ length-append found.0 rest in omega (arith, sum));
       }
 
 -- the same words of a file and of its header
-pub header-law : (bytes : List ℕ) (fault : HeaderFault) (Q : Type 0) → (reading.header_of bytes ≡ Bad fault) ↔ Q → (grid_of bytes ≡ Err (header_fault fault)) ↔ Q
+pub header-law : (bytes : List ℕ) (fault : HeaderFault) (Q : Type 0) → (reading.header_of bytes ≡ Bad fault) ↔ Q →
+    (grid_of bytes ≡ Err (header_fault fault)) ↔ Q
 unfolding grid_of
 header-law bytes fault Q law = (
   λ e. law.0 (file-header (length bytes) (reading.header_of bytes) fault e),
@@ -118,36 +137,53 @@ header-law bytes fault Q law = (
 module _ (texts : head.HeaderTextsAreRead) (read : head.ReadTextsAreHeaders) (bytes : List ℕ) where
   -- the same words of a file and of its raster
   pub raster-law : (fault : RasterFault) (Q : Header → ℕ → List ℕ → Type 0) → (raster_fault fault ≡ Truncated → ⊥)
-      → ((h : Header) (at : ℕ) (rest : List ℕ) → HasHeader bytes h at rest → (samples_at h at rest ≡ Err fault) ↔ Q h at rest)
-      → (grid_of bytes ≡ Err (raster_fault fault)) ↔ ((h : Header) × (at : ℕ) × (rest : List ℕ) × HasHeader bytes h at rest × Q h at rest)
+      → ((h : Header) (at : ℕ) (rest : List ℕ) → HasHeader bytes h at rest →
+      (samples_at h at rest ≡ Err fault) ↔ Q h at rest)
+      → (grid_of bytes ≡ Err (raster_fault fault))
+      ↔ ((h : Header) × (at : ℕ) × (rest : List ℕ) × HasHeader bytes h at rest × Q h at rest)
   unfolding grid_of
   raster-law fault Q other law = (
     λ e.
         let found = file-raster (length bytes) (reading.header_of bytes) fault other e in
-        let has = whole-has bytes found.0 read found.1 found.2 in
-        (found.0, length bytes - length found.1, found.1, has, (law found.0 (length bytes - length found.1) found.1 has).0 found.3),
+        let has = whole-has bytes found.0 read found.1 found.2 in (
+          found.0,
+          length bytes - length found.1,
+          found.1,
+          has,
+          (law found.0 (length bytes - length found.1) found.1 has).0 found.3,
+        ),
     λ x.
         let whole = has-whole bytes x.0 texts x.1 x.2 x.3 in
-        ap (file_answer (length bytes)) whole.0 ∙ ap (λ k. grid_answer x.0 (samples_at x.0 k x.2)) whole.1 ∙ ap (grid_answer x.0) ((law x.0 x.1 x.2 x.3).1 x.4),
+        ap (file_answer (length bytes)) whole.0 ∙ ap (λ k. grid_answer x.0 (samples_at x.0 k x.2)) whole.1
+        ∙ ap (grid_answer x.0) ((law x.0 x.1 x.2 x.3).1 x.4),
   )
 
   -- the file ends too early, in its header or in its raster
   pub truncated-law : (Part' : Type 0) (Q : Header → ℕ → List ℕ → Type 0) → (reading.header_of bytes ≡ Part) ↔ Part'
-      → ((h : Header) (at : ℕ) (rest : List ℕ) → HasHeader bytes h at rest → (samples_at h at rest ≡ Err raster.Truncated) ↔ Q h at rest)
-      → (grid_of bytes ≡ Err Truncated) ↔ (Part' ⊎ ((h : Header) × (at : ℕ) × (rest : List ℕ) × HasHeader bytes h at rest × Q h at rest))
+      → ((h : Header) (at : ℕ) (rest : List ℕ) → HasHeader bytes h at rest →
+      (samples_at h at rest ≡ Err raster.Truncated) ↔ Q h at rest)
+      → (grid_of bytes ≡ Err Truncated)
+      ↔ (Part' ⊎ ((h : Header) × (at : ℕ) × (rest : List ℕ) × HasHeader bytes h at rest × Q h at rest))
   unfolding grid_of
   truncated-law Part' Q part law = (
     λ e. elim (file-truncated (length bytes) (reading.header_of bytes) e) [
       | inl p ↦ inl (part.0 p)
       | inr found ↦
           let has = whole-has bytes found.0 read found.1 found.2 in
-          inr (found.0, length bytes - length found.1, found.1, has, (law found.0 (length bytes - length found.1) found.1 has).0 found.3)
+          inr (
+            found.0,
+            length bytes - length found.1,
+            found.1,
+            has,
+            (law found.0 (length bytes - length found.1) found.1 has).0 found.3,
+          )
     ],
     λ either. elim either [
       | inl p ↦ ap (file_answer (length bytes)) (part.1 p)
       | inr x ↦
           let whole = has-whole bytes x.0 texts x.1 x.2 x.3 in
-          ap (file_answer (length bytes)) whole.0 ∙ ap (λ k. grid_answer x.0 (samples_at x.0 k x.2)) whole.1 ∙ ap (grid_answer x.0) ((law x.0 x.1 x.2 x.3).1 x.4)
+          ap (file_answer (length bytes)) whole.0 ∙ ap (λ k. grid_answer x.0 (samples_at x.0 k x.2)) whole.1
+          ∙ ap (grid_answer x.0) ((law x.0 x.1 x.2 x.3).1 x.4)
     ],
   )
 
@@ -162,15 +198,18 @@ plain-form false maxval = (λ e. absurd (raw-form (nat_lt maxval 256) e), λ e. 
     raw-form false e = cc
 
 -- a raster that is read is not too long
-raster-short : laws.ReadRastersAreShort → (h : Header) (at : ℕ) (heights rest : List ℕ) → IsHeader h → at ≤ 65536 → length heights ≡ point_count h.n
-    → IsRaster (form_of h.plain h.maxval) heights rest → samples_at h at rest ≡ Ok heights → at + length rest ≤ most_file_bytes
+raster-short : laws.ReadRastersAreShort → (h : Header) (at : ℕ) (heights rest : List ℕ) → IsHeader h → at ≤ 65536 →
+    length heights ≡ point_count h.n
+    → IsRaster (form_of h.plain h.maxval) heights rest →
+    samples_at h at rest ≡ Ok heights → at + length rest ≤ most_file_bytes
 unfolding samples.raster_of
 raster-short short h at heights rest valid near many is e = by-form (form_of h.plain h.maxval) is e
   where
     few : length heights ≤ 4198401
     few = omega (arith, many, points_small h.n valid.level.high)
 
-    by-form : (f : RasterForm) → IsRaster f heights rest → samples.raster_of f (point_count h.n) h.maxval at rest ≡ Ok heights → at + length rest ≤ most_file_bytes
+    by-form : (f : RasterForm) → IsRaster f heights rest →
+        samples.raster_of f (point_count h.n) h.maxval at rest ≡ Ok heights → at + length rest ≤ most_file_bytes
     by-form form.Bytes is e = (let same = ap length is in omega (arith, same, few, near))
     by-form form.Words is e = (let same = ap length is ∙ length-flat heights in omega (arith, same, few, near))
     by-form form.Plain is e = omega (arith, short (point_count h.n) h.maxval at heights rest e (omega (arith, near)))
@@ -182,18 +221,31 @@ unfolding grid_of
 law-texts texts rasters g bytes valid is =
     let h : Header = record { plain = is.values.plain; n = g.n; maxval = g.maxval } in
     let accepts : Accepts is.values h = record {
-      valid = record { level = record { low = valid.n_low; high = valid.n_high }; maxval = record { low = valid.maxval_low; high = valid.maxval_high } };
+      valid = record {
+        level = record { low = valid.n_low; high = valid.n_high };
+        maxval = record { low = valid.maxval_low; high = valid.maxval_high };
+      };
       plain = refl;
       maxval = sym is.maxval;
       width = is.width;
       height = is.height;
     } in
     let has : HasHeader bytes h (length is.header) is.raster =
-    record { text = is.header; values = is.values; is_text = is.is_header; short = is.short_header; accepts = accepts; cut = is.text; place = refl } in
+    record {
+      text = is.header;
+      values = is.values;
+      is_text = is.is_header;
+      short = is.short_header;
+      accepts = accepts;
+      cut = is.text;
+      place = refl;
+    } in
     let whole = has-whole bytes h texts (length is.header) is.raster has in
     ap (file_answer (length bytes)) whole.0 ∙ ap (λ k. grid_answer h (samples_at h k is.raster)) whole.1
-    ∙ ap (grid_answer h) (rasters (form_of is.values.plain g.maxval) (point_count g.n) g.maxval (length is.header) g.heights is.raster
-    (omega (arith, has-length bytes h (length is.header) is.raster has, is.short)) is.is_raster valid.count valid.bounded)
+    ∙ ap (grid_answer h)
+    (rasters (form_of is.values.plain g.maxval) (point_count g.n) g.maxval (length is.header) g.heights is.raster
+    (omega (arith, has-length bytes h (length is.header) is.raster has, is.short)) is.is_raster
+    valid.count valid.bounded)
 
 pub law-grids : head.ReadTextsAreHeaders → laws.ReadBytesAreRasters → laws.ReadRastersAreShort → GridsHaveTexts
 unfolding grid_of
@@ -202,9 +254,11 @@ law-grids read rasters short g bytes all e =
     let h : Header = found.0 in
     let rest : List ℕ = found.1 in
     let has = whole-has bytes h read rest found.2 in
-    let raster = rasters (form_of h.plain h.maxval) (point_count h.n) h.maxval (length bytes - length rest) g.heights rest (has-bytes bytes h _ rest has all) found.3 in
+    let raster = rasters (form_of h.plain h.maxval) (point_count h.n) h.maxval
+    (length bytes - length rest) g.heights rest (has-bytes bytes h _ rest has all) found.3 in
     let near : length bytes - length rest ≤ 65536 = omega (arith, has.place, has.short) in
-    let within = raster-short short h (length bytes - length rest) g.heights rest has.accepts.valid near raster.1 raster.0 found.3 in
+    let within = raster-short short h
+    (length bytes - length rest) g.heights rest has.accepts.valid near raster.1 raster.0 found.3 in
     let P : HeightField → Type 0 = λ f. IsHeightField f × IsFileText f bytes in
     subst P (sym found.4) (
       record {
@@ -233,14 +287,21 @@ law-grids read rasters short g bytes all e =
 pub law-headers : head.ReadTextsAreHeaders → GridsHaveHeaders
 unfolding grid_of
 law-headers read g bytes e =
-    let found = file-ok (length bytes) (reading.header_of bytes) g e in
-    (found.0, length bytes - length found.1, found.1, whole-has bytes found.0 read found.1 found.2, sym (ap (λ (f : HeightField). f.n) found.4), sym (ap (λ (f : HeightField). f.maxval) found.4))
+    let found = file-ok (length bytes) (reading.header_of bytes) g e in (
+      found.0,
+      length bytes - length found.1,
+      found.1,
+      whole-has bytes found.0 read found.1 found.2,
+      sym (ap (λ (f : HeightField). f.n) found.4),
+      sym (ap (λ (f : HeightField). f.maxval) found.4),
+    )
 
 pub law-others : OthersAreAbsent
 unfolding grid_of
 law-others bytes = no-memory (grid_of bytes) (file-memory (length bytes) (reading.header_of bytes))
   where
-    no-memory : (answer : Result HeightField PgmFault) → (answer ≡ Err NoMemory → ⊥) → IfErr answer (λ fault. fault ≢ NoMemory)
+    no-memory : (answer : Result HeightField PgmFault) → (answer ≡ Err NoMemory → ⊥) →
+        IfErr answer (λ fault. fault ≢ NoMemory)
     no-memory (Ok g) other = tt
     no-memory (Err fault) other = λ is. other (ap Err is)
 
@@ -251,34 +312,43 @@ module _ (texts : head.HeaderTextsAreRead) (read : head.ReadTextsAreHeaders) whe
 
   pub law-truncated : head.PartsArePrefixes → laws.CutRastersAreRefused → CutTextsAreRefused
   law-truncated parts cut bytes all = truncated-law texts read bytes _
-      (λ h at rest. IsRasterCutShort (form_of h.plain h.maxval) (point_count h.n) h.maxval rest × laws.IsBelowLimit (form_of h.plain h.maxval) (at + length rest)) (parts bytes)
-      (λ h at rest has. cut (form_of h.plain h.maxval) (point_count h.n) h.maxval at rest (raster-place bytes h at rest has) (has-bytes bytes h at rest has all))
+      (λ h at rest. IsRasterCutShort (form_of h.plain h.maxval) (point_count h.n) h.maxval rest
+      × laws.IsBelowLimit (form_of h.plain h.maxval) (at + length rest)) (parts bytes)
+      (λ h at rest has. cut (form_of h.plain h.maxval) (point_count h.n) h.maxval at rest
+      (raster-place bytes h at rest has) (has-bytes bytes h at rest has all))
 
   pub law-trailing : laws.RastersRefuseTrailingBytes → TrailingBytesAreRefused
   law-trailing law bytes p all = raster-law texts read bytes (raster.Trailing p)
-      (λ h at rest. (place : ℕ) × (p ≡ at + place) × IsTrailingAt (form_of h.plain h.maxval) (point_count h.n) h.maxval rest place × laws.IsBelowLimit (form_of h.plain h.maxval) (p + 1)) (λ e. cc)
-      (λ h at rest has. law (form_of h.plain h.maxval) (point_count h.n) h.maxval at rest p (raster-place bytes h at rest has) (has-bytes bytes h at rest has all))
+      (λ h at rest. (place : ℕ) × (p ≡ at + place) × IsTrailingAt (form_of h.plain h.maxval)
+      (point_count h.n) h.maxval rest place × laws.IsBelowLimit (form_of h.plain h.maxval) (p + 1)) (λ e. cc)
+      (λ h at rest has. law (form_of h.plain h.maxval) (point_count h.n) h.maxval at rest p
+      (raster-place bytes h at rest has) (has-bytes bytes h at rest has all))
 
   pub law-above : laws.RastersRefuseGreatSamples → GreatSamplesAreRefused
   law-above law bytes index all = raster-law texts read bytes (raster.AboveMaxval index)
       (λ h at rest. laws.IsAboveWithin (form_of h.plain h.maxval) (point_count h.n) h.maxval at rest index) (λ e. cc)
-      (λ h at rest has. law (form_of h.plain h.maxval) (point_count h.n) h.maxval at rest index (raster-place bytes h at rest has) (has-bytes bytes h at rest has all))
+      (λ h at rest has. law (form_of h.plain h.maxval) (point_count h.n) h.maxval at rest index
+      (raster-place bytes h at rest has) (has-bytes bytes h at rest has all))
 
   pub law-bad_sample : laws.RastersRefuseBadSamples → BadSamplesAreRefused
   law-bad_sample law bytes p all = raster-law texts read bytes (raster.BadSample p)
-      (λ h at rest. (h.plain ≡ true) × (place : ℕ) × (p ≡ at + place) × IsBadSampleAt (point_count h.n) h.maxval rest place × (p < most_file_bytes)) (λ e. cc)
+      (λ h at rest. (h.plain ≡ true) × (place : ℕ) × (p ≡ at + place)
+      × IsBadSampleAt (point_count h.n) h.maxval rest place × (p < most_file_bytes)) (λ e. cc)
       (λ h at rest has.
-      let there = law (form_of h.plain h.maxval) (point_count h.n) h.maxval at rest p (raster-place bytes h at rest has) (has-bytes bytes h at rest has all) in (
+      let there = law (form_of h.plain h.maxval) (point_count h.n) h.maxval at rest p (raster-place bytes h at rest has)
+      (has-bytes bytes h at rest has all) in (
         λ e. (let x = there.0 e in ((plain-form h.plain h.maxval).0 x.0, x.1, x.2, x.3, x.4)),
         λ x. there.1 ((plain-form h.plain h.maxval).1 x.0, x.1, x.2, x.3, x.4),
       ))
 
   pub law-too_long : laws.LongRastersAreRefused → LongFilesAreRefused
   law-too_long law bytes = raster-law texts read bytes raster.TooLong
-      (λ h at rest. (h.plain ≡ true) × (most_file_bytes < length bytes) × laws.NoneIsRefused (point_count h.n) h.maxval at (take (most_file_bytes - at) rest)) (λ e. cc)
+      (λ h at rest. (h.plain ≡ true) × (most_file_bytes < length bytes)
+      × laws.NoneIsRefused (point_count h.n) h.maxval at (take (most_file_bytes - at) rest)) (λ e. cc)
       (λ h at rest has.
       let sum = has-length bytes h at rest has in
-      let there = law (form_of h.plain h.maxval) (point_count h.n) h.maxval at rest (omega (arith, has.place, has.short)) in (
+      let there =
+      law (form_of h.plain h.maxval) (point_count h.n) h.maxval at rest (omega (arith, has.place, has.short)) in (
         λ e. (let x = there.0 e in ((plain-form h.plain h.maxval).0 x.0, omega (arith, x.1, sum), x.2)),
         λ x. there.1 ((plain-form h.plain h.maxval).1 x.0, omega (arith, x.1, sum), x.2),
       ))

@@ -8,4 +8,6 @@ points_test = refl
 
 -- no grid has more points
 pub points_small : (n : ℕ) → n ≤ 11 → point_count n ≤ 4198401
-points_small n high = leb-true _ 4198401 (agree_below_at (λ k. leb (point_count k) 4198401) (λ _. true) 12 n points_test (omega (arith, high)))
+points_small n high =
+    leb-true _ 4198401
+    (agree_below_at (λ k. leb (point_count k) 4198401) (λ _. true) 12 n points_test (omega (arith, high)))

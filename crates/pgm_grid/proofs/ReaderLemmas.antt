@@ -1,5 +1,6 @@
 -- What a reader answers: the header's answer, and behind it the raster's.
-use Rattle.std.proofs.Common.{◌≡◌, ℕ, ◌+◌, ◌-◌, ◌^◌, ◌<◌, ◌≤◌, List, [], ◌∷◌, ◌++◌, length, take, get_or, All, Ok, Err, IfOk, refl, sym, ap, ◌∙◌, inl, subst, arith, length-append, append_assoc}
+use Rattle.std.proofs.Common.{◌≡◌, ℕ, ◌+◌, ◌-◌, ◌^◌, ◌<◌, ◌≤◌, List, [], ◌∷◌, ◌++◌, length, take, get_or, All, Ok, Err}
+use Rattle.std.proofs.Common.{IfOk, refl, sym, ap, ◌∙◌, inl, subst, arith, length-append, append_assoc}
 use Rattle.std.proofs.lemmas.Result.{IfOk-at_ok}
 use Rattle.std.proofs.lemmas.List.{take_more}
 use Rattle.text_laws.proofs.AnswerLemmas.{err-same, ok-err}
@@ -15,7 +16,8 @@ use Rattle.pgm_raster.specs.Progress as samples
 use Rattle.pgm_grid.specs.declared.fault.PgmFault.{PgmFault}
 use Rattle.pgm_grid.specs.declared.fault.PgmFault.TheVariants.{Truncated, NoMemory}
 use Rattle.pgm_grid.specs.PgmText.{point_count, form_of}
-use Rattle.pgm_grid.specs.Progress.{Progress, InHeader, InRaster, HasRefused, header_fault, raster_fault, grid_with, grid_answer, samples_at, file_answer, resume, grid_of, taken, StaysRefused}
+use Rattle.pgm_grid.specs.Progress.{Progress, InHeader, InRaster, HasRefused, header_fault, raster_fault, grid_with}
+use Rattle.pgm_grid.specs.Progress.{grid_answer, samples_at, file_answer, resume, grid_of, taken, StaysRefused}
 use Rattle.pgm_grid.specs.Stage.{IsOpenHeader, IsReaderFor, HasReadGrid, BeginsRaster, Takes, Stops}
 use Rattle.pgm_grid.proofs.FaultLemmas.{no_header-memory, header-truncated, same_raster}
 
@@ -25,26 +27,31 @@ pub refused-settled : (fault : PgmFault) → StaysRefused (HasRefused fault) fau
 unfolding StaysRefused resume
 refused-settled fault = λ more. refl
 
-pub settled-same : (reader : Progress) (one other : PgmFault) → StaysRefused reader one → StaysRefused reader other → one ≡ other
+pub settled-same : (reader : Progress) (one other : PgmFault) → StaysRefused reader one →
+    StaysRefused reader other → one ≡ other
 unfolding StaysRefused
 settled-same reader one other h k = err-same one other (sym (h []) ∙ k [])
 
 -- a header that goes on is not settled
-pub unsettled-header : (reader : reading.HeaderProgress) (fault : PgmFault) → IsOpenHeader reader → StaysRefused (InHeader reader) fault → ⊥
+pub unsettled-header : (reader : reading.HeaderProgress) (fault : PgmFault) → IsOpenHeader reader →
+    StaysRefused (InHeader reader) fault → ⊥
 unfolding StaysRefused resume
 unsettled-header reader fault free settled =
     let last = ap (file_answer (reading.header_taken reader + 0)) (sym free.part) ∙ settled [] in
-    let bad = ap (file_answer (reading.header_taken reader + length free.refusable.0)) (sym free.refusable.2) ∙ settled free.refusable.0 in
+    let bad = ap (file_answer (reading.header_taken reader + length free.refusable.0)) (sym free.refusable.2)
+    ∙ settled free.refusable.0 in
     header-truncated free.refusable.1 (err-same _ _ (bad ∙ sym last))
 
 -- an answer of the raster that is a refusal
-pub raster-refused : (header : Header) (answer : samples.RasterAnswer) (fault : PgmFault) → grid_answer header answer ≡ Err fault
+pub raster-refused : (header : Header) (answer : samples.RasterAnswer) (fault : PgmFault) →
+    grid_answer header answer ≡ Err fault
     → (found : RasterFault) × (answer ≡ Err found) × (raster_fault found ≡ fault)
 raster-refused header (Ok heights) fault e = absurd (ok-err (grid_with header heights) fault e)
 raster-refused header (Err found) fault e = (found, refl, err-same (raster_fault found) fault e)
 
 -- a raster that is not settled is none with its header
-pub unsettled-raster : (header : Header) (reader : samples.RasterProgress) (fault : PgmFault) → ((f : RasterFault) → samples.RasterStaysRefused reader f → ⊥)
+pub unsettled-raster : (header : Header) (reader : samples.RasterProgress) (fault : PgmFault) →
+    ((f : RasterFault) → samples.RasterStaysRefused reader f → ⊥)
     → StaysRefused (InRaster header reader) fault → ⊥
 unfolding StaysRefused resume samples.RasterStaysRefused
 unsettled-raster header reader fault free settled =
@@ -77,7 +84,8 @@ module _ (header : Header) (old new : samples.RasterProgress) (piece : List ℕ)
   raster-read before means free limit = record {
     behind = record {
       valid = before.valid;
-      wanted = λ more. subst (λ (answer : samples.RasterAnswer). IfOk answer (λ heights. (length heights ≡ point_count header.n) × All (λ h. h ≤ header.maxval) heights))
+      wanted = λ more. subst (λ (answer : samples.RasterAnswer).
+          IfOk answer (λ heights. (length heights ≡ point_count header.n) × All (λ h. h ≤ header.maxval) heights))
           (means more) (before.wanted (piece ++ more));
       small = limit;
     };
@@ -106,7 +114,8 @@ raster-stops header old piece fault read other refusal = record {
 
 -- so many bytes of a piece were taken by the reader of a header
 pub record HasTaken (start reader : reading.HeaderProgress) (piece : List ℕ) (count : ℕ) : Type 0 where
-  pub means : (more : List ℕ) → reading.resume_header start (take count piece ++ more) ≡ reading.resume_header reader more
+  pub means : (more : List ℕ) →
+      reading.resume_header start (take count piece ++ more) ≡ reading.resume_header reader more
   pub counted : reading.header_taken reader ≡ reading.header_taken start + count
   pub goes_on : IsOpenHeader reader
 
@@ -117,28 +126,35 @@ module _ (start reader : reading.HeaderProgress) (piece : List ℕ) (begun : IsO
   unfolding resume taken
   header-takes so_far whole = record {
     means = λ more.
-        let total : reading.header_taken start + length (piece ++ more) ≡ reading.header_taken reader + length more = omega (arith, length-append piece more, so_far.counted) in
-        let answer : reading.resume_header start (piece ++ more) ≡ reading.resume_header reader more = rw whole at so_far.means more in
-        ap (λ n. file_answer n (reading.resume_header start (piece ++ more))) total ∙ ap (file_answer (reading.header_taken reader + length more)) answer;
+        let total : reading.header_taken start + length (piece ++ more) ≡ reading.header_taken reader + length more =
+        omega (arith, length-append piece more, so_far.counted) in
+        let answer : reading.resume_header start (piece ++ more) ≡ reading.resume_header reader more =
+        rw whole at so_far.means more in
+        ap (λ n. file_answer n (reading.resume_header start (piece ++ more))) total
+        ∙ ap (file_answer (reading.header_taken reader + length more)) answer;
     unsettled = λ fault settled. unsettled-header reader fault so_far.goes_on settled;
     count = so_far.counted;
     limit = omega (arith, so_far.goes_on.small);
   }
 
-  module _ (count : ℕ) (byte : ℕ) (rest : List ℕ) (so_far : HasTaken start reader piece count) (cut : piece ≡ take count piece ++ (byte ∷ rest)) where
+  module _ (count : ℕ) (byte : ℕ) (rest : List ℕ) (so_far : HasTaken start reader piece count)
+      (cut : piece ≡ take count piece ++ (byte ∷ rest)) where
     -- the piece, from the byte on
-    from-byte : (more : List ℕ) → reading.resume_header start (piece ++ more) ≡ reading.resume_header reader (byte ∷ (rest ++ more))
+    from-byte : (more : List ℕ) →
+        reading.resume_header start (piece ++ more) ≡ reading.resume_header reader (byte ∷ (rest ++ more))
     from-byte more =
         ap (λ p. reading.resume_header start (p ++ more)) cut
         ∙ ap (reading.resume_header start) (append_assoc (take count piece) (byte ∷ rest) more)
         ∙ so_far.means (byte ∷ (rest ++ more))
 
     -- the byte was refused
-    pub header-stops : (fault : HeaderFault) → ((more : List ℕ) → reading.resume_header reader (byte ∷ more) ≡ Bad fault)
+    pub header-stops : (fault : HeaderFault) →
+        ((more : List ℕ) → reading.resume_header reader (byte ∷ more) ≡ Bad fault)
         → Stops (InHeader start) piece (header_fault fault)
     unfolding resume
     header-stops fault refusal = record {
-      refusal = λ other more. ap (file_answer (reading.header_taken start + length (piece ++ more))) (from-byte more ∙ refusal (rest ++ more));
+      refusal = λ other more. ap (file_answer (reading.header_taken start + length (piece ++ more)))
+          (from-byte more ∙ refusal (rest ++ more));
       no_memory = λ e. absurd (no_header-memory fault e);
       sticks = λ before settled. absurd (unsettled-header start before begun settled);
     }
@@ -146,13 +162,21 @@ module _ (start reader : reading.HeaderProgress) (piece : List ℕ) (begun : IsO
     module _ (header : Header) (ends : (more : List ℕ) → reading.resume_header reader (byte ∷ more) ≡ Whole header more)
         (at : ℕ) (place : at ≡ reading.header_taken reader + 1) (size : length (take count piece) ≡ count) where
       -- what follows the header is its raster
-      pub whole-answer : (more : List ℕ) → resume (InHeader start) (piece ++ more) ≡ grid_answer header (samples_at header at (rest ++ more))
+      pub whole-answer : (more : List ℕ) →
+          resume (InHeader start) (piece ++ more) ≡ grid_answer header (samples_at header at (rest ++ more))
       unfolding resume
       whole-answer more =
           let total = length (piece ++ more) in
           let sum : length (piece ++ more) ≡ count + 1 + length (rest ++ more) =
-          ap (λ p. length (p ++ more)) cut ∙ omega (arith, size, length-append (take count piece ++ (byte ∷ rest)) more, length-append (take count piece) (byte ∷ rest), length-append rest more) in
-          let here : reading.header_taken start + length (piece ++ more) - length (rest ++ more) ≡ at = omega (arith, sum, place, so_far.counted) in
+          ap (λ p. length (p ++ more)) cut ∙ omega (
+            arith,
+            size,
+            length-append (take count piece ++ (byte ∷ rest)) more,
+            length-append (take count piece) (byte ∷ rest),
+            length-append rest more,
+          ) in
+          let here : reading.header_taken start + length (piece ++ more) - length (rest ++ more) ≡ at =
+          omega (arith, sum, place, so_far.counted) in
           ap (file_answer (reading.header_taken start + length (piece ++ more))) (from-byte more ∙ ends (rest ++ more))
           ∙ ap (λ k. grid_answer header (samples_at header k (rest ++ more))) here
 
@@ -162,17 +186,20 @@ module _ (start reader : reading.HeaderProgress) (piece : List ℕ) (begun : IsO
       header-ends new begins = record {
         means = λ more. whole-answer more ∙ begins.means more;
         unsettled = begins.unsettled;
-        count = (let sum : length piece ≡ count + 1 + length rest = ap length cut ∙ omega (arith, size, length-append (take count piece) (byte ∷ rest)) in
+        count = (let sum : length piece ≡ count + 1 + length rest =
+            ap length cut ∙ omega (arith, size, length-append (take count piece) (byte ∷ rest)) in
             begins.count ∙ omega (arith, sum, place, so_far.counted));
         limit = begins.limit;
       }
 
 -- nothing was taken
-pub taken-nothing : (start : reading.HeaderProgress) (piece : List ℕ) → IsOpenHeader start → HasTaken start start piece 0
+pub taken-nothing : (start : reading.HeaderProgress) (piece : List ℕ) → IsOpenHeader start →
+    HasTaken start start piece 0
 taken-nothing start piece begun = record { means = λ more. refl; counted = omega arith; goes_on = begun }
 
 -- one byte more was taken
-pub taken-more : (start reader new : reading.HeaderProgress) (piece : List ℕ) (i : ℕ) → i < length piece → HasTaken start reader piece i
+pub taken-more : (start reader new : reading.HeaderProgress) (piece : List ℕ) (i : ℕ) → i < length piece →
+    HasTaken start reader piece i
     → ((more : List ℕ) → reading.resume_header reader (get_or piece i 0 ∷ more) ≡ reading.resume_header new more)
     → reading.header_taken new ≡ reading.header_taken reader + 1 → IsOpenHeader new → HasTaken start new piece (i + 1)
 taken-more start reader new piece i below so_far means counted free = record {
@@ -186,12 +213,14 @@ taken-more start reader new piece i below so_far means counted free = record {
 
 -- A reader that is new.
 
-pub new-header : (reader : reading.HeaderProgress) → ((more : List ℕ) → reading.resume_header reader more ≡ reading.header_of more) → reading.header_taken reader ≡ 0
+pub new-header : (reader : reading.HeaderProgress) →
+    ((more : List ℕ) → reading.resume_header reader more ≡ reading.header_of more) → reading.header_taken reader ≡ 0
     → ((more : List ℕ) × (fault : HeaderFault) × (reading.resume_header reader more ≡ Bad fault)) → IsOpenHeader reader
 unfolding reading.header_of
 new-header reader means none refusable = record { part = means []; small = omega (arith, none); refusable = refusable }
 
-pub new-resume : (reader : reading.HeaderProgress) → ((more : List ℕ) → reading.resume_header reader more ≡ reading.header_of more) → reading.header_taken reader ≡ 0
+pub new-resume : (reader : reading.HeaderProgress) →
+    ((more : List ℕ) → reading.resume_header reader more ≡ reading.header_of more) → reading.header_taken reader ≡ 0
     → (more : List ℕ) → resume (InHeader reader) more ≡ grid_of more
 unfolding resume grid_of
 new-resume reader means none more =
@@ -226,12 +255,14 @@ begins-refused header at reader rest fault means refusal more =
     ap (grid_answer header) (sym (means (rest ++ more))) ∙ refusal more
 
 -- a raster of which no byte has come
-pub raster-begun : OnlyWantedSamplesAreRead → (header : Header) (at : ℕ) (reader : samples.RasterProgress) → IsHeader header
+pub raster-begun : OnlyWantedSamplesAreRead →
+    (header : Header) (at : ℕ) (reader : samples.RasterProgress) → IsHeader header
     → ((more : List ℕ) → samples.resume_raster reader more ≡ samples_at header at more)
     → samples.next_place reader ≤ 2 ^ 28 → IsReaderFor header reader
 raster-begun laws header at reader valid means small = record {
   valid = valid;
-  wanted = λ more. subst (λ (answer : samples.RasterAnswer). IfOk answer (λ heights. (length heights ≡ point_count header.n) × All (λ h. h ≤ header.maxval) heights))
+  wanted = λ more. subst (λ (answer : samples.RasterAnswer).
+      IfOk answer (λ heights. (length heights ≡ point_count header.n) × All (λ h. h ≤ header.maxval) heights))
       (sym (means more)) (laws (form_of header.plain header.maxval) (point_count header.n) header.maxval at more);
   small = small;
 }
@@ -246,7 +277,8 @@ pub end-refused : (fault : PgmFault) → resume (HasRefused fault) [] ≡ Err fa
 unfolding resume
 end-refused fault = refl
 
-pub end-raster : (header : Header) (reader : samples.RasterProgress) (answer : samples.RasterAnswer) → samples.resume_raster reader [] ≡ answer
+pub end-raster : (header : Header) (reader : samples.RasterProgress) (answer : samples.RasterAnswer) →
+    samples.resume_raster reader [] ≡ answer
     → resume (InRaster header reader) [] ≡ grid_answer header answer
 unfolding resume
 end-raster header reader answer e = ap (grid_answer header) e
@@ -255,7 +287,8 @@ end-raster header reader answer e = ap (grid_answer header) e
 pub whole-field : (header : Header) (reader : samples.RasterProgress) (heights : List ℕ) → IsReaderFor header reader
     → samples.resume_raster reader [] ≡ Ok heights → IsHeightField (grid_with header heights)
 whole-field header reader heights before e =
-    let found = IfOk-at_ok (λ (hs : List ℕ). (length hs ≡ point_count header.n) × All (λ h. h ≤ header.maxval) hs) e (before.wanted []) in
+    let found = IfOk-at_ok (λ (hs : List ℕ). (length hs ≡ point_count header.n) × All (λ h. h ≤ header.maxval) hs) e
+    (before.wanted []) in
     record {
       n_low = before.valid.level.low;
       n_high = before.valid.level.high;
@@ -286,6 +319,8 @@ stopped-stops fault piece = record {
 }
 
 -- what is settled stays so
-pub settled-takes : (old new : Progress) (piece : List ℕ) (fault : PgmFault) → Takes old new piece → StaysRefused old fault → ⊥
+pub settled-takes : (old new : Progress) (piece : List ℕ) (fault : PgmFault) → Takes old new piece →
+    StaysRefused old fault → ⊥
 unfolding StaysRefused
-settled-takes old new piece fault takes settled = takes.unsettled fault (λ more. sym (takes.means more) ∙ settled (piece ++ more))
+settled-takes old new piece fault takes settled =
+    takes.unsettled fault (λ more. sym (takes.means more) ∙ settled (piece ++ more))

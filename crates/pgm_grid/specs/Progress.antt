@@ -15,7 +15,9 @@ use Rattle.pgm_raster.specs.declared.fault.RasterFault.{RasterFault}
 use Rattle.pgm_raster.specs.declared.fault.RasterFault.TheVariants as raster
 use Rattle.pgm_raster.specs.Progress as samples
 use Rattle.pgm_grid.specs.declared.fault.PgmFault.{PgmFault}
-use Rattle.pgm_grid.specs.declared.fault.PgmFault.TheVariants.{BadMagic, BadHeader, HeaderTooLong, BadMaxval, NotSquare, BadSide, Truncated, BadSample, AboveMaxval, Trailing, TooLong}
+use Rattle.pgm_grid.specs.declared.fault.PgmFault.TheVariants.{BadMagic, BadHeader, HeaderTooLong, BadMaxval, NotSquare}
+use Rattle.pgm_grid.specs.declared.fault.PgmFault.TheVariants.{BadSide, Truncated, BadSample, AboveMaxval, Trailing}
+use Rattle.pgm_grid.specs.declared.fault.PgmFault.TheVariants.{TooLong}
 use Rattle.pgm_grid.specs.PgmText.{point_count, form_of, HasHeader}
 
 -- what a reader has come to: a part of a header; an accepted header and a part of its raster; or a refusal
@@ -63,7 +65,8 @@ file_answer total (Bad fault) = Err (header_fault fault)
 
 -- what a reader answers if exactly these bytes still come
 unfoldable pub resume : Progress → List ℕ → Result HeightField PgmFault
-resume (InHeader reader) more = file_answer (reading.header_taken reader + length more) (reading.resume_header reader more)
+resume (InHeader reader) more =
+    file_answer (reading.header_taken reader + length more) (reading.resume_header reader more)
 resume (InRaster h reader) more = grid_answer h (samples.resume_raster reader more)
 resume (HasRefused fault) more = Err fault
 

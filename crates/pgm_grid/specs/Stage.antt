@@ -14,7 +14,8 @@ use Rattle.pgm_grid.specs.declared.fault.PgmFault.TheVariants.{NoMemory}
 use Rattle.pgm_grid.specs.declared.stage.Stage.{Stage}
 use Rattle.pgm_grid.specs.declared.stage.Stage.TheVariants as stage
 use Rattle.pgm_grid.specs.PgmText.{point_count}
-use Rattle.pgm_grid.specs.Progress.{Progress, InHeader, InRaster, HasRefused, samples_at, grid_answer, resume, taken, StaysRefused, EndsHeader}
+use Rattle.pgm_grid.specs.Progress.{Progress, InHeader, InRaster, HasRefused, samples_at, grid_answer, resume, taken}
+use Rattle.pgm_grid.specs.Progress.{StaysRefused, EndsHeader}
 
 -- what a stage has come to
 abbrev pub progress_of : Stage → Progress
@@ -31,7 +32,8 @@ pub record IsOpenHeader (reader : reading.HeaderProgress) : Type 0 where
 -- the reader reads the heights that this header wants
 pub record IsReaderFor (header : Header) (reader : samples.RasterProgress) : Type 0 where
   pub valid : IsHeader header
-  pub wanted : (more : List ℕ) → IfOk (samples.resume_raster reader more) (λ heights. (length heights ≡ point_count header.n) × All (λ h. h ≤ header.maxval) heights)
+  pub wanted : (more : List ℕ) → IfOk (samples.resume_raster reader more)
+      (λ heights. (length heights ≡ point_count header.n) × All (λ h. h ≤ header.maxval) heights)
   pub small : samples.next_place reader ≤ MOST_BYTES
 
 -- and it has refused no byte

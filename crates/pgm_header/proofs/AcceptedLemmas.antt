@@ -1,10 +1,13 @@
 -- The tests of a header's values.
-use Rattle.std.proofs.Common.{◌≡◌, ◌≢◌, ℕ, ◌<◌, ◌≤◌, Bool, true, false, not, ◌||◌, ◌==◌, nat_lt, eqb, Option, Some, None, Result, Ok, Err, refl, sym, ap, ap₂, ◌∙◌, inl, inr, subst, arith, eqb-true}
-use Rattle.std.proofs.lemmas.Bool.{cond_both, ltb-true, ltb-false, eqb-false, agree_below, agree_below_at, or_cases, or_parts, not-false, not-true}
+use Rattle.std.proofs.Common.{◌≡◌, ◌≢◌, ℕ, ◌<◌, ◌≤◌, Bool, true, false, not, ◌||◌, ◌==◌, nat_lt, eqb, Option, Some}
+use Rattle.std.proofs.Common.{None, Result, Ok, Err, refl, sym, ap, ap₂, ◌∙◌, inl, inr, subst, arith, eqb-true}
+use Rattle.std.proofs.lemmas.Bool.{cond_both, ltb-true, ltb-false, eqb-false, agree_below, agree_below_at, or_cases}
+use Rattle.std.proofs.lemmas.Bool.{or_parts, not-false, not-true}
 use Rattle.mesh_defs.specs.HeightField.{side_of}
 use Rattle.pgm_header.specs.declared.accepted.Header.{Header}
 use Rattle.pgm_header.specs.declared.fault.HeaderFault.{HeaderFault}
-use Rattle.pgm_header.specs.declared.fault.HeaderFault.TheVariants.{BadMagic, BadHeader, HeaderTooLong, BadMaxval, NotSquare, BadSide}
+use Rattle.pgm_header.specs.declared.fault.HeaderFault.TheVariants.{BadMagic, BadHeader, HeaderTooLong, BadMaxval}
+use Rattle.pgm_header.specs.declared.fault.HeaderFault.TheVariants.{NotSquare, BadSide}
 use Rattle.pgm_header.specs.declared.machine.HeaderValues.{HeaderValues}
 use Rattle.pgm_header.specs.Accepted.{IsLevel, IsMaxval, Accepts, side_level, with_level, judged}
 
@@ -17,17 +20,28 @@ LevelIn side None = Unit {0}
 
 level_in : (side : ℕ) → LevelIn side (side_level side)
 level_in side =
-    cond_both (side == 3) (Some 1) _ (LevelIn side) (λ e. (record { low = omega arith; high = omega arith }, eqb-true side 3 e)) (λ _.
-    cond_both (side == 5) (Some 2) _ (LevelIn side) (λ e. (record { low = omega arith; high = omega arith }, eqb-true side 5 e)) (λ _.
-    cond_both (side == 9) (Some 3) _ (LevelIn side) (λ e. (record { low = omega arith; high = omega arith }, eqb-true side 9 e)) (λ _.
-    cond_both (side == 17) (Some 4) _ (LevelIn side) (λ e. (record { low = omega arith; high = omega arith }, eqb-true side 17 e)) (λ _.
-    cond_both (side == 33) (Some 5) _ (LevelIn side) (λ e. (record { low = omega arith; high = omega arith }, eqb-true side 33 e)) (λ _.
-    cond_both (side == 65) (Some 6) _ (LevelIn side) (λ e. (record { low = omega arith; high = omega arith }, eqb-true side 65 e)) (λ _.
-    cond_both (side == 129) (Some 7) _ (LevelIn side) (λ e. (record { low = omega arith; high = omega arith }, eqb-true side 129 e)) (λ _.
-    cond_both (side == 257) (Some 8) _ (LevelIn side) (λ e. (record { low = omega arith; high = omega arith }, eqb-true side 257 e)) (λ _.
-    cond_both (side == 513) (Some 9) _ (LevelIn side) (λ e. (record { low = omega arith; high = omega arith }, eqb-true side 513 e)) (λ _.
-    cond_both (side == 1025) (Some 10) _ (LevelIn side) (λ e. (record { low = omega arith; high = omega arith }, eqb-true side 1025 e)) (λ _.
-    cond_both (side == 2049) (Some 11) None (LevelIn side) (λ e. (record { low = omega arith; high = omega arith }, eqb-true side 2049 e)) (λ _. tt)))))))))))
+    cond_both (side == 3) (Some 1) _ (LevelIn side)
+    (λ e. (record { low = omega arith; high = omega arith }, eqb-true side 3 e)) (λ _.
+    cond_both (side == 5) (Some 2) _ (LevelIn side)
+    (λ e. (record { low = omega arith; high = omega arith }, eqb-true side 5 e)) (λ _.
+    cond_both (side == 9) (Some 3) _ (LevelIn side)
+    (λ e. (record { low = omega arith; high = omega arith }, eqb-true side 9 e)) (λ _.
+    cond_both (side == 17) (Some 4) _ (LevelIn side)
+    (λ e. (record { low = omega arith; high = omega arith }, eqb-true side 17 e)) (λ _.
+    cond_both (side == 33) (Some 5) _ (LevelIn side)
+    (λ e. (record { low = omega arith; high = omega arith }, eqb-true side 33 e)) (λ _.
+    cond_both (side == 65) (Some 6) _ (LevelIn side)
+    (λ e. (record { low = omega arith; high = omega arith }, eqb-true side 65 e)) (λ _.
+    cond_both (side == 129) (Some 7) _ (LevelIn side)
+    (λ e. (record { low = omega arith; high = omega arith }, eqb-true side 129 e)) (λ _.
+    cond_both (side == 257) (Some 8) _ (LevelIn side)
+    (λ e. (record { low = omega arith; high = omega arith }, eqb-true side 257 e)) (λ _.
+    cond_both (side == 513) (Some 9) _ (LevelIn side)
+    (λ e. (record { low = omega arith; high = omega arith }, eqb-true side 513 e)) (λ _.
+    cond_both (side == 1025) (Some 10) _ (LevelIn side)
+    (λ e. (record { low = omega arith; high = omega arith }, eqb-true side 1025 e)) (λ _.
+    cond_both (side == 2049) (Some 11) None (LevelIn side)
+    (λ e. (record { low = omega arith; high = omega arith }, eqb-true side 2049 e)) (λ _. tt)))))))))))
 
 -- the answer for the side of a level is this level
 abbrev is_just : ℕ → Option ℕ → Bool
@@ -43,7 +57,9 @@ levels_test = refl
 
 level_of-side : (n : ℕ) → IsLevel n → side_level (side_of n) ≡ Some n
 level_of-side n level =
-    elim (or_cases (eqb n 0) (is_just n (side_level (side_of n))) (agree_below_at (λ k. eqb k 0 || is_just k (side_level (side_of k))) (λ _. true) 12 n levels_test (omega (arith, level.high)))) as (λ _. side_level (side_of n) ≡ Some n) [
+    elim (or_cases (eqb n 0) (is_just n (side_level (side_of n)))
+    (agree_below_at (λ k. eqb k 0 || is_just k (side_level (side_of k))) (λ _. true) 12 n levels_test
+    (omega (arith, level.high)))) as (λ _. side_level (side_of n) ≡ Some n) [
       | inl none ↦ let nothing : n ≡ 0 = eqb-true n 0 none in absurd (omega (arith, level.low))
       | inr just ↦ just_some n (side_level (side_of n)) just
     ]
@@ -60,7 +76,8 @@ JudgedAs v (Err BadMagic) = ⊥
 JudgedAs v (Err (BadHeader at)) = ⊥
 JudgedAs v (Err HeaderTooLong) = ⊥
 
-level_judged : (v : HeaderValues) (o : Option ℕ) → side_level v.width ≡ o → IsMaxval v.maxval → v.width ≡ v.height → LevelIn v.width o → JudgedAs v (with_level v o)
+level_judged : (v : HeaderValues) (o : Option ℕ) → side_level v.width ≡ o → IsMaxval v.maxval → v.width ≡ v.height →
+    LevelIn v.width o → JudgedAs v (with_level v o)
 level_judged v None e fine square level = (
   fine,
   square,
@@ -69,7 +86,13 @@ level_judged v None e fine square level = (
       let clash : Some n ≡ None = sym found ∙ e in cc,
 )
 level_judged v (Some n) e fine square level =
-    record { valid = record { level = level.0; maxval = fine }; plain = refl; maxval = refl; width = level.1; height = sym square ∙ level.1 }
+    record {
+      valid = record { level = level.0; maxval = fine };
+      plain = refl;
+      maxval = refl;
+      width = level.1;
+      height = sym square ∙ level.1;
+    }
 
 pub judges : (v : HeaderValues) → JudgedAs v (judged v)
 judges v =
@@ -84,11 +107,14 @@ judges v =
     let fine : IsMaxval v.maxval = record { low = omega arith; high = few } in
     cond_both (not (v.width == v.height)) (Err NotSquare) _ (JudgedAs v)
     (λ d. (fine, eqb-false v.width v.height (not-true (v.width == v.height) d)))
-    (λ d. level_judged v (side_level v.width) refl fine (eqb-true v.width v.height (not-false (v.width == v.height) d)) (level_in v.width)))
+    (λ d. level_judged v (side_level v.width) refl fine
+    (eqb-true v.width v.height (not-false (v.width == v.height) d)) (level_in v.width)))
 
 -- one result at most
 same_level : (m n : ℕ) → IsLevel m → IsLevel n → side_of m ≡ side_of n → m ≡ n
-same_level m n at_m at_n e = let both : Some m ≡ Some n = sym (level_of-side m at_m) ∙ ap side_level e ∙ level_of-side n at_n in cc
+same_level m n at_m at_n e =
+    let both : Some m ≡ Some n = sym (level_of-side m at_m) ∙ ap side_level e ∙ level_of-side n at_n in
+    cc
 
 abbrev header_with : Bool → ℕ → ℕ → Header
 header_with p n m = record { plain = p; n = n; maxval = m }
@@ -100,9 +126,11 @@ same_header : (v : HeaderValues) (g h : Header) → Accepts v g → Accepts v h 
 same_header v g h a b =
     let plain : g.plain ≡ h.plain = a.plain ∙ sym b.plain in
     let level : g.n ≡ h.n = same_level g.n h.n a.valid.level b.valid.level (sym a.width ∙ b.width) in
-    let maxval : g.maxval ≡ h.maxval = a.maxval ∙ sym b.maxval in same_fields g.plain h.plain g.n h.n g.maxval h.maxval plain level maxval
+    let maxval : g.maxval ≡ h.maxval = a.maxval ∙ sym b.maxval in
+    same_fields g.plain h.plain g.n h.n g.maxval h.maxval plain level maxval
 
-pub accepted_as : (v : HeaderValues) (h : Header) (r : Result Header HeaderFault) → JudgedAs v r → Accepts v h → r ≡ Ok h
+pub accepted_as : (v : HeaderValues) (h : Header) (r : Result Header HeaderFault) →
+    JudgedAs v r → Accepts v h → r ≡ Ok h
 accepted_as v h (Ok g) j a = ap (λ (x : Header). Ok x) (same_header v g h j a)
 accepted_as v h (Err BadMaxval) j a = absurd (j (subst IsMaxval a.maxval a.valid.maxval))
 accepted_as v h (Err NotSquare) j a = absurd (j.1 (a.width ∙ sym a.height))
@@ -111,7 +139,8 @@ accepted_as v h (Err BadMagic) j a = absurd j
 accepted_as v h (Err (BadHeader at)) j a = absurd j
 accepted_as v h (Err HeaderTooLong) j a = absurd j
 
-pub maxval_as : (v : HeaderValues) (r : Result Header HeaderFault) → JudgedAs v r → ¬ IsMaxval v.maxval → r ≡ Err BadMaxval
+pub maxval_as : (v : HeaderValues) (r : Result Header HeaderFault) → JudgedAs v r →
+    ¬ IsMaxval v.maxval → r ≡ Err BadMaxval
 maxval_as v (Ok g) j a = absurd (a (subst IsMaxval j.maxval j.valid.maxval))
 maxval_as v (Err BadMaxval) j a = refl
 maxval_as v (Err NotSquare) j a = absurd (a j.0)
@@ -120,7 +149,8 @@ maxval_as v (Err BadMagic) j a = absurd j
 maxval_as v (Err (BadHeader at)) j a = absurd j
 maxval_as v (Err HeaderTooLong) j a = absurd j
 
-pub oblong_as : (v : HeaderValues) (r : Result Header HeaderFault) → JudgedAs v r → IsMaxval v.maxval → (v.width ≢ v.height) → r ≡ Err NotSquare
+pub oblong_as : (v : HeaderValues) (r : Result Header HeaderFault) → JudgedAs v r → IsMaxval v.maxval →
+    (v.width ≢ v.height) → r ≡ Err NotSquare
 oblong_as v (Ok g) j fine a = absurd (a (j.width ∙ sym j.height))
 oblong_as v (Err BadMaxval) j fine a = absurd (j fine)
 oblong_as v (Err NotSquare) j fine a = refl
@@ -129,7 +159,8 @@ oblong_as v (Err BadMagic) j fine a = absurd j
 oblong_as v (Err (BadHeader at)) j fine a = absurd j
 oblong_as v (Err HeaderTooLong) j fine a = absurd j
 
-pub side_as : (v : HeaderValues) (r : Result Header HeaderFault) → JudgedAs v r → IsMaxval v.maxval → v.width ≡ v.height → ((n : ℕ) → IsLevel n → v.width ≢ side_of n) → r ≡ Err BadSide
+pub side_as : (v : HeaderValues) (r : Result Header HeaderFault) → JudgedAs v r → IsMaxval v.maxval →
+    v.width ≡ v.height → ((n : ℕ) → IsLevel n → v.width ≢ side_of n) → r ≡ Err BadSide
 side_as v (Ok g) j fine square a = absurd (a g.n j.valid.level j.width)
 side_as v (Err BadMaxval) j fine square a = absurd (j fine)
 side_as v (Err NotSquare) j fine square a = absurd (j.1 square)

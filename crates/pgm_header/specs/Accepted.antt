@@ -1,7 +1,8 @@
 -- Which headers are accepted, and what is answered for the others: this project's own profile of PGM files.
 --
 -- Words: IsLevel, IsMaxval, IsHeader, Accepts, side_level, judged, HeaderAnswer.
-use Rattle.std.specs.Prelude.{◌≡◌, ℕ, ◌≤◌, ◌==◌, ◌||◌, not, nat_lt, if◌then◌else◌, List, Option, Some, None, Result, Ok, Err}
+use Rattle.std.specs.Prelude.{◌≡◌, ℕ, ◌≤◌, ◌==◌, ◌||◌, not, nat_lt, if◌then◌else◌, List, Option, Some, None, Result, Ok}
+use Rattle.std.specs.Prelude.{Err}
 use Rattle.pgm_header.specs.declared.accepted.TheConstants.{GREATEST_MAXVAL}
 use Rattle.mesh_defs.specs.declared.level.TheConstants.{GREATEST_LEVEL}
 use Rattle.mesh_defs.specs.HeightField.{side_of}
@@ -36,8 +37,10 @@ pub record Accepts (values : HeaderValues) (header : Header) : Type 0 where
 -- the n of an accepted side
 abbrev pub side_level : ℕ → Option ℕ
 side_level side =
-    if side == 3 then Some 1 else if side == 5 then Some 2 else if side == 9 then Some 3 else if side == 17 then Some 4 else if side == 33 then Some 5
-    else if side == 65 then Some 6 else if side == 129 then Some 7 else if side == 257 then Some 8 else if side == 513 then Some 9
+    if side == 3 then Some 1 else if side == 5 then Some 2 else if side == 9 then Some 3 else if side == 17 then Some 4
+    else if side == 33 then Some 5
+    else if side == 65 then Some 6 else if side == 129 then Some 7 else if side == 257 then Some 8
+    else if side == 513 then Some 9
     else if side == 1025 then Some 10 else if side == 2049 then Some GREATEST_LEVEL else None
 
 -- the header of these values with this n

@@ -5,7 +5,8 @@
 -- Words: GapItem, item_bytes, is_comment_text, is_item, IsGap,
 -- IsNumberText, magic_text, IsHeaderText, comment_line, written_header, IsHeaderPrefix, IsProperPrefix, IsUnfitAt,
 -- BeginsWithHeader.
-use Rattle.std.specs.Prelude.{◌≡◌, ℕ, ◌+◌, ◌<◌, ◌≤◌, Bool, true, false, ◌&&◌, not, IsTrue, List, [], ◌∷◌, ◌++◌, length, take}
+use Rattle.std.specs.Prelude.{◌≡◌, ℕ, ◌+◌, ◌<◌, ◌≤◌, Bool, true, false, ◌&&◌, not, IsTrue, List, [], ◌∷◌, ◌++◌, length}
+use Rattle.std.specs.Prelude.{take}
 use Rattle.std.specs.Char.{is_ascii_digit}
 use Rattle.std.specs.Fmt.{decimal}
 use Rattle.std.specs.List.{flat_map, list_all}
@@ -71,7 +72,8 @@ pub record IsHeaderText (bytes : List ℕ) (values : HeaderValues) : Type 0 wher
   pub is_third_gap : IsGap third_gap
   pub is_maxval : IsNumberText maxval_text values.maxval
   pub is_last : IsTrue (is_white last)
-  pub text : bytes ≡ magic_text values.plain ++ (gap ++ (width_text ++ (second_gap ++ (height_text ++ (third_gap ++ (maxval_text ++ last ∷ []))))))
+  pub text : bytes ≡ magic_text values.plain
+      ++ (gap ++ (width_text ++ (second_gap ++ (height_text ++ (third_gap ++ (maxval_text ++ last ∷ []))))))
 
 -- a comment that has a line of its own: `#`, its text, LF
 abbrev pub comment_line : List ℕ → List ℕ
@@ -81,7 +83,8 @@ comment_line inside = 35 ∷ (inside ++ 10 ∷ [])
 abbrev pub written_header : HeaderValues → List (List ℕ) → List ℕ
 written_header values comments =
     magic_text values.plain
-    ++ ((10 ∷ flat_map comment_line comments) ++ (decimal values.width ++ (32 ∷ [] ++ (decimal values.height ++ (10 ∷ [] ++ (decimal values.maxval ++ 10 ∷ []))))))
+    ++ ((10 ∷ flat_map comment_line comments) ++ (decimal values.width
+    ++ (32 ∷ [] ++ (decimal values.height ++ (10 ∷ [] ++ (decimal values.maxval ++ 10 ∷ []))))))
 
 -- the bytes are a prefix of the text of a header, or the whole of it
 abbrev pub IsHeaderPrefix : List ℕ → Type 0
@@ -89,7 +92,8 @@ IsHeaderPrefix bytes = (rest : List ℕ) × (values : HeaderValues) × IsHeaderT
 
 -- the bytes are a prefix of the text of a header, and not the whole of it
 abbrev pub IsProperPrefix : List ℕ → Type 0
-IsProperPrefix bytes = (rest : List ℕ) × (values : HeaderValues) × (0 < length rest) × IsHeaderText (bytes ++ rest) values
+IsProperPrefix bytes =
+    (rest : List ℕ) × (values : HeaderValues) × (0 < length rest) × IsHeaderText (bytes ++ rest) values
 
 -- the byte at this place is the first that continues no header
 pub record IsUnfitAt (bytes : List ℕ) (place : ℕ) : Type 0 where

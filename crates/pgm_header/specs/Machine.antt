@@ -19,20 +19,23 @@ letter_step byte = if byte == 50 then Goes (Named true) else if byte == 53 then 
 -- a byte in the gap after these fields, outside comments
 abbrev pub gap_step : Fields → ℕ → Step
 gap_step before byte =
-    if is_white byte then Goes (Gap before) else if byte == 35 then Goes (Comment before) else if is_ascii_digit byte then Goes (Number before 1 (byte - 48))
+    if is_white byte then Goes (Gap before) else if byte == 35 then Goes (Comment before) else if is_ascii_digit byte
+    then Goes (Number before 1 (byte - 48))
     else Fails
 
 -- whitespace after the number that follows these fields
 abbrev pub number_ended : Fields → ℕ → Step
 number_ended (fields.Magic plain) value = Goes (Gap (fields.Width plain value))
 number_ended (fields.Width plain width) value = Goes (Gap (fields.Height plain width value))
-number_ended (fields.Height plain width height) value = Ends (record { plain = plain; width = width; height = height; maxval = value })
+number_ended (fields.Height plain width height) value =
+    Ends (record { plain = plain; width = width; height = height; maxval = value })
 
 -- a byte after some digits of the number that follows these fields
 abbrev pub number_step : Fields → ℕ → ℕ → ℕ → Step
 number_step before digits value byte =
     if is_white byte then number_ended before value
-    else if is_ascii_digit byte && nat_lt digits 9 then Goes (Number before (digits + 1) (10 * value + (byte - 48))) else Fails
+    else if is_ascii_digit byte && nat_lt digits 9
+    then Goes (Number before (digits + 1) (10 * value + (byte - 48))) else Fails
 
 -- a byte
 abbrev pub step_of : State → ℕ → Step

@@ -1,5 +1,7 @@
 -- Plain rasters whose bytes go beyond the most that a file has.
-use Rattle.std.proofs.Common.{◌≡◌, ℕ, suc, ◌+◌, ◌-◌, ◌*◌, ◌^◌, ◌<◌, ◌≤◌, ◌⊎◌, inl, inr, true, ◌&&◌, nat_lt, List, [], ◌∷◌, ◌++◌, length, take, drop, None, Ok, Err, refl, sym, ap, ◌∙◌, subst, arith, take-append-drop, length-take-le, length-drop}
+use Rattle.std.proofs.Common.{◌≡◌, ℕ, suc, ◌+◌, ◌-◌, ◌*◌, ◌^◌, ◌<◌, ◌≤◌, ◌⊎◌, inl, inr, true, ◌&&◌, nat_lt, List, []}
+use Rattle.std.proofs.Common.{◌∷◌, ◌++◌, length, take, drop, None, Ok, Err, refl, sym, ap, ◌∙◌, subst, arith}
+use Rattle.std.proofs.Common.{take-append-drop, length-take-le, length-drop}
 use Rattle.std.specs.Char.{is_ascii_digit}
 use Rattle.std.specs.Prelude.{⊤}
 use Rattle.std.proofs.lemmas.Bool.{cases_lt, cases_eq, lt-ltb, le-ltb, eq-eqb, ne_eqb, cond-true, cond-false}
@@ -10,7 +12,8 @@ use Rattle.pgm_raster.specs.declared.fault.RasterFault.TheVariants.{BadSample, A
 use Rattle.pgm_raster.specs.declared.form.RasterForm.TheVariants.{Bytes, Words, Plain}
 use Rattle.pgm_raster.specs.declared.part.Limits.{Limits}
 use Rattle.pgm_raster.specs.declared.part.Digits.{Digits}
-use Rattle.pgm_raster.specs.Progress.{most_bytes, RasterAnswer, after, sample_then, end_at, bytes_from, words_from, no_digits, with_digit, ended_then, plain_from, raster_of}
+use Rattle.pgm_raster.specs.Progress.{most_bytes, RasterAnswer, after, sample_then, end_at, bytes_from, words_from}
+use Rattle.pgm_raster.specs.Progress.{no_digits, with_digit, ended_then, plain_from, raster_of}
 use Rattle.pgm_raster.specs.Laws.{ReadRastersAreShort, LongRastersAreRefused}
 use Rattle.pgm_raster.proofs.RasterLemmas.{after-append, after-nil, sample-passed, sample-refused}
 use Rattle.pgm_raster.proofs.PlainLemmas.{plain-space, plain-full, plain-digit, plain-bad, plain-long}
@@ -45,7 +48,8 @@ bytes-short : (l : Limits) (bytes : List ℕ) (index at : ℕ) → IsShort (byte
 bytes-short l [] index at = short-end l index
 bytes-short l (byte ∷ more) index at =
     elim (cases_lt index l.count) as (λ _. IsShort (bytes_from l index at (byte ∷ more))) [
-      | inl less ↦ subst IsShort (sym (cond-true _ _ _ (lt-ltb index l.count less))) (short-sample l index byte (bytes_from l (index + 1) (at + 1) more) (bytes-short l more (index + 1) (at + 1)))
+      | inl less ↦ subst IsShort (sym (cond-true _ _ _ (lt-ltb index l.count less)))
+          (short-sample l index byte (bytes_from l (index + 1) (at + 1) more) (bytes-short l more (index + 1) (at + 1)))
       | inr full ↦ subst IsShort (sym (cond-false _ _ _ (le-ltb index l.count full))) tt
     ]
 
@@ -59,25 +63,31 @@ words-short l (byte ∷ []) index at =
 words-short l (high ∷ low ∷ more) index at =
     elim (cases_lt index l.count) as (λ _. IsShort (words_from l index None at (high ∷ low ∷ more))) [
       | inl less ↦ subst IsShort (sym (cond-true _ _ _ (lt-ltb index l.count less)))
-          (short-sample l index (256 * high + low) (words_from l (index + 1) None (at + 1 + 1) more) (words-short l more (index + 1) (at + 1 + 1)))
+          (short-sample l index (256 * high + low) (words_from l (index + 1) None (at + 1 + 1) more)
+          (words-short l more (index + 1) (at + 1 + 1)))
       | inr full ↦ subst IsShort (sym (cond-false _ _ _ (le-ltb index l.count full))) tt
     ]
 
-ended-short : (l : Limits) (index : ℕ) (digits : Digits) (rest : ℕ → RasterAnswer) → ((i : ℕ) → IsShort (rest i)) → IsShort (ended_then l index digits rest)
+ended-short : (l : Limits) (index : ℕ) (digits : Digits) (rest : ℕ → RasterAnswer) → ((i : ℕ) → IsShort (rest i)) →
+    IsShort (ended_then l index digits rest)
 ended-short l index digits rest w =
     elim (cases_eq digits.count 0) as (λ _. IsShort (ended_then l index digits rest)) [
       | inl none ↦ subst IsShort (sym (cond-true _ _ _ (eq-eqb digits.count 0 none))) (w index)
-      | inr some ↦ subst IsShort (sym (cond-false _ _ _ (ne_eqb digits.count 0 some))) (short-sample l index digits.value (rest (index + 1)) (w (index + 1)))
+      | inr some ↦ subst IsShort (sym (cond-false _ _ _ (ne_eqb digits.count 0 some)))
+          (short-sample l index digits.value (rest (index + 1)) (w (index + 1)))
     ]
 
-unlimited-short : (l : Limits) (bytes : List ℕ) (index : ℕ) (digits : Digits) (at : ℕ) → IsShort (plain_unlimited l index digits at bytes)
+unlimited-short : (l : Limits) (bytes : List ℕ) (index : ℕ) (digits : Digits) (at : ℕ) →
+    IsShort (plain_unlimited l index digits at bytes)
 unlimited-short l [] index digits at = ended-short l index digits (λ i. end_at l i) (λ i. short-end l i)
 unlimited-short l (byte ∷ more) index digits at =
     by_bool (is_white byte)
-    (λ yes. subst IsShort (sym (cond-true _ _ _ yes)) (ended-short l index digits (λ i. plain_unlimited l i no_digits (at + 1) more) (λ i. unlimited-short l more i no_digits (at + 1))))
+    (λ yes. subst IsShort (sym (cond-true _ _ _ yes)) (ended-short l index digits
+    (λ i. plain_unlimited l i no_digits (at + 1) more) (λ i. unlimited-short l more i no_digits (at + 1))))
     (λ no. subst IsShort (sym (cond-false _ _ _ no)) (by_bool (nat_lt index l.count)
     (λ wanted. subst IsShort (sym (cond-true _ _ _ wanted)) (by_bool (is_ascii_digit byte && nat_lt digits.count 9)
-    (λ digit. subst IsShort (sym (cond-true _ _ _ digit)) (unlimited-short l more index (with_digit digits byte) (at + 1)))
+    (λ digit. subst IsShort (sym (cond-true _ _ _ digit))
+    (unlimited-short l more index (with_digit digits byte) (at + 1)))
     (λ bad. subst IsShort (sym (cond-false _ _ _ bad)) tt)))
     (λ full. subst IsShort (sym (cond-false _ _ _ full)) tt)))
 
@@ -86,74 +96,118 @@ unlimited-short l (byte ∷ more) index digits at =
 -- one of them is refused, or what follows decides
 abbrev pub Front : Limits → ℕ → Digits → ℕ → List ℕ → Type 0
 Front l index digits at front =
-    ((fault : RasterFault) × (fault ≡ TooLong → ⊥) × ((more : List ℕ) → plain_from l index digits at (front ++ more) ≡ Err fault))
-    ⊎ ((samples : List ℕ) × (i : ℕ) × (next : Digits) × ((more : List ℕ) → plain_from l index digits at (front ++ more) ≡ after samples (plain_from l i next (at + length front) more)))
+    ((fault : RasterFault) × (fault ≡ TooLong → ⊥)
+    × ((more : List ℕ) → plain_from l index digits at (front ++ more) ≡ Err fault))
+    ⊎ ((samples : List ℕ) × (i : ℕ) × (next : Digits) × ((more : List ℕ) →
+    plain_from l index digits at (front ++ more) ≡ after samples (plain_from l i next (at + length front) more)))
 
-front-step : (l : Limits) (index i : ℕ) (digits next : Digits) (at byte : ℕ) (samples front : List ℕ) → ((more : List ℕ) → plain_from l index digits at (byte ∷ more) ≡ after samples (plain_from l i next (at + 1) more))
+front-step : (l : Limits) (index i : ℕ) (digits next : Digits) (at byte : ℕ) (samples front : List ℕ) →
+    ((more : List ℕ) → plain_from l index digits at (byte ∷ more) ≡ after samples (plain_from l i next (at + 1) more))
     → Front l i next (at + 1) front → Front l index digits at (byte ∷ front)
-front-step l index i digits next at byte samples front step (inl w) = inl (w.0, w.1, λ more. step (front ++ more) ∙ ap (after samples) (w.2 more))
+front-step l index i digits next at byte samples front step (inl w) =
+    inl (w.0, w.1, λ more. step (front ++ more) ∙ ap (after samples) (w.2 more))
 front-step l index i digits next at byte samples front step (inr w) =
     let e : at + 1 + length front ≡ at + suc (length front) = omega arith in
     inr (
       samples ++ w.0,
       w.1,
       w.2,
-      λ more. step (front ++ more) ∙ ap (after samples) (w.3 more) ∙ sym (after-append samples w.0 (plain_from l w.1 w.2 (at + 1 + length front) more))
+      λ more. step (front ++ more) ∙ ap (after samples) (w.3 more)
+          ∙ sym (after-append samples w.0 (plain_from l w.1 w.2 (at + 1 + length front) more))
           ∙ ap (λ (p : ℕ). after (samples ++ w.0) (plain_from l w.1 w.2 p more)) e,
     )
 
-front-none : (l : Limits) (index i : ℕ) (digits next : Digits) (at byte : ℕ) (front : List ℕ) → ((more : List ℕ) → plain_from l index digits at (byte ∷ more) ≡ plain_from l i next (at + 1) more)
+front-none : (l : Limits) (index i : ℕ) (digits next : Digits) (at byte : ℕ) (front : List ℕ) →
+    ((more : List ℕ) → plain_from l index digits at (byte ∷ more) ≡ plain_from l i next (at + 1) more)
     → Front l i next (at + 1) front → Front l index digits at (byte ∷ front)
 front-none l index i digits next at byte front step w =
-    front-step l index i digits next at byte [] front (λ more. step more ∙ sym (after-nil (plain_from l i next (at + 1) more))) w
+    front-step l index i digits next at byte [] front
+    (λ more. step more ∙ sym (after-nil (plain_from l i next (at + 1) more))) w
 
-pub front-cases : (l : Limits) (front : List ℕ) (index : ℕ) (digits : Digits) (at : ℕ) → at + length front ≤ most_bytes → Front l index digits at front
+pub front-cases : (l : Limits) (front : List ℕ) (index : ℕ) (digits : Digits) (at : ℕ) → at + length front
+    ≤ most_bytes → Front l index digits at front
 front-cases l [] index digits at room =
     let e : at ≡ at + 0 = omega arith in
-    inr ([], index, digits, λ more. ap (λ (p : ℕ). plain_from l index digits p more) e ∙ sym (after-nil (plain_from l index digits (at + 0) more)))
+    inr (
+      [],
+      index,
+      digits,
+      λ more. ap (λ (p : ℕ). plain_from l index digits p more) e
+          ∙ sym (after-nil (plain_from l index digits (at + 0) more)),
+    )
 front-cases l (byte ∷ front) index digits at room =
     let within : at < most_bytes = omega arith in
     let next_room : at + 1 + length front ≤ most_bytes = omega arith in
     by_bool (is_white byte)
     (λ yes. elim (cases_eq digits.count 0) as (λ _. Front l index digits at (byte ∷ front)) [
-      | inl none ↦ front-none l index index digits no_digits at byte front (λ more. plain-space l index digits at byte more within yes ∙ cond-true _ _ _ (eq-eqb digits.count 0 none)) (front-cases l front index no_digits (at + 1) next_room)
+      | inl none ↦ front-none l index index digits no_digits at byte front
+          (λ more. plain-space l index digits at byte more within yes ∙ cond-true _ _ _ (eq-eqb digits.count 0 none))
+          (front-cases l front index no_digits (at + 1) next_room)
       | inr some ↦ elim (cases_lt l.maxval digits.value) as (λ _. Front l index digits at (byte ∷ front)) [
-        | inl above ↦ inl (AboveMaxval index, λ e. absurd (cc), λ more. sample within yes some (front ++ more) ∙ sample-refused l index digits.value _ above)
-        | inr fits ↦ front-step l index (index + 1) digits no_digits at byte (digits.value ∷ []) front (λ more. sample within yes some more ∙ sample-passed l index digits.value _ fits) (front-cases l front (index + 1) no_digits (at + 1) next_room)
+        | inl above ↦ inl (
+          AboveMaxval index,
+          λ e. absurd (cc),
+          λ more. sample within yes some (front ++ more) ∙ sample-refused l index digits.value _ above,
+        )
+        | inr fits ↦ front-step l index (index + 1) digits no_digits at byte (digits.value ∷ []) front
+            (λ more. sample within yes some more ∙ sample-passed l index digits.value _ fits)
+            (front-cases l front (index + 1) no_digits (at + 1) next_room)
       ]
     ])
     (λ no. elim (cases_lt index l.count) as (λ _. Front l index digits at (byte ∷ front)) [
       | inl less ↦ by_bool (is_ascii_digit byte && nat_lt digits.count 9)
-          (λ digit. front-none l index index digits (with_digit digits byte) at byte front (λ more. plain-digit l index digits at byte more within no less digit) (front-cases l front index (with_digit digits byte) (at + 1) next_room))
-          (λ bad. inl (BadSample at, λ e. absurd (cc), λ more. plain-bad l index digits at byte (front ++ more) within no less bad))
-      | inr full ↦ inl (Trailing at, λ e. absurd (cc), λ more. plain-full l index digits at byte (front ++ more) within no full)
+          (λ digit. front-none l index index digits (with_digit digits byte) at byte front
+          (λ more. plain-digit l index digits at byte more within no less digit)
+          (front-cases l front index (with_digit digits byte) (at + 1) next_room))
+          (λ bad. inl (
+            BadSample at,
+            λ e. absurd (cc),
+            λ more. plain-bad l index digits at byte (front ++ more) within no less bad,
+          ))
+      | inr full ↦
+          inl (Trailing at, λ e. absurd (cc), λ more. plain-full l index digits at byte (front ++ more) within no full)
     ])
   where
-    sample : at < most_bytes → is_white byte ≡ true → (digits.count ≡ 0 → ⊥) → (more : List ℕ) → plain_from l index digits at (byte ∷ more) ≡ sample_then l index digits.value (plain_from l (index + 1) no_digits (at + 1) more)
-    sample within space some more = plain-space l index digits at byte more within space ∙ cond-false _ _ _ (ne_eqb digits.count 0 some)
+    sample : at < most_bytes → is_white byte ≡ true → (digits.count ≡ 0 → ⊥) → (more : List ℕ) →
+        plain_from l index digits at (byte ∷ more)
+        ≡ sample_then l index digits.value (plain_from l (index + 1) no_digits (at + 1) more)
+    sample within space some more =
+        plain-space l index digits at byte more within space ∙ cond-false _ _ _ (ne_eqb digits.count 0 some)
 
 -- ---- bytes that go beyond the limit
 
 -- a byte before the limit is refused, or the limit is answered
 abbrev Beyond : Limits → ℕ → List ℕ → Type 0
 Beyond l at bytes =
-    ((fault : RasterFault) × (fault ≡ TooLong → ⊥) × ((more : List ℕ) → plain_from l 0 no_digits at (take (2 ^ 28 - at) bytes ++ more) ≡ Err fault) × (plain_from l 0 no_digits at bytes ≡ Err fault))
-    ⊎ ((plain_from l 0 no_digits at bytes ≡ Err TooLong) × ((fault : RasterFault) → ((more : List ℕ) → plain_from l 0 no_digits at (take (2 ^ 28 - at) bytes ++ more) ≡ Err fault) → ⊥))
+    ((fault : RasterFault) × (fault ≡ TooLong → ⊥)
+    × ((more : List ℕ) → plain_from l 0 no_digits at (take (2 ^ 28 - at) bytes ++ more) ≡ Err fault)
+    × (plain_from l 0 no_digits at bytes ≡ Err fault))
+    ⊎ ((plain_from l 0 no_digits at bytes ≡ Err TooLong) × ((fault : RasterFault) →
+    ((more : List ℕ) → plain_from l 0 no_digits at (take (2 ^ 28 - at) bytes ++ more) ≡ Err fault) → ⊥))
 
 beyond : (l : Limits) (at : ℕ) (bytes : List ℕ) → at ≤ 2 ^ 28 → 2 ^ 28 < at + length bytes → Beyond l at bytes
 beyond l at bytes place long =
     let size : length (take (2 ^ 28 - at) bytes) ≡ 2 ^ 28 - at = length-take-le (2 ^ 28 - at) bytes (omega arith) in
     let left : length (drop (2 ^ 28 - at) bytes) ≡ length bytes - (2 ^ 28 - at) = length-drop (2 ^ 28 - at) bytes in
-    let whole : bytes ≡ take (2 ^ 28 - at) bytes ++ drop (2 ^ 28 - at) bytes = sym (take-append-drop (2 ^ 28 - at) bytes) in
+    let whole : bytes ≡ take (2 ^ 28 - at) bytes ++ drop (2 ^ 28 - at) bytes =
+    sym (take-append-drop (2 ^ 28 - at) bytes) in
     by_front (take (2 ^ 28 - at) bytes) (drop (2 ^ 28 - at) bytes) whole refl (omega arith) (omega arith)
   where
-    by_front : (front rest : List ℕ) → bytes ≡ front ++ rest → take (2 ^ 28 - at) bytes ≡ front → at + length front ≡ most_bytes → 0 < length rest → Beyond l at bytes
+    by_front : (front rest : List ℕ) → bytes ≡ front ++ rest →
+        take (2 ^ 28 - at) bytes ≡ front → at + length front ≡ most_bytes → 0 < length rest → Beyond l at bytes
     by_front front rest whole first here some =
         elim (front-cases l front 0 no_digits at (omega arith)) as (λ _. Beyond l at bytes) [
-          | inl w ↦ inl (w.0, w.1, λ more. ap (λ (s : List ℕ). plain_from l 0 no_digits at (s ++ more)) first ∙ w.2 more, ap (plain_from l 0 no_digits at) whole ∙ w.2 rest)
+          | inl w ↦ inl (
+            w.0,
+            w.1,
+            λ more. ap (λ (s : List ℕ). plain_from l 0 no_digits at (s ++ more)) first ∙ w.2 more,
+            ap (plain_from l 0 no_digits at) whole ∙ w.2 rest,
+          )
           | inr w ↦ inr (
-            ap (plain_from l 0 no_digits at) whole ∙ w.3 rest ∙ ap (after w.0) (plain-long l w.1 w.2 (at + length front) rest here some),
-            λ fault. λ all. plain-open l w.0 w.1 w.2 (at + length front) fault (omega arith) (λ more. sym (w.3 more) ∙ ap (λ (s : List ℕ). plain_from l 0 no_digits at (s ++ more)) (sym first) ∙ all more),
+            ap (plain_from l 0 no_digits at) whole ∙ w.3 rest
+                ∙ ap (after w.0) (plain-long l w.1 w.2 (at + length front) rest here some),
+            λ fault. λ all. plain-open l w.0 w.1 w.2 (at + length front) fault (omega arith) (λ more. sym (w.3 more)
+                ∙ ap (λ (s : List ℕ). plain_from l 0 no_digits at (s ++ more)) (sym first) ∙ all more),
           )
         ]
 
@@ -171,24 +225,33 @@ short count maxval at samples bytes e place =
       | inr fits ↦ fits
     ]
 
-plain_long : (count maxval at : ℕ) (bytes : List ℕ) → at ≤ 2 ^ 28 → plain_from (record { count = count; maxval = maxval }) 0 no_digits at bytes ≡ Err TooLong
-    → (2 ^ 28 < at + length bytes) × ((fault : RasterFault) → ((more : List ℕ) → plain_from (record { count = count; maxval = maxval }) 0 no_digits at (take (2 ^ 28 - at) bytes ++ more) ≡ Err fault) → ⊥)
+plain_long : (count maxval at : ℕ) (bytes : List ℕ) → at ≤ 2 ^ 28 →
+    plain_from (record { count = count; maxval = maxval }) 0 no_digits at bytes ≡ Err TooLong
+    → (2 ^ 28 < at + length bytes) × ((fault : RasterFault) → ((more : List ℕ) → plain_from
+    (record { count = count; maxval = maxval }) 0 no_digits at (take (2 ^ 28 - at) bytes ++ more) ≡ Err fault) → ⊥)
 plain_long count maxval at bytes place e =
     let l : Limits = record { count = count; maxval = maxval } in
-    elim (cases_lt (2 ^ 28) (at + length bytes)) as (λ _. (2 ^ 28 < at + length bytes) × ((fault : RasterFault) → ((more : List ℕ) → plain_from l 0 no_digits at (take (2 ^ 28 - at) bytes ++ more) ≡ Err fault) → ⊥)) [
-      | inl long ↦ elim (beyond l at bytes place long) as (λ _. (2 ^ 28 < at + length bytes) × ((fault : RasterFault) → ((more : List ℕ) → plain_from l 0 no_digits at (take (2 ^ 28 - at) bytes ++ more) ≡ Err fault) → ⊥)) [
-        | inl w ↦ absurd (w.1 (let same : ◌≡◌ {A = RasterAnswer} (Err w.0) (Err TooLong) = sym w.3 ∙ e in cc))
-        | inr w ↦ (long, w.1)
-      ]
-      | inr fits ↦ absurd (subst IsShort (sym (plain-within l bytes 0 no_digits at (omega arith)) ∙ e) (unlimited-short l bytes 0 no_digits at))
+    elim (cases_lt (2 ^ 28) (at + length bytes)) as (λ _. (2 ^ 28 < at + length bytes) × ((fault : RasterFault) →
+    ((more : List ℕ) → plain_from l 0 no_digits at (take (2 ^ 28 - at) bytes ++ more) ≡ Err fault) → ⊥)) [
+      | inl long ↦ elim (beyond l at bytes place long) as (λ _. (2 ^ 28 < at + length bytes) × ((fault : RasterFault) →
+          ((more : List ℕ) → plain_from l 0 no_digits at (take (2 ^ 28 - at) bytes ++ more) ≡ Err fault) → ⊥)) [
+            | inl w ↦ absurd (w.1 (let same : ◌≡◌ {A = RasterAnswer} (Err w.0) (Err TooLong) = sym w.3 ∙ e in cc))
+            | inr w ↦ (long, w.1)
+          ]
+      | inr fits ↦ absurd (subst IsShort (sym (plain-within l bytes 0 no_digits at (omega arith)) ∙ e)
+          (unlimited-short l bytes 0 no_digits at))
     ]
 
 pub too_long : LongRastersAreRefused
 unfolding raster_of
-too_long Bytes count maxval at bytes place =
-    ((λ e. absurd (subst IsShort e (bytes-short (record { count = count; maxval = maxval }) bytes 0 at))), (λ w. absurd (let e : Bytes ≡ Plain = w.0 in cc)))
-too_long Words count maxval at bytes place =
-    ((λ e. absurd (subst IsShort e (words-short (record { count = count; maxval = maxval }) bytes 0 at))), (λ w. absurd (let e : Words ≡ Plain = w.0 in cc)))
+too_long Bytes count maxval at bytes place = (
+  (λ e. absurd (subst IsShort e (bytes-short (record { count = count; maxval = maxval }) bytes 0 at))),
+  (λ w. absurd (let e : Bytes ≡ Plain = w.0 in cc)),
+)
+too_long Words count maxval at bytes place = (
+  (λ e. absurd (subst IsShort e (words-short (record { count = count; maxval = maxval }) bytes 0 at))),
+  (λ w. absurd (let e : Words ≡ Plain = w.0 in cc)),
+)
 too_long Plain count maxval at bytes place =
     let l : Limits = record { count = count; maxval = maxval } in (
       (λ e. let far = plain_long count maxval at bytes place e in (refl, far.0, far.1)),

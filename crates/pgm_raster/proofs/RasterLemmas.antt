@@ -1,5 +1,7 @@
 -- Facts about samples that come after one another, and about the bytes that bring them.
-use Rattle.std.proofs.Common.{◌≡◌, ℕ, zero, suc, ◌+◌, ◌*◌, ◌<◌, ◌≤◌, List, [], ◌∷◌, ◌++◌, length, take, drop, get_or, Some, None, Result, Ok, Err, refl, sym, ap, ap₂, ◌∙◌, subst, arith, All, slice_get, IsSomeAnd, IsErrAnd, IfErr, append_assoc, take-append-drop, length-take-le, length-drop}
+use Rattle.std.proofs.Common.{◌≡◌, ℕ, zero, suc, ◌+◌, ◌*◌, ◌<◌, ◌≤◌, List, [], ◌∷◌, ◌++◌, length, take, drop, get_or}
+use Rattle.std.proofs.Common.{Some, None, Result, Ok, Err, refl, sym, ap, ap₂, ◌∙◌, subst, arith, All, slice_get}
+use Rattle.std.proofs.Common.{IsSomeAnd, IsErrAnd, IfErr, append_assoc, take-append-drop, length-take-le, length-drop}
 use Rattle.std.proofs.lemmas.List.{drop_all}
 use Rattle.std.proofs.lemmas.Bool.{lt-ltb, le-ltb, cond-true, cond-false}
 use Rattle.std.proofs.lemmas.List.Elements.{All-head, All-tail}
@@ -13,7 +15,9 @@ use Rattle.pgm_raster.specs.Progress.{RasterAnswer, after, sample_then, samples_
 -- ---- samples that came before
 
 pub after-append : (xs ys : List ℕ) (r : RasterAnswer) → after (xs ++ ys) r ≡ after xs (after ys r)
-after-append xs ys (Ok rest) = let e : (xs ++ ys) ++ rest ≡ xs ++ (ys ++ rest) = append_assoc xs ys rest in ap (λ (s : List ℕ). let r : RasterAnswer = Ok s in r) e
+after-append xs ys (Ok rest) =
+    let e : (xs ++ ys) ++ rest ≡ xs ++ (ys ++ rest) = append_assoc xs ys rest in
+    ap (λ (s : List ℕ). let r : RasterAnswer = Ok s in r) e
 after-append xs ys (Err fault) = refl
 
 pub after-nil : (r : RasterAnswer) → after [] r ≡ r
@@ -26,35 +30,47 @@ after-err samples (Ok rest) f e = absurd (cc)
 after-err samples (Err g) f e = e
 
 -- a sample that may stand, and one that may not
-pub sample-passed : (l : Limits) (index sample : ℕ) (rest : RasterAnswer) → sample ≤ l.maxval → sample_then l index sample rest ≡ after (sample ∷ []) rest
+pub sample-passed : (l : Limits) (index sample : ℕ) (rest : RasterAnswer) → sample ≤ l.maxval →
+    sample_then l index sample rest ≡ after (sample ∷ []) rest
 sample-passed l index sample rest fits = cond-false _ _ _ (le-ltb l.maxval sample fits)
 
-pub sample-refused : (l : Limits) (index sample : ℕ) (rest : RasterAnswer) → l.maxval < sample → sample_then l index sample rest ≡ Err (AboveMaxval index)
+pub sample-refused : (l : Limits) (index sample : ℕ) (rest : RasterAnswer) → l.maxval < sample →
+    sample_then l index sample rest ≡ Err (AboveMaxval index)
 sample-refused l index sample rest above = cond-true _ _ _ (lt-ltb l.maxval sample above)
 
-pub samples-passed : (l : Limits) (index : ℕ) (samples : List ℕ) (rest : RasterAnswer) → All (λ h. h ≤ l.maxval) samples → samples_then l index samples rest ≡ after samples rest
+pub samples-passed : (l : Limits) (index : ℕ) (samples : List ℕ) (rest : RasterAnswer) →
+    All (λ h. h ≤ l.maxval) samples → samples_then l index samples rest ≡ after samples rest
 samples-passed l index [] rest all = sym (after-nil rest)
 samples-passed l index (s ∷ samples) rest all =
     sample-passed l index s (samples_then l (index + 1) samples rest) (All-head (λ h. h ≤ l.maxval) s samples all)
     ∙ ap (after (s ∷ [])) (samples-passed l (index + 1) samples rest (All-tail (λ h. h ≤ l.maxval) s samples all))
     ∙ sym (after-append (s ∷ []) samples rest)
 
-pub samples-refused : (l : Limits) (index : ℕ) (samples : List ℕ) (i : ℕ) (rest : RasterAnswer) → All (λ h. h ≤ l.maxval) (take i samples) → IsSomeAnd (slice_get samples i) (λ h. l.maxval < h) → samples_then l index samples rest ≡ Err (AboveMaxval (index + i))
+pub samples-refused : (l : Limits) (index : ℕ) (samples : List ℕ) (i : ℕ) (rest : RasterAnswer) →
+    All (λ h. h ≤ l.maxval) (take i samples) → IsSomeAnd (slice_get samples i) (λ h. l.maxval < h) →
+    samples_then l index samples rest ≡ Err (AboveMaxval (index + i))
 samples-refused l index [] i rest before above = absurd above
 samples-refused l index (s ∷ samples) zero rest before above =
     let e : index ≡ index + zero = omega arith in
-    sample-refused l index s (samples_then l (index + 1) samples rest) above ∙ ap (λ (k : ℕ). let r : RasterAnswer = Err (AboveMaxval k) in r) e
+    sample-refused l index s (samples_then l (index + 1) samples rest) above
+    ∙ ap (λ (k : ℕ). let r : RasterAnswer = Err (AboveMaxval k) in r) e
 samples-refused l index (s ∷ samples) (suc i) rest before above =
     let e : index + 1 + i ≡ index + suc i = omega arith in
-    sample-passed l index s (samples_then l (index + 1) samples rest) (All-head (λ h. h ≤ l.maxval) s (take i samples) before)
-    ∙ ap (after (s ∷ [])) (samples-refused l (index + 1) samples i rest (All-tail (λ h. h ≤ l.maxval) s (take i samples) before) above)
+    sample-passed l index s (samples_then l (index + 1) samples rest)
+    (All-head (λ h. h ≤ l.maxval) s (take i samples) before)
+    ∙ ap (after (s ∷ []))
+    (samples-refused l (index + 1) samples i rest (All-tail (λ h. h ≤ l.maxval) s (take i samples) before) above)
     ∙ ap (λ (k : ℕ). let r : RasterAnswer = Err (AboveMaxval k) in r) e
 
-pub samples-append : (l : Limits) (index : ℕ) (xs ys : List ℕ) (rest : RasterAnswer) → samples_then l index (xs ++ ys) rest ≡ samples_then l index xs (samples_then l (index + length xs) ys rest)
-samples-append l index [] ys rest = let e : index ≡ index + 0 = omega arith in ap (λ (k : ℕ). samples_then l k ys rest) e
+pub samples-append : (l : Limits) (index : ℕ) (xs ys : List ℕ) (rest : RasterAnswer) →
+    samples_then l index (xs ++ ys) rest ≡ samples_then l index xs (samples_then l (index + length xs) ys rest)
+samples-append l index [] ys rest =
+    let e : index ≡ index + 0 = omega arith in
+    ap (λ (k : ℕ). samples_then l k ys rest) e
 samples-append l index (x ∷ xs) ys rest =
     let e : index + 1 + length xs ≡ index + suc (length xs) = omega arith in
-    ap (sample_then l index x) (samples-append l (index + 1) xs ys rest ∙ ap (λ (k : ℕ). samples_then l (index + 1) xs (samples_then l k ys rest)) e)
+    ap (sample_then l index x) (samples-append l (index + 1) xs ys rest
+    ∙ ap (λ (k : ℕ). samples_then l (index + 1) xs (samples_then l k ys rest)) e)
 
 -- ---- samples that are added to those before
 
@@ -65,23 +81,30 @@ Pushes l old samples new = (rest : RasterAnswer) → after old (samples_then l (
 abbrev pub Refuses : Limits → List ℕ → List ℕ → RasterFault → Type 0
 Refuses l old samples fault = (rest : RasterAnswer) → after old (samples_then l (length old) samples rest) ≡ Err fault
 
-pub pushed : (l : Limits) (old samples new : List ℕ) → All (λ h. h ≤ l.maxval) samples → new ≡ old ++ samples → Pushes l old samples new
+pub pushed : (l : Limits) (old samples new : List ℕ) → All (λ h. h ≤ l.maxval) samples → new ≡ old ++ samples →
+    Pushes l old samples new
 pushed l old samples new all e rest =
-    ap (after old) (samples-passed l (length old) samples rest all) ∙ sym (after-append old samples rest) ∙ ap (λ (s : List ℕ). after s rest) (sym e)
+    ap (after old) (samples-passed l (length old) samples rest all) ∙ sym (after-append old samples rest)
+    ∙ ap (λ (s : List ℕ). after s rest) (sym e)
 
-pub refused : (l : Limits) (old samples : List ℕ) (i n : ℕ) → All (λ h. h ≤ l.maxval) (take i samples) → IsSomeAnd (slice_get samples i) (λ h. l.maxval < h) → n ≡ length old + i → Refuses l old samples (AboveMaxval n)
+pub refused : (l : Limits) (old samples : List ℕ) (i n : ℕ) → All (λ h. h ≤ l.maxval) (take i samples) →
+    IsSomeAnd (slice_get samples i) (λ h. l.maxval < h) → n ≡ length old + i → Refuses l old samples (AboveMaxval n)
 refused l old samples i n before above e rest =
-    ap (after old) (samples-refused l (length old) samples i rest before above) ∙ ap (λ (k : ℕ). let r : RasterAnswer = Err (AboveMaxval k) in r) (sym e)
+    ap (after old) (samples-refused l (length old) samples i rest before above)
+    ∙ ap (λ (k : ℕ). let r : RasterAnswer = Err (AboveMaxval k) in r) (sym e)
 
 -- a chunk, and then the others
-pub chunk-pushed : (l : Limits) (old new xs ys all : List ℕ) → all ≡ xs ++ ys → Pushes l old xs new → length new ≡ length old + length xs → (rest : RasterAnswer) → after old (samples_then l (length old) all rest) ≡ after new (samples_then l (length new) ys rest)
+pub chunk-pushed : (l : Limits) (old new xs ys all : List ℕ) → all ≡ xs ++ ys → Pushes l old xs new →
+    length new ≡ length old + length xs → (rest : RasterAnswer) →
+    after old (samples_then l (length old) all rest) ≡ after new (samples_then l (length new) ys rest)
 chunk-pushed l old new xs ys all e step long rest =
     ap (λ (s : List ℕ). after old (samples_then l (length old) s rest)) e
     ∙ ap (after old) (samples-append l (length old) xs ys rest)
     ∙ step (samples_then l (length old + length xs) ys rest)
     ∙ ap (λ (k : ℕ). after new (samples_then l k ys rest)) (sym long)
 
-pub chunk-refused : (l : Limits) (old xs ys all : List ℕ) (fault : RasterFault) → all ≡ xs ++ ys → Refuses l old xs fault → Refuses l old all fault
+pub chunk-refused : (l : Limits) (old xs ys all : List ℕ) (fault : RasterFault) → all ≡ xs ++ ys →
+    Refuses l old xs fault → Refuses l old all fault
 chunk-refused l old xs ys all fault e step rest =
     ap (λ (s : List ℕ). after old (samples_then l (length old) s rest)) e
     ∙ ap (after old) (samples-append l (length old) xs ys rest)
@@ -89,7 +112,9 @@ chunk-refused l old xs ys all fault e step rest =
 
 -- ---- bytes that are a sample each
 
-pub bytes-samples : (l : Limits) (index at : ℕ) (bytes more : List ℕ) → index + length bytes ≤ l.count → bytes_from l index at (bytes ++ more) ≡ samples_then l index bytes (bytes_from l (index + length bytes) (at + length bytes) more)
+pub bytes-samples : (l : Limits) (index at : ℕ) (bytes more : List ℕ) → index + length bytes ≤ l.count →
+    bytes_from l index at (bytes ++ more)
+    ≡ samples_then l index bytes (bytes_from l (index + length bytes) (at + length bytes) more)
 bytes-samples l index at [] more room =
     let e : index ≡ index + 0 = omega arith in
     let f : at ≡ at + 0 = omega arith in
@@ -98,24 +123,30 @@ bytes-samples l index at (byte ∷ bytes) more room =
     let e : index + 1 + length bytes ≡ index + suc (length bytes) = omega arith in
     let f : at + 1 + length bytes ≡ at + suc (length bytes) = omega arith in
     cond-true _ _ _ (lt-ltb index l.count (omega arith))
-    ∙ ap (sample_then l index byte) (bytes-samples l (index + 1) (at + 1) bytes more (omega arith) ∙ ap₂ (λ (i : ℕ) (p : ℕ). samples_then l (index + 1) bytes (bytes_from l i p more)) e f)
+    ∙ ap (sample_then l index byte) (bytes-samples l (index + 1) (at + 1) bytes more (omega arith)
+    ∙ ap₂ (λ (i : ℕ) (p : ℕ). samples_then l (index + 1) bytes (bytes_from l i p more)) e f)
 
-pub bytes-full : (l : Limits) (index at : ℕ) (bytes more : List ℕ) → l.count ≤ index → 0 < length bytes → bytes_from l index at (bytes ++ more) ≡ Err (Trailing at)
+pub bytes-full : (l : Limits) (index at : ℕ) (bytes more : List ℕ) → l.count ≤ index → 0 < length bytes →
+    bytes_from l index at (bytes ++ more) ≡ Err (Trailing at)
 bytes-full l index at [] more full some = absurd (omega arith)
 bytes-full l index at (byte ∷ bytes) more full some = cond-false _ _ _ (le-ltb index l.count full)
 
 -- a prefix of a piece was added
-pub bytes-front : (l : Limits) (old new piece : List ℕ) (at n : ℕ) → n ≤ length piece → length old + n ≤ l.count → Pushes l old (take n piece) new → length new ≡ length old + n → (more : List ℕ)
-    → after old (bytes_from l (length old) at (piece ++ more)) ≡ after new (bytes_from l (length new) (at + n) (drop n piece ++ more))
+pub bytes-front : (l : Limits) (old new piece : List ℕ) (at n : ℕ) → n ≤ length piece → length old + n ≤ l.count →
+    Pushes l old (take n piece) new → length new ≡ length old + n → (more : List ℕ)
+    → after old (bytes_from l (length old) at (piece ++ more))
+    ≡ after new (bytes_from l (length new) (at + n) (drop n piece ++ more))
 bytes-front l old new piece at n short room step long more =
     let size : length (take n piece) ≡ n = length-take-le n piece short in
     ap (λ (s : List ℕ). after old (bytes_from l (length old) at (s ++ more))) (sym (take-append-drop n piece))
     ∙ ap (λ (s : List ℕ). after old (bytes_from l (length old) at s)) (append_assoc (take n piece) (drop n piece) more)
     ∙ ap (after old) (bytes-samples l (length old) at (take n piece) (drop n piece ++ more) (omega arith))
     ∙ step (bytes_from l (length old + length (take n piece)) (at + length (take n piece)) (drop n piece ++ more))
-    ∙ ap₂ (λ (i : ℕ) (p : ℕ). after new (bytes_from l i p (drop n piece ++ more))) (ap (λ (k : ℕ). length old + k) size ∙ sym long) (ap (λ (k : ℕ). at + k) size)
+    ∙ ap₂ (λ (i : ℕ) (p : ℕ). after new (bytes_from l i p (drop n piece ++ more))) (ap (λ (k : ℕ). length old + k) size
+    ∙ sym long) (ap (λ (k : ℕ). at + k) size)
 
-pub bytes-front-refused : (l : Limits) (old piece : List ℕ) (at n : ℕ) (fault : RasterFault) → n ≤ length piece → length old + n ≤ l.count → Refuses l old (take n piece) fault → (more : List ℕ)
+pub bytes-front-refused : (l : Limits) (old piece : List ℕ) (at n : ℕ) (fault : RasterFault) → n ≤ length piece →
+    length old + n ≤ l.count → Refuses l old (take n piece) fault → (more : List ℕ)
     → after old (bytes_from l (length old) at (piece ++ more)) ≡ Err fault
 bytes-front-refused l old piece at n fault short room step more =
     let size : length (take n piece) ≡ n = length-take-le n piece short in
@@ -126,7 +157,9 @@ bytes-front-refused l old piece at n fault short room step more =
 
 -- ---- bytes, two of which are a sample
 
-pub words-samples : (l : Limits) (index at : ℕ) (bytes more : List ℕ) (k : ℕ) → length bytes ≡ 2 * k → index + k ≤ l.count → words_from l index None at (bytes ++ more) ≡ samples_then l index (words_of bytes) (words_from l (index + k) None (at + length bytes) more)
+pub words-samples : (l : Limits) (index at : ℕ) (bytes more : List ℕ) (k : ℕ) → length bytes ≡ 2 * k →
+    index + k ≤ l.count → words_from l index None at (bytes ++ more)
+    ≡ samples_then l index (words_of bytes) (words_from l (index + k) None (at + length bytes) more)
 words-samples l index at [] more k even room =
     let e : index ≡ index + k = omega arith in
     let f : at ≡ at + 0 = omega arith in
@@ -137,81 +170,114 @@ words-samples l index at (high ∷ low ∷ bytes) more (suc k) even room =
     let e : index + 1 + k ≡ index + suc k = omega arith in
     let f : at + 1 + 1 + length bytes ≡ at + suc (suc (length bytes)) = omega arith in
     cond-true _ _ _ (lt-ltb index l.count (omega arith))
-    ∙ ap (sample_then l index (256 * high + low)) (words-samples l (index + 1) (at + 1 + 1) bytes more k (omega arith) (omega arith) ∙ ap₂ (λ (i : ℕ) (p : ℕ). samples_then l (index + 1) (words_of bytes) (words_from l i None p more)) e f)
+    ∙ ap (sample_then l index (256 * high + low))
+    (words-samples l (index + 1) (at + 1 + 1) bytes more k (omega arith) (omega arith)
+    ∙ ap₂ (λ (i : ℕ) (p : ℕ). samples_then l (index + 1) (words_of bytes) (words_from l i None p more)) e f)
 
-pub words-full : (l : Limits) (index at : ℕ) (bytes more : List ℕ) → l.count ≤ index → 0 < length bytes → words_from l index None at (bytes ++ more) ≡ Err (Trailing at)
+pub words-full : (l : Limits) (index at : ℕ) (bytes more : List ℕ) → l.count ≤ index → 0 < length bytes →
+    words_from l index None at (bytes ++ more) ≡ Err (Trailing at)
 words-full l index at [] more full some = absurd (omega arith)
 words-full l index at (byte ∷ bytes) more full some = cond-false _ _ _ (le-ltb index l.count full)
 
-pub words-half : (l : Limits) (index at byte : ℕ) (more : List ℕ) → index < l.count → words_from l index None at (byte ∷ more) ≡ words_from l index (Some byte) (at + 1) more
+pub words-half : (l : Limits) (index at byte : ℕ) (more : List ℕ) → index < l.count →
+    words_from l index None at (byte ∷ more) ≡ words_from l index (Some byte) (at + 1) more
 words-half l index at byte more wanted = cond-true _ _ _ (lt-ltb index l.count wanted)
 
-pub words-front : (l : Limits) (old new piece : List ℕ) (at k : ℕ) → 2 * k ≤ length piece → length old + k ≤ l.count → Pushes l old (words_of (take (2 * k) piece)) new → length new ≡ length old + k → (more : List ℕ)
-    → after old (words_from l (length old) None at (piece ++ more)) ≡ after new (words_from l (length new) None (at + 2 * k) (drop (2 * k) piece ++ more))
+pub words-front : (l : Limits) (old new piece : List ℕ) (at k : ℕ) → 2 * k ≤ length piece → length old + k ≤ l.count →
+    Pushes l old (words_of (take (2 * k) piece)) new → length new ≡ length old + k → (more : List ℕ)
+    → after old (words_from l (length old) None at (piece ++ more))
+    ≡ after new (words_from l (length new) None (at + 2 * k) (drop (2 * k) piece ++ more))
 words-front l old new piece at k short room step long more =
     let size : length (take (2 * k) piece) ≡ 2 * k = length-take-le (2 * k) piece short in
-    ap (λ (s : List ℕ). after old (words_from l (length old) None at (s ++ more))) (sym (take-append-drop (2 * k) piece))
-    ∙ ap (λ (s : List ℕ). after old (words_from l (length old) None at s)) (append_assoc (take (2 * k) piece) (drop (2 * k) piece) more)
+    ap (λ (s : List ℕ). after old (words_from l (length old) None at (s ++ more)))
+    (sym (take-append-drop (2 * k) piece))
+    ∙ ap (λ (s : List ℕ). after old (words_from l (length old) None at s))
+    (append_assoc (take (2 * k) piece) (drop (2 * k) piece) more)
     ∙ ap (after old) (words-samples l (length old) at (take (2 * k) piece) (drop (2 * k) piece ++ more) k size room)
     ∙ step (words_from l (length old + k) None (at + length (take (2 * k) piece)) (drop (2 * k) piece ++ more))
-    ∙ ap₂ (λ (i : ℕ) (p : ℕ). after new (words_from l i None p (drop (2 * k) piece ++ more))) (sym long) (ap (λ (n : ℕ). at + n) size)
+    ∙ ap₂ (λ (i : ℕ) (p : ℕ). after new (words_from l i None p (drop (2 * k) piece ++ more))) (sym long)
+    (ap (λ (n : ℕ). at + n) size)
 
-pub words-front-refused : (l : Limits) (old piece : List ℕ) (at k : ℕ) (fault : RasterFault) → 2 * k ≤ length piece → length old + k ≤ l.count → Refuses l old (words_of (take (2 * k) piece)) fault → (more : List ℕ)
+pub words-front-refused : (l : Limits) (old piece : List ℕ) (at k : ℕ) (fault : RasterFault) → 2 * k ≤ length piece →
+    length old + k ≤ l.count → Refuses l old (words_of (take (2 * k) piece)) fault → (more : List ℕ)
     → after old (words_from l (length old) None at (piece ++ more)) ≡ Err fault
 words-front-refused l old piece at k fault short room step more =
     let size : length (take (2 * k) piece) ≡ 2 * k = length-take-le (2 * k) piece short in
-    ap (λ (s : List ℕ). after old (words_from l (length old) None at (s ++ more))) (sym (take-append-drop (2 * k) piece))
-    ∙ ap (λ (s : List ℕ). after old (words_from l (length old) None at s)) (append_assoc (take (2 * k) piece) (drop (2 * k) piece) more)
+    ap (λ (s : List ℕ). after old (words_from l (length old) None at (s ++ more)))
+    (sym (take-append-drop (2 * k) piece))
+    ∙ ap (λ (s : List ℕ). after old (words_from l (length old) None at s))
+    (append_assoc (take (2 * k) piece) (drop (2 * k) piece) more)
     ∙ ap (after old) (words-samples l (length old) at (take (2 * k) piece) (drop (2 * k) piece ++ more) k size room)
     ∙ step (words_from l (length old + k) None (at + length (take (2 * k) piece)) (drop (2 * k) piece ++ more))
 
 -- ---- how a piece ends
 
-pub bytes-taken : (l : Limits) (old new piece front : List ℕ) (at n : ℕ) → front ≡ take n piece → n ≡ length piece → length old + n ≤ l.count → Pushes l old front new → length new ≡ length old + n → (more : List ℕ)
-    → after old (bytes_from l (length old) at (piece ++ more)) ≡ after new (bytes_from l (length new) (at + length piece) more)
+pub bytes-taken : (l : Limits) (old new piece front : List ℕ) (at n : ℕ) → front ≡ take n piece → n ≡ length piece →
+    length old + n ≤ l.count → Pushes l old front new → length new ≡ length old + n → (more : List ℕ)
+    → after old (bytes_from l (length old) at (piece ++ more))
+    ≡ after new (bytes_from l (length new) (at + length piece) more)
 bytes-taken l old new piece front at n f e room step long more =
     let none : drop n piece ≡ [] = drop_all n piece (omega arith) in
     bytes-front l old new piece at n (omega arith) room (subst (λ (s : List ℕ). Pushes l old s new) f step) long more
     ∙ ap₂ (λ (p : ℕ) (s : List ℕ). after new (bytes_from l (length new) (at + p) (s ++ more))) e none
 
-pub bytes-trailing : (l : Limits) (old new piece front : List ℕ) (at n m : ℕ) → front ≡ take n piece → n < length piece → length old + n ≡ l.count → Pushes l old front new → length new ≡ length old + n → m ≡ n → (more : List ℕ)
+pub bytes-trailing : (l : Limits) (old new piece front : List ℕ) (at n m : ℕ) → front ≡ take n piece →
+    n < length piece → length old + n ≡ l.count → Pushes l old front new →
+    length new ≡ length old + n → m ≡ n → (more : List ℕ)
     → after old (bytes_from l (length old) at (piece ++ more)) ≡ Err (Trailing (at + m))
 bytes-trailing l old new piece front at n m f e room step long same more =
-    bytes-front l old new piece at n (omega arith) (omega arith) (subst (λ (s : List ℕ). Pushes l old s new) f step) long more
-    ∙ ap (after new) (bytes-full l (length new) (at + n) (drop n piece) more (omega arith) (omega (arith, length-drop n piece)))
+    bytes-front l old new piece at n (omega arith) (omega arith)
+    (subst (λ (s : List ℕ). Pushes l old s new) f step) long more
+    ∙ ap (after new) (bytes-full l (length new) (at + n) (drop n piece) more (omega arith)
+    (omega (arith, length-drop n piece)))
     ∙ ap (λ (k : ℕ). let r : RasterAnswer = Err (Trailing (at + k)) in r) (sym same)
 
-pub words-taken : (l : Limits) (old new piece front : List ℕ) (at k : ℕ) → front ≡ take (2 * k) piece → 2 * k ≡ length piece → length old + k ≤ l.count → Pushes l old (words_of front) new → length new ≡ length old + k → (more : List ℕ)
-    → after old (words_from l (length old) None at (piece ++ more)) ≡ after new (words_from l (length new) None (at + length piece) more)
+pub words-taken : (l : Limits) (old new piece front : List ℕ) (at k : ℕ) → front ≡ take (2 * k) piece →
+    2 * k ≡ length piece → length old + k ≤ l.count → Pushes l old (words_of front) new →
+    length new ≡ length old + k → (more : List ℕ)
+    → after old (words_from l (length old) None at (piece ++ more))
+    ≡ after new (words_from l (length new) None (at + length piece) more)
 words-taken l old new piece front at k f e room step long more =
     let none : drop (2 * k) piece ≡ [] = drop_all (2 * k) piece (omega arith) in
-    words-front l old new piece at k (omega arith) room (subst (λ (s : List ℕ). Pushes l old (words_of s) new) f step) long more
+    words-front l old new piece at k (omega arith) room
+    (subst (λ (s : List ℕ). Pushes l old (words_of s) new) f step) long more
     ∙ ap₂ (λ (p : ℕ) (s : List ℕ). after new (words_from l (length new) None (at + p) (s ++ more))) e none
 
-pub words-cut_half : (l : Limits) (old new piece front back : List ℕ) (at k : ℕ) → front ≡ take (2 * k) piece → back ≡ drop (2 * k) piece → 2 * k + 1 ≡ length piece → length old + k < l.count → Pushes l old (words_of front) new → length new ≡ length old + k → (more : List ℕ)
-    → after old (words_from l (length old) None at (piece ++ more)) ≡ after new (words_from l (length new) (Some (get_or back 0 0)) (at + length piece) more)
+pub words-cut_half : (l : Limits) (old new piece front back : List ℕ) (at k : ℕ) → front ≡ take (2 * k) piece →
+    back ≡ drop (2 * k) piece → 2 * k + 1 ≡ length piece → length old + k < l.count →
+    Pushes l old (words_of front) new → length new ≡ length old + k → (more : List ℕ)
+    → after old (words_from l (length old) None at (piece ++ more))
+    ≡ after new (words_from l (length new) (Some (get_or back 0 0)) (at + length piece) more)
 words-cut_half l old new piece front back at k f b e room step long more =
     let one : length back ≡ 1 = ap length b ∙ length-drop (2 * k) piece ∙ omega arith in
     let rest : drop (2 * k) piece ≡ get_or back 0 0 ∷ [] = sym b ∙ one-entry back one in
     let place : at + 2 * k + 1 ≡ at + length piece = omega arith in
-    words-front l old new piece at k (omega arith) (omega arith) (subst (λ (s : List ℕ). Pushes l old (words_of s) new) f step) long more
+    words-front l old new piece at k (omega arith) (omega arith)
+    (subst (λ (s : List ℕ). Pushes l old (words_of s) new) f step) long more
     ∙ ap (λ (s : List ℕ). after new (words_from l (length new) None (at + 2 * k) (s ++ more))) rest
     ∙ ap (after new) (words-half l (length new) (at + 2 * k) (get_or back 0 0) more (omega arith))
     ∙ ap (λ (p : ℕ). after new (words_from l (length new) (Some (get_or back 0 0)) p more)) place
 
-pub words-trailing : (l : Limits) (old new piece front : List ℕ) (at k m : ℕ) → front ≡ take (2 * k) piece → 2 * k < length piece → length old + k ≡ l.count → Pushes l old (words_of front) new → length new ≡ length old + k → m ≡ 2 * k → (more : List ℕ)
+pub words-trailing : (l : Limits) (old new piece front : List ℕ) (at k m : ℕ) → front ≡ take (2 * k) piece →
+    2 * k < length piece → length old + k ≡ l.count → Pushes l old (words_of front) new → length new ≡ length old + k →
+    m ≡ 2 * k → (more : List ℕ)
     → after old (words_from l (length old) None at (piece ++ more)) ≡ Err (Trailing (at + m))
 words-trailing l old new piece front at k m f e room step long same more =
-    words-front l old new piece at k (omega arith) (omega arith) (subst (λ (s : List ℕ). Pushes l old (words_of s) new) f step) long more
-    ∙ ap (after new) (words-full l (length new) (at + 2 * k) (drop (2 * k) piece) more (omega arith) (omega (arith, length-drop (2 * k) piece)))
+    words-front l old new piece at k (omega arith) (omega arith)
+    (subst (λ (s : List ℕ). Pushes l old (words_of s) new) f step) long more
+    ∙ ap (after new) (words-full l (length new) (at + 2 * k) (drop (2 * k) piece) more (omega arith)
+    (omega (arith, length-drop (2 * k) piece)))
     ∙ ap (λ (p : ℕ). let r : RasterAnswer = Err (Trailing (at + p)) in r) (sym same)
 
 -- what is left of all samples, when some were added
 abbrev pub Left : Limits → List ℕ → List ℕ → List ℕ → List ℕ → Type 0
-Left l old all new left = (rest : RasterAnswer) → after old (samples_then l (length old) all rest) ≡ after new (samples_then l (length new) left rest)
+Left l old all new left =
+    (rest : RasterAnswer) →
+    after old (samples_then l (length old) all rest) ≡ after new (samples_then l (length new) left rest)
 
 -- ---- a refusal that is passed on
 
-pub passed_on : {T : Type 0} → (r : Result T RasterFault) (f : RasterFault) (P : RasterFault → Type 0) → IsErrAnd r (λ e. e ≡ f) → P f → IfErr r P
+pub passed_on : {T : Type 0} → (r : Result T RasterFault) (f : RasterFault) (P : RasterFault → Type 0) →
+    IsErrAnd r (λ e. e ≡ f) → P f → IfErr r P
 passed_on (Ok x) f P same h = absurd same
 passed_on (Err e) f P same h = subst P (sym same) h

@@ -4,12 +4,14 @@
 -- Words: most_bytes, RasterAnswer, after, sample_then, samples_then, end_at, bytes_from, words_from,
 -- no_digits, with_digit, ended_then, plain_from, rest_of, reads, nothing_of, raster_of, RasterProgress, resume_raster,
 -- next_place, refusal_of, RasterStaysRefused.
-use Rattle.std.specs.Prelude.{◌≡◌, ℕ, ◌+◌, ◌-◌, ◌*◌, ◌&&◌, cond, List, [], ◌∷◌, ◌++◌, length, Option, Some, None, Result, Ok, Err, nat_eq, nat_lt}
+use Rattle.std.specs.Prelude.{◌≡◌, ℕ, ◌+◌, ◌-◌, ◌*◌, ◌&&◌, cond, List, [], ◌∷◌, ◌++◌, length, Option, Some, None}
+use Rattle.std.specs.Prelude.{Result, Ok, Err, nat_eq, nat_lt}
 use Rattle.std.specs.Char.{is_ascii_digit}
 use Rattle.pgm_raster.specs.declared.plain.TheConstants.{MOST_BYTES}
 use Rattle.text_laws.specs.Blanks.{is_white}
 use Rattle.pgm_raster.specs.declared.fault.RasterFault.{RasterFault}
-use Rattle.pgm_raster.specs.declared.fault.RasterFault.TheVariants.{BadSample, AboveMaxval, Trailing, Truncated, TooLong}
+use Rattle.pgm_raster.specs.declared.fault.RasterFault.TheVariants.{BadSample, AboveMaxval, Trailing, Truncated}
+use Rattle.pgm_raster.specs.declared.fault.RasterFault.TheVariants.{TooLong}
 use Rattle.pgm_raster.specs.declared.form.RasterForm.{RasterForm}
 use Rattle.pgm_raster.specs.declared.form.RasterForm.TheVariants as form
 use Rattle.pgm_raster.specs.declared.part.Limits.{Limits}
@@ -46,13 +48,16 @@ samples_then l index (sample ∷ samples) rest = sample_then l index sample (sam
 -- Raw, one byte a sample: the bytes from place `at` on, behind so many samples.
 abbrev pub bytes_from : Limits → ℕ → ℕ → List ℕ → RasterAnswer
 bytes_from l index at [] = end_at l index
-bytes_from l index at (byte ∷ more) = cond (nat_lt index l.count) (sample_then l index byte (bytes_from l (index + 1) (at + 1) more)) (Err (Trailing at))
+bytes_from l index at (byte ∷ more) =
+    cond (nat_lt index l.count) (sample_then l index byte (bytes_from l (index + 1) (at + 1) more)) (Err (Trailing at))
 
 -- Raw, two bytes a sample: the same, where `high` is the first byte of a sample that is not whole.
 abbrev pub words_from : Limits → ℕ → Option ℕ → ℕ → List ℕ → RasterAnswer
 words_from l index high at [] = end_at l index
-words_from l index None at (byte ∷ more) = cond (nat_lt index l.count) (words_from l index (Some byte) (at + 1) more) (Err (Trailing at))
-words_from l index (Some high) at (byte ∷ more) = sample_then l index (256 * high + byte) (words_from l (index + 1) None (at + 1) more)
+words_from l index None at (byte ∷ more) =
+    cond (nat_lt index l.count) (words_from l index (Some byte) (at + 1) more) (Err (Trailing at))
+words_from l index (Some high) at (byte ∷ more) =
+    sample_then l index (256 * high + byte) (words_from l (index + 1) None (at + 1) more)
 
 -- no digit of a sample has come
 abbrev pub no_digits : Digits
@@ -64,7 +69,8 @@ with_digit digits byte = record { count = digits.count + 1; value = 10 * digits.
 
 -- the digits, if there are any, are ended: what comes of the rest behind so many samples
 abbrev pub ended_then : Limits → ℕ → Digits → (ℕ → RasterAnswer) → RasterAnswer
-ended_then l index digits rest = cond (nat_eq digits.count 0) (rest index) (sample_then l index digits.value (rest (index + 1)))
+ended_then l index digits rest =
+    cond (nat_eq digits.count 0) (rest index) (sample_then l index digits.value (rest (index + 1)))
 
 -- Plain: the same, where `digits` are those of a sample that is not ended. The bytes of a raw raster end
 -- long before the most that a file has, those of a plain one need not.
@@ -74,7 +80,8 @@ plain_from l index digits at (byte ∷ more) =
     cond (nat_eq at most_bytes) (Err TooLong)
     (cond (is_white byte) (ended_then l index digits (λ i. plain_from l i no_digits (at + 1) more))
     (cond (nat_lt index l.count)
-    (cond (is_ascii_digit byte && nat_lt digits.count 9) (plain_from l index (with_digit digits byte) (at + 1) more) (Err (BadSample at)))
+    (cond (is_ascii_digit byte && nat_lt digits.count 9)
+    (plain_from l index (with_digit digits byte) (at + 1) more) (Err (BadSample at)))
     (Err (Trailing at))))
 
 -- the bytes from place `at` on, behind so many samples and a part of the next

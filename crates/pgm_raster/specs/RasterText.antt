@@ -28,7 +28,8 @@ IsTextOfSample form.Plain text sample = IsSampleText text sample
 -- the texts of samples, a whitespace byte behind each, and any whitespace before and behind
 abbrev pub AreEndedTexts : List ℕ → List ℕ → Type 0
 AreEndedTexts [] bytes = All IsWhite bytes
-AreEndedTexts (sample ∷ samples) bytes = (gap : List ℕ) × (text : List ℕ) × (space : ℕ) × (rest : List ℕ) × (bytes ≡ gap ++ (text ++ space ∷ rest))
+AreEndedTexts (sample ∷ samples) bytes =
+    (gap : List ℕ) × (text : List ℕ) × (space : ℕ) × (rest : List ℕ) × (bytes ≡ gap ++ (text ++ space ∷ rest))
     × All IsWhite gap × IsSampleText text sample × IsWhite space × AreEndedTexts samples rest
 
 -- the bytes are these samples, each of them ended
@@ -39,7 +40,9 @@ AreEnded form.Plain samples bytes = AreEndedTexts samples bytes
 
 -- the text of the last sample stands at the end of the file, with no whitespace behind it
 abbrev pub HasOpenEnd : List ℕ → List ℕ → Type 0
-HasOpenEnd samples bytes = (before : List ℕ) × (last : ℕ) × (front : List ℕ) × (text : List ℕ) × (samples ≡ before ++ last ∷ []) × (bytes ≡ front ++ text)
+HasOpenEnd samples bytes =
+    (before : List ℕ) × (last : ℕ) × (front : List ℕ) × (text : List ℕ) × (samples ≡ before ++ last ∷ [])
+    × (bytes ≡ front ++ text)
     × AreEndedTexts before front × IsSampleText text last
 
 -- the bytes are a raster of these samples: in the plain form whitespace may stand behind the last or not

@@ -38,7 +38,8 @@ IsRasterPlace l index (part.Plain digits) at = at ≤ MOST_BYTES
 
 -- the fields of a reader that has refused no byte agree
 abbrev pub IsRasterReader : Option RasterFault → Limits → Vec ℕ Global → Part → ℕ → Type 0
-IsRasterReader None l heights part at = HasSampleRoom l heights × IsPart l (vec_len heights) part × IsRasterPlace l (vec_len heights) part at
+IsRasterReader None l heights part at =
+    HasSampleRoom l heights × IsPart l (vec_len heights) part × IsRasterPlace l (vec_len heights) part at
 IsRasterReader (Some fault) l heights part at = ⊤
 
 -- what a reader has come to that has refused no byte, or this one

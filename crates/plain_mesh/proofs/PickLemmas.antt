@@ -1,5 +1,7 @@
 -- Picking what has a positive priority, and sorting it.
-use Rattle.std.proofs.Common.{◌≡◌, true, ℕ, zero, suc, ◌+◌, ◌-◌, ◌*◌, ◌^◌, ◌<◌, ◌≤◌, ◌⊎◌, inl, inr, ◌↔◌, false, cond, eqb, ltb, ltb-true, lt-ltb, List, [], ◌∷◌, ◌++◌, map, get_or, All, AllPairs, refl, sym, ◌∙◌, ap, subst, arith, ⊎_elim, count_by, eq-eqb}
+use Rattle.std.proofs.Common.{◌≡◌, true, ℕ, zero, suc, ◌+◌, ◌-◌, ◌*◌, ◌^◌, ◌<◌, ◌≤◌, ◌⊎◌, inl, inr, ◌↔◌, false, cond}
+use Rattle.std.proofs.Common.{eqb, ltb, ltb-true, lt-ltb, List, [], ◌∷◌, ◌++◌, map, get_or, All, AllPairs, refl, sym}
+use Rattle.std.proofs.Common.{◌∙◌, ap, subst, arith, ⊎_elim, count_by, eq-eqb}
 use Rattle.std.proofs.lemmas.Bool.{cases_lt, cases_Bool, eqb-true, false≢true}
 use Rattle.std.proofs.lemmas.List.Elements.{All-nil, All-head, All-tail, All-push}
 use Rattle.std.proofs.lemmas.List.Kept.{AllPairs-cons}
@@ -40,16 +42,19 @@ IsPicked-nothing priority ranks e = subst (λ (l : List Rank). IsPicked priority
 }
 
 -- one more at the end
-count-push : (a : ℕ) (ranks : List Rank) (r : Rank) → count_of a (ranked_triangles (ranks ++ r ∷ [])) ≡ count_of a (ranked_triangles ranks) + one_if (eqb r.tri a)
+count-push : (a : ℕ) (ranks : List Rank) (r : Rank) →
+    count_of a (ranked_triangles (ranks ++ r ∷ [])) ≡ count_of a (ranked_triangles ranks) + one_if (eqb r.tri a)
 count-push a [] r = let c = count-cons (λ t. eqb t a) r.tri [] in omega arith
 count-push a (x ∷ ranks) r =
     let c = count-cons (λ t. eqb t a) x.tri (ranked_triangles (ranks ++ r ∷ [])) in
     let d = count-cons (λ t. eqb t a) x.tri (ranked_triangles ranks) in
-    let e : count_of a (ranked_triangles (ranks ++ r ∷ [])) ≡ count_of a (ranked_triangles ranks) + one_if (eqb r.tri a) = count-push a ranks r in
+    let e : count_of a (ranked_triangles (ranks ++ r ∷ []))
+    ≡ count_of a (ranked_triangles ranks) + one_if (eqb r.tri a) = count-push a ranks r in
     omega arith
 
 -- the next address, if it has a positive priority
-pub IsPicked-push : (priority : ℕ → ℕ) (b : ℕ) (ranks : List Rank) (r : Rank) → IsPicked priority b ranks → 2 ≤ b → r.tri ≡ b → r.p ≡ priority b → 0 < r.p →
+pub IsPicked-push : (priority : ℕ → ℕ) (b : ℕ) (ranks : List Rank) (r : Rank) → IsPicked priority b ranks → 2 ≤ b →
+    r.tri ≡ b → r.p ≡ priority b → 0 < r.p →
     IsPicked priority (b + 1) (ranks ++ r ∷ [])
 IsPicked-push priority b ranks r p low is value some = record {
   valued = All-push (λ (x : Rank). x.p ≡ priority x.tri) ranks r p.valued (value ∙ sym (ap priority is));
@@ -82,12 +87,15 @@ IsPicked-push priority b ranks r p low is value some = record {
         (cases_Bool (eqb r.tri a))
 
 -- and it is left out, if it has none
-pub IsPicked-skip : (priority : ℕ → ℕ) (b : ℕ) (ranks : List Rank) → IsPicked priority b ranks → priority b ≤ 0 → IsPicked priority (b + 1) ranks
+pub IsPicked-skip : (priority : ℕ → ℕ) (b : ℕ) (ranks : List Rank) → IsPicked priority b ranks → priority b ≤ 0 →
+    IsPicked priority (b + 1) ranks
 IsPicked-skip priority b ranks p none = record {
   valued = p.valued;
   once = λ a low below positive. ⊎_elim
       (λ (less : a < b). p.once a low less positive)
-      (λ (last : b ≤ a). let e : priority b ≡ priority a = ap priority (let f : b ≡ a = omega arith in f) in absurd (omega arith))
+      (λ (last : b ≤ a).
+      let e : priority b ≡ priority a = ap priority (let f : b ≡ a = omega arith in f) in
+      absurd (omega arith))
       (cases_lt a b);
   only = λ a counted. let old = p.only a counted in (old.0, (let o = old.1 in omega arith), old.2);
 }
@@ -95,18 +103,21 @@ IsPicked-skip priority b ranks p none = record {
 -- counting
 
 -- the next address counts, if it has a positive priority
-pub positives-more : (priority : ℕ → ℕ) (b : ℕ) → 2 ≤ b → positives_below priority (b + 1) ≡ positives_below priority b + one_if (ltb 0 (priority b))
+pub positives-more : (priority : ℕ → ℕ) (b : ℕ) → 2 ≤ b →
+    positives_below priority (b + 1) ≡ positives_below priority b + one_if (ltb 0 (priority b))
 positives-more priority b low =
     let more : b + 1 - 2 ≡ (b - 2) + 1 = omega arith in
     ap (λ k. count_by (λ p. ltb 0 p) (map priority (range_with_len 2 k))) more
     ∙ sum_by-map-range_with_len_more (λ p. one_if (ltb 0 p)) priority 2 (b - 2) b (omega arith)
 
-pub positives-yes : (priority : ℕ → ℕ) (b count : ℕ) → 2 ≤ b → count ≡ positives_below priority b → 0 < priority b → count + 1 ≡ positives_below priority (b + 1)
+pub positives-yes : (priority : ℕ → ℕ) (b count : ℕ) → 2 ≤ b → count ≡ positives_below priority b → 0 < priority b →
+    count + 1 ≡ positives_below priority (b + 1)
 positives-yes priority b count low e some =
     let one : one_if (ltb 0 (priority b)) ≡ 1 = ap one_if (lt-ltb 0 (priority b) some) in
     let more = positives-more priority b low in omega arith
 
-pub positives-no : (priority : ℕ → ℕ) (b count : ℕ) → 2 ≤ b → count ≡ positives_below priority b → priority b ≤ 0 → count ≡ positives_below priority (b + 1)
+pub positives-no : (priority : ℕ → ℕ) (b count : ℕ) → 2 ≤ b → count ≡ positives_below priority b → priority b ≤ 0 →
+    count ≡ positives_below priority (b + 1)
 positives-no priority b count low e none =
     let zero_is : one_if (ltb 0 (priority b)) ≡ 0 = ap one_if (not_lt 0 (priority b) none) in
     let more = positives-more priority b low in omega arith
@@ -126,14 +137,16 @@ not_less Equal A B C m e = inl m
 not_less Greater A B C m e = inr m
 
 -- rank order is transitive
-before-trans : (priority : ℕ → ℕ) (a b c : ℕ) → RanksBefore priority a b → RanksBefore priority b c → RanksBefore priority a c
+before-trans : (priority : ℕ → ℕ) (a b c : ℕ) → RanksBefore priority a b → RanksBefore priority b c →
+    RanksBefore priority a c
 before-trans priority a b c (inl h) (inl k) = inl (omega arith)
 before-trans priority a b c (inl h) (inr k) = inl (omega arith)
 before-trans priority a b c (inr h) (inl k) = inl (omega arith)
 before-trans priority a b c (inr h) (inr k) = inr (omega arith, omega arith)
 
 -- the order of ranks is that of their triangles
-before-ranks : (priority : ℕ → ℕ) (r s : Rank) → r.p ≡ priority r.tri → s.p ≡ priority s.tri → ComesFirst r s → RanksBefore priority r.tri s.tri
+before-ranks : (priority : ℕ → ℕ) (r s : Rank) → r.p ≡ priority r.tri → s.p ≡ priority s.tri → ComesFirst r s →
+    RanksBefore priority r.tri s.tri
 before-ranks priority r s e f (inl h) = inl (omega arith)
 before-ranks priority r s e f (inr h) = inr (omega arith, h.1)
 
@@ -157,7 +170,8 @@ ordered-sorted priority (x ∷ (y ∷ zs)) cases up valued once =
     tail_up : IsSorted rank_cmp (y ∷ zs)
     tail_up k d low h =
         let e : suc k + 1 ≡ suc (k + 1) = omega arith in
-        subst (λ z. is_lt (rank_cmp (get_or (x ∷ (y ∷ zs)) z d) (get_or (y ∷ zs) k d)) ≡ false) e (up (suc k) d (omega arith) (omega arith))
+        subst (λ z. is_lt (rank_cmp (get_or (x ∷ (y ∷ zs)) z d) (get_or (y ∷ zs) k d)) ≡ false) e
+        (up (suc k) d (omega arith) (omega arith))
 
     tail_once : (a : ℕ) → count_of a (ranked_triangles (y ∷ zs)) ≤ 1
     tail_once a =
@@ -177,32 +191,38 @@ ordered-sorted priority (x ∷ (y ∷ zs)) cases up valued once =
         (λ (before : ComesFirst x y). before-ranks priority x y
         (All-head (λ (r : Rank). r.p ≡ priority r.tri) x (y ∷ zs) valued)
         (All-head (λ (r : Rank). r.p ≡ priority r.tri) y zs tail_valued) before)
-        (not_less (rank_cmp y x) (ComesFirst y x) (y ≡ x) (ComesFirst x y) (cases y x) (up 0 x (omega arith) (omega arith)))
+        (not_less (rank_cmp y x) (ComesFirst y x) (y ≡ x) (ComesFirst x y) (cases y x)
+        (up 0 x (omega arith) (omega arith)))
 
-    follow : AllPairs (RanksBefore priority) (ranked_triangles (y ∷ zs)) → All (RanksBefore priority x.tri) (ranked_triangles (y ∷ zs))
+    follow : AllPairs (RanksBefore priority) (ranked_triangles (y ∷ zs)) →
+        All (RanksBefore priority x.tri) (ranked_triangles (y ∷ zs))
     follow rest zero d h = first
     follow rest (suc k) d h =
-        before-trans priority x.tri y.tri (get_or (ranked_triangles zs) k d) first (rest zero (suc k) d (omega arith) (omega arith))
+        before-trans priority x.tri y.tri (get_or (ranked_triangles zs) k d) first
+        (rest zero (suc k) d (omega arith) (omega arith))
 
 -- the ranking
 
 -- what is picked below the first finest address is the ranking, once it is sorted
 pub IsRanked-sorted : (n : ℕ) (priority : ℕ → ℕ) (ranks sorted : List Rank) → Compares →
     ((a k : ℕ) → 2 ≤ a → (level_of a < k) ↔ (a < 2 ^ (k + 1))) →
-    IsPicked priority (2 ^ (2 * n + 1)) ranks → IsPermutation ranks sorted → IsSorted rank_cmp sorted → IsRanked n priority sorted
+    IsPicked priority (2 ^ (2 * n + 1)) ranks → IsPermutation ranks sorted → IsSorted rank_cmp sorted →
+    IsRanked n priority sorted
 IsRanked-sorted n priority ranks sorted cases level p moved up = record {
   valued = valued;
   ranked = record {
     ordered = ordered-sorted priority sorted cases up valued once;
     members = λ a. (
       (λ has.
-          let only = p.only a (let c = same a in let k = count-some (λ t. eqb t a) a (ranked_triangles sorted) (IsIn-contains a (ranked_triangles sorted) has) (eq-eqb a a refl) in omega arith) in
+          let only = p.only a (let c = same a in let k = count-some (λ t. eqb t a) a (ranked_triangles sorted)
+          (IsIn-contains a (ranked_triangles sorted) has) (eq-eqb a a refl) in omega arith) in
           (record { low = only.0; coarse = (level a (2 * n) only.0).1 only.1 }, only.2)),
       (λ is.
           let below = (level a (2 * n) is.0.low).0 is.0.coarse in
           let one = p.once a is.0.low below is.1 in
           let found = some-count (λ t. eqb t a) (ranked_triangles sorted) (let c = same a in omega arith) in
-          Contains-in a (ranked_triangles sorted) (subst (λ z. IsIn z (ranked_triangles sorted)) (eqb-true found.0 a found.2) found.1)),
+          Contains-in a (ranked_triangles sorted)
+          (subst (λ z. IsIn z (ranked_triangles sorted)) (eqb-true found.0 a found.2) found.1)),
     );
   };
 }
@@ -211,7 +231,8 @@ IsRanked-sorted n priority ranks sorted cases level p moved up = record {
     valued = All-permutation (λ (r : Rank). r.p ≡ priority r.tri) ranks sorted moved p.valued
 
     same : (a : ℕ) → count_of a (ranked_triangles sorted) ≡ count_of a (ranked_triangles ranks)
-    same a = sum_by-IsPermutation (λ t. cond (eqb t a) 1 0) (ranked_triangles ranks) (ranked_triangles sorted) (IsPermutation-map (λ (r : Rank). r.tri) ranks sorted moved)
+    same a = sum_by-IsPermutation (λ t. cond (eqb t a) 1 0) (ranked_triangles ranks) (ranked_triangles sorted)
+        (IsPermutation-map (λ (r : Rank). r.tri) ranks sorted moved)
 
     once : (a : ℕ) → count_of a (ranked_triangles sorted) ≤ 1
     once a = let e = same a in ⊎_elim

@@ -25,7 +25,8 @@ positives_below priority bound = count_by (λ p. nat_lt 0 p) (priorities_below p
 pub record IsPicked (priority : ℕ → ℕ) (bound : ℕ) (ranks : List Rank) : Type 0 where
   pub valued : HavePriorities priority ranks
   pub once : (a : ℕ) → 2 ≤ a → a < bound → 0 < priority a → count_by (λ t. nat_eq t a) (ranked_triangles ranks) ≡ 1
-  pub only : (a : ℕ) → 1 ≤ count_by (λ t. nat_eq t a) (ranked_triangles ranks) → (2 ≤ a) × (a < bound) × (0 < priority a)
+  pub only : (a : ℕ) → 1 ≤ count_by (λ t. nat_eq t a) (ranked_triangles ranks) →
+      (2 ≤ a) × (a < bound) × (0 < priority a)
 
 -- the ranking, with priorities
 pub record IsRanked (n : ℕ) (priority : ℕ → ℕ) (ranks : List Rank) : Type 0 where

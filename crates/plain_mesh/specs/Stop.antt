@@ -16,9 +16,11 @@ pub record IsOver (n budget : ℕ) (before : List ℕ) (t need : ℕ) : Type 0 w
   pub over : budget < need
 
 -- the closure of the longest prefix that fits, the priority of the next entry or 0, and that entry or none
-pub record IsStop (n budget : ℕ) (ranks : List Rank) (members : List ℕ) (worst : ℕ) (blocked : Option Blocked) : Type 0 where
+pub record IsStop (n budget : ℕ) (ranks : List Rank) (members : List ℕ) (worst : ℕ)
+    (blocked : Option Blocked) : Type 0 where
   pub chosen : ℕ
   pub closure : IsRankClosure n budget (ranked_triangles ranks) chosen (among members)
   pub whole : blocked ≡ None → (chosen ≡ length ranks) × (worst ≡ 0)
   pub next : (b : Blocked) → blocked ≡ Some b →
-      (r : Rank) × (slice_get ranks chosen ≡ Some r) × (r.tri ≡ b.tri) × (r.p ≡ worst) × IsBlockedBy n (ranked_triangles ranks) chosen b.tri b.need
+      (r : Rank) × (slice_get ranks chosen ≡ Some r) × (r.tri ≡ b.tri) × (r.p ≡ worst)
+      × IsBlockedBy n (ranked_triangles ranks) chosen b.tri b.need

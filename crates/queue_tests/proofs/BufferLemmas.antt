@@ -1,5 +1,6 @@
 -- What a patch of one triangle asks of a drawing buffer.
-use Rattle.std.proofs.Common.{◌≡◌, ◌≢◌, ℕ, ◌+◌, ◌<◌, ◌≤◌, cond, Bool, true, false, sym, List, [], ◌∷◌, ap, ◌∙◌, arith, refl, ⊎_elim}
+use Rattle.std.proofs.Common.{◌≡◌, ◌≢◌, ℕ, ◌+◌, ◌<◌, ◌≤◌, cond, Bool, true, false, sym, List, [], ◌∷◌, ap, ◌∙◌, arith}
+use Rattle.std.proofs.Common.{refl, ⊎_elim}
 use Rattle.std.proofs.lemmas.Bool.{cases_eq, cases_lt, eq-eqb, ne_eqb, false≢true}
 use Rattle.draw_buffer.specs.Times.{times}
 
@@ -30,7 +31,8 @@ one-goes ts t here a = ⊎_elim
     (cases_eq t a)
 
 -- one that is not there comes
-pub one-comes : (ts : List ℕ) (t : ℕ) → ((a : ℕ) → times ts a ≤ 1) → times ts t ≤ 0 → (a : ℕ) → times ts a + times (t ∷ []) a ≤ 1
+pub one-comes : (ts : List ℕ) (t : ℕ) → ((a : ℕ) → times ts a ≤ 1) → times ts t ≤ 0 → (a : ℕ) →
+    times ts a + times (t ∷ []) a ≤ 1
 one-comes ts t once away a = ⊎_elim
     (λ (e : t ≡ a). let one = times-here t a e in let same = ap (times ts) e in omega arith)
     (λ (u : t ≢ a). let none = times-other t a u in omega (arith, once a))

@@ -1,5 +1,6 @@
 -- Priorities without planes, and how they fall with the distance.
-use Rattle.std.proofs.Common.{◌≡◌, ℕ, ◌+◌, ◌-◌, ◌/◌, ◌≤◌, ◌⊎◌, ◌||◌, false, nat_lt, List, [], Option, None, Some, refl, sym, subst, arith, ⊎_elim}
+use Rattle.std.proofs.Common.{◌≡◌, ℕ, ◌+◌, ◌-◌, ◌/◌, ◌≤◌, ◌⊎◌, ◌||◌, false, nat_lt, List, [], Option, None, Some, refl}
+use Rattle.std.proofs.Common.{sym, subst, arith, ⊎_elim}
 use Rattle.std.proofs.lemmas.Bool.{lt-ltb, cases_lt, both_ways}
 use Rattle.mesh_defs.specs.BoundingBox.{CameraAt}
 use Rattle.mesh_defs.specs.Thickness.{thickness_of}
@@ -35,28 +36,36 @@ between-near n heights from to odometer a far near =
     record { below = rw seen low; above = rw seen high }
 
 -- a stamp that is not due holds for a way from its odometer
-not_due-within : (later odometer slack : ℕ) → (false || nat_lt (odometer + slack) later) ≡ false → later ≤ odometer + slack
+not_due-within : (later odometer slack : ℕ) → (false || nat_lt (odometer + slack) later) ≡ false →
+    later ≤ odometer + slack
 not_due-within later odometer slack e =
-    ⊎_elim (λ past. absurd (both_ways (nat_lt (odometer + slack) later) e (lt-ltb (odometer + slack) later past))) (λ within. within) (cases_lt (odometer + slack) later)
+    ⊎_elim (λ past. absurd (both_ways (nat_lt (odometer + slack) later) e (lt-ltb (odometer + slack) later past)))
+    (λ within. within) (cases_lt (odometer + slack) later)
 
 -- the stamp of an entry that had none was taken now
-taken-now : (stamp now : Stamp) (r old : Option Stamp) → old ≡ None → r ≡ Some stamp → (r ≡ old) ⊎ (r ≡ Some now) → stamp ≡ now
+taken-now : (stamp now : Stamp) (r old : Option Stamp) → old ≡ None → r ≡ Some stamp →
+    (r ≡ old) ⊎ (r ≡ Some now) → stamp ≡ now
 taken-now stamp now r old none is good = grind arith
 
--- After a first frame the stamps bound the priorities from another camera, while the way there is no longer than the odometer's.
+-- After a first frame the stamps bound the priorities from another camera, while the way there is no longer than the
+-- odometer's.
 pub stamps-after : (n : ℕ) (heights : List ℕ) (from to : CameraAt) (odometer later : ℕ) (before after : SeenMesh) →
     ((a : ℕ) → far_from n heights to a ≤ far_from n heights from a + move_length from to) →
     ((a : ℕ) → far_from n heights from a ≤ far_from n heights to a + move_length to from) →
-    odometer + move_length from to ≤ later → ((a : ℕ) → before.stamps a ≡ None) → AreStampsGood (readings_from n heights from) odometer before after →
+    odometer + move_length from to ≤ later → ((a : ℕ) → before.stamps a ≡ None) →
+    AreStampsGood (readings_from n heights from) odometer before after →
     ((a : ℕ) (stamp : Stamp) → after.stamps a ≡ Some stamp → IsEntry after.set.n (among after.set.members) a) →
     StampsHold (told_from n heights to).of later after.stamps
 stamps-after n heights from to odometer later before after far near way none good only a stamp is undue =
     let now : Stamp = stamp_now (readings_from n heights from) odometer a in
-    let same : stamp ≡ now = taken-now stamp now (after.stamps a) (before.stamps a) (none a) is (good a (only a stamp is)).1 in
-    let due : is_due later (Some now) ≡ false = subst (λ (z : Stamp). is_due later (Some z) ≡ false) same (subst (λ (z : Option Stamp). is_due later z ≡ false) is undue) in
+    let same : stamp ≡ now =
+    taken-now stamp now (after.stamps a) (before.stamps a) (none a) is (good a (only a stamp is)).1 in
+    let due : is_due later (Some now) ≡ false = subst (λ (z : Stamp). is_due later (Some z) ≡ false) same
+    (subst (λ (z : Option Stamp). is_due later z ≡ false) is undue) in
     let within = not_due-within later odometer (far_from n heights from a / 8) due in
     let there = far a in
     let back = near a in
     let both = move_length-back from to in
     subst (λ (z : Stamp). IsInStamp z ((told_from n heights to).of a)) (sym same)
-    (between-near n heights from to odometer a (omega (arith, way, within, there)) (omega (arith, way, within, back, both)))
+    (between-near n heights from to odometer a (omega (arith, way, within, there))
+    (omega (arith, way, within, back, both)))

@@ -57,16 +57,22 @@ abbrev pub box_laws : Laws (boxed.the_row engine.the_row heap.the_row ghosts)
 box_laws = boxed_laws.the_row_laws engine.the_row heap.the_row ghosts engine_laws.the_row_laws heap_laws.the_row_laws
 
 -- an engine's `drop` is what a type parameter's has to be
-pub glue : {M : Type 1} (𝓤 : Ura M) (𝓛 : Logic 𝓤) (𝓜 : Model 𝓤 𝓛.H) (𝓡 : Running 𝓤 𝓛.H 𝓜) → Wired 𝓡.env symbol.code → Met 𝓛 𝓜 𝓡 𝓡.env R drops
+pub glue : {M : Type 1} (𝓤 : Ura M) (𝓛 : Logic 𝓤) (𝓜 : Model 𝓤 𝓛.H) (𝓡 : Running 𝓤 𝓛.H 𝓜) →
+    Wired 𝓡.env symbol.code → Met 𝓛 𝓜 𝓡 𝓡.env R drops
 glue {M = M} 𝓤 𝓛 𝓜 𝓡 w =
     let it = method drops 0 (layouts [] tt) in
     glue_by R L (record { M = M; 𝓤 = 𝓤; 𝓛 = 𝓛; 𝓜 = 𝓜; 𝓡 = 𝓡 }) drops 𝓡.env
     (λ κs a. Lasts (ended_of 0 kinds.ps kinds.r) tt a) (λ κs a. lasts (ended_of 0 kinds.ps kinds.r) tt a)
-    (λ κs a x ws. Fit (ended_of 0 kinds.ps kinds.r) (stays kinds.ps) tt a ws × reads.Learnt tt a x (at_exit (ended_of 0 kinds.ps kinds.r) tt a ws))
+    (λ κs a x ws. Fit (ended_of 0 kinds.ps kinds.r) (stays kinds.ps) tt a ws
+    × reads.Learnt tt a x (at_exit (ended_of 0 kinds.ps kinds.r) tt a ws))
     (λ κs a. AllWithin 1 (κs.0, tt) (R.lives, tt) × Unit {0}) 0 tt (λ κs a h. ((h, tt), tt))
     (via_longer 𝓛 (Over 𝓛 𝓜 𝓡 𝓡.env) 1 (glue_ps R L) r_unit
     (λ κs a. Lasts (ended_of 0 kinds.ps kinds.r) tt a) (λ κs a. lasts (ended_of 0 kinds.ps kinds.r) tt a)
-    (λ κs a x ws. Fit (ended_of 0 kinds.ps kinds.r) (stays kinds.ps) tt a ws × reads.Learnt tt a x (at_exit (ended_of 0 kinds.ps kinds.r) tt a ws))
-    (λ κs a. AllWithin 1 (κs.0, tt) (R.lives, tt) × Unit {0}) it 0 tt (λ κs. tt) (λ κs a. reads.Asked tt a) (λ κs a p. (tt, tt))
-    (λ κs bd within a vss qs. method_Known 0 kinds.ps kinds.r reads.requires reads.ensures reads.Asked reads.Learnt reads.known
-    (record { M = M; 𝓤 = 𝓤; 𝓛 = 𝓛; 𝓜 = 𝓜; 𝓡 = 𝓡 }) symbol.name it (symbol.as_method 𝓡.env w it refl) (dropped.met 𝓤 𝓛 𝓜 𝓡 w) ((tt, qs, tt, a, vss), tt)))
+    (λ κs a x ws. Fit (ended_of 0 kinds.ps kinds.r) (stays kinds.ps) tt a ws
+    × reads.Learnt tt a x (at_exit (ended_of 0 kinds.ps kinds.r) tt a ws))
+    (λ κs a. AllWithin 1 (κs.0, tt) (R.lives, tt) × Unit {0}) it 0 tt (λ κs. tt)
+    (λ κs a. reads.Asked tt a) (λ κs a p. (tt, tt))
+    (λ κs bd within a vss qs. method_Known 0 kinds.ps kinds.r reads.requires reads.ensures reads.Asked
+    reads.Learnt reads.known
+    (record { M = M; 𝓤 = 𝓤; 𝓛 = 𝓛; 𝓜 = 𝓜; 𝓡 = 𝓡 }) symbol.name it (symbol.as_method 𝓡.env w it refl)
+    (dropped.met 𝓤 𝓛 𝓜 𝓡 w) ((tt, qs, tt, a, vss), tt)))

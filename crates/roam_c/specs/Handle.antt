@@ -14,7 +14,8 @@ IsNumberOfSome number Holds = (answer : Answer) × (number ≡ number_of answer)
 -- A full handle stays full: the call does this to its engine and gives an answer, whose number is the result.
 abbrev pub OnFull : Option Kept → Option Kept → ℤ → (Kept → Kept → Answer → Type 0) → Type 0
 OnFull before after number Does =
-    (was : Kept) → before ≡ Some was → (now : Kept) × (answer : Answer) × (after ≡ Some now) × (number ≡ number_of answer) × Does was now answer
+    (was : Kept) → before ≡ Some was →
+    (now : Kept) × (answer : Answer) × (after ≡ Some now) × (number ≡ number_of answer) × Does was now answer
 
 -- An empty handle stays empty: the result is the number of the answer that says so, and this holds too.
 abbrev pub OnEmpty : Option Kept → Option Kept → ℤ → Type 0 → Type 0

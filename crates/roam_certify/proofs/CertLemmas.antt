@@ -7,12 +7,15 @@ use Rattle.certificate_laws.specs.Certificate.{AreReasons, AreAllReasons, IsSoun
 use Rattle.certificate_laws.proofs.MakeLemmas.{all-enough}
 
 -- reasons of an optimal mesh, that are as many as the budget asks for or all that there are
-pub sound-made : (n m budget worst : ℕ) (priority : ℕ → ℕ) (leaves : List ℕ) (reasons : List Reason) → IsFalling n priority →
-    IsOptimal n budget priority leaves → worst ≡ worst_of priority leaves → m ≡ n → AreReasons m priority worst [] reasons →
+pub sound-made : (n m budget worst : ℕ) (priority : ℕ → ℕ) (leaves : List ℕ) (reasons : List Reason) →
+    IsFalling n priority →
+    IsOptimal n budget priority leaves → worst ≡ worst_of priority leaves → m ≡ n →
+    AreReasons m priority worst [] reasons →
     (budget ≤ length reasons + 1) ⊎ AreAllReasons m priority worst reasons → IsSound n budget priority leaves reasons
 sound-made n m budget worst priority leaves reasons falling optimal greatest grid are many =
     let own : AreReasons n priority (worst_of priority leaves) [] reasons =
-    subst (λ w. AreReasons n priority w [] reasons) greatest (subst (λ k. AreReasons k priority worst [] reasons) grid are) in
+    subst (λ w. AreReasons n priority w [] reasons) greatest
+    (subst (λ k. AreReasons k priority worst [] reasons) grid are) in
     record {
       conforming = optimal.conforming;
       within = optimal.within;
@@ -20,6 +23,7 @@ sound-made n m budget worst priority leaves reasons falling optimal greatest gri
       enough = λ some. ⊎_elim
           (λ full. full)
           (λ all. all-enough n budget priority leaves reasons falling optimal own
-          (subst (λ w. AreAllReasons n priority w reasons) greatest (subst (λ k. AreAllReasons k priority worst reasons) grid all)) some)
+          (subst (λ w. AreAllReasons n priority w reasons) greatest
+          (subst (λ k. AreAllReasons k priority worst reasons) grid all)) some)
           many;
     }

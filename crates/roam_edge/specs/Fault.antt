@@ -1,4 +1,5 @@
--- Counts of calls and of faults, that a call fails only where its object counted a fault, and whether a call came after a fault.
+-- Counts of calls and of faults, that a call fails only where its object counted a fault, and whether a call came after
+-- a fault.
 -- A count is a number of 64 bits that stands still at its greatest value. This project's own words.
 use Rattle.std.specs.Prelude.{◌≡◌, ℕ, ◌+◌, ◌-◌, ◌^◌, ◌≤◌, min, nat_lt, Bool, false, ◌||◌, Result, OnOk, OnErr}
 

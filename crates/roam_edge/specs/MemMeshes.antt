@@ -1,6 +1,7 @@
 -- A sink of meshes in memory: what contracts see of it, and where a call of it fails.
 -- This project's own words.
-use Rattle.std.specs.Prelude.{ℕ, ◌-◌, Bool, false, List, ◌++◌, map, length, Option, Some, None, option_map, option_to_list, nat_lt, ◌==◌, ◌||◌, if◌then◌else◌}
+use Rattle.std.specs.Prelude.{ℕ, ◌-◌, Bool, false, List, ◌++◌, map, length, Option, Some, None, option_map}
+use Rattle.std.specs.Prelude.{option_to_list, nat_lt, ◌==◌, ◌||◌, if◌then◌else◌}
 use Rattle.std.specs.List.{list_any}
 use Rattle.roam_edge.specs.Fault.{next_count, late_after}
 use Rattle.roam_edge.specs.MeshSink.{WrittenMesh, begun, longer, closed}
@@ -44,8 +45,17 @@ begin_fails kept = names kept.fails (Begin (next_count kept.begins)) || kept.mes
 abbrev pub after_begin : KeptMeshes → List ℕ → ℕ → KeptMeshes
 after_begin kept name count =
     if begin_fails kept
-    then record kept { begins = next_count kept.begins; faults = next_count kept.faults; late = late_after kept.late kept.faults }
-    else record kept { begins = next_count kept.begins; current = Some (begun name count); mesh_room = kept.mesh_room - 1; late = late_after kept.late kept.faults }
+    then record kept {
+      begins = next_count kept.begins;
+      faults = next_count kept.faults;
+      late = late_after kept.late kept.faults;
+    }
+    else record kept {
+      begins = next_count kept.begins;
+      current = Some (begun name count);
+      mesh_room = kept.mesh_room - 1;
+      late = late_after kept.late kept.faults;
+    }
 
 -- the next write of this piece fails: it is named, or there is no room for the piece
 abbrev pub write_fails : KeptMeshes → List ℕ → Bool
@@ -55,8 +65,17 @@ write_fails kept piece = names kept.fails (Write (next_count kept.writes)) || na
 abbrev pub after_write : KeptMeshes → List ℕ → KeptMeshes
 after_write kept piece =
     if write_fails kept piece
-    then record kept { writes = next_count kept.writes; faults = next_count kept.faults; late = late_after kept.late kept.faults }
-    else record kept { writes = next_count kept.writes; current = option_map (λ mesh. longer mesh piece) kept.current; byte_room = kept.byte_room - length piece; late = late_after kept.late kept.faults }
+    then record kept {
+      writes = next_count kept.writes;
+      faults = next_count kept.faults;
+      late = late_after kept.late kept.faults;
+    }
+    else record kept {
+      writes = next_count kept.writes;
+      current = option_map (λ mesh. longer mesh piece) kept.current;
+      byte_room = kept.byte_room - length piece;
+      late = late_after kept.late kept.faults;
+    }
 
 -- the next finishing fails: it is named
 abbrev pub finish_fails : KeptMeshes → Bool
@@ -66,5 +85,14 @@ finish_fails kept = names kept.fails (Finish (next_count kept.finishes))
 abbrev pub after_finish : KeptMeshes → KeptMeshes
 after_finish kept =
     if finish_fails kept
-    then record kept { finishes = next_count kept.finishes; faults = next_count kept.faults; late = late_after kept.late kept.faults }
-    else record kept { finishes = next_count kept.finishes; done = kept.done ++ map closed (option_to_list kept.current); current = None; late = late_after kept.late kept.faults }
+    then record kept {
+      finishes = next_count kept.finishes;
+      faults = next_count kept.faults;
+      late = late_after kept.late kept.faults;
+    }
+    else record kept {
+      finishes = next_count kept.finishes;
+      done = kept.done ++ map closed (option_to_list kept.current);
+      current = None;
+      late = late_after kept.late kept.faults;
+    }

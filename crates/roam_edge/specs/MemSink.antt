@@ -22,5 +22,14 @@ sink_write_fails kept piece = list_any (λ k. k == next_count kept.writes) kept.
 abbrev pub after_sink_write : KeptBytes → List ℕ → KeptBytes
 after_sink_write kept piece =
     if sink_write_fails kept piece
-    then record kept { writes = next_count kept.writes; faults = next_count kept.faults; late = late_after kept.late kept.faults }
-    else record kept { writes = next_count kept.writes; contents = kept.contents ++ piece; room = kept.room - length piece; late = late_after kept.late kept.faults }
+    then record kept {
+      writes = next_count kept.writes;
+      faults = next_count kept.faults;
+      late = late_after kept.late kept.faults;
+    }
+    else record kept {
+      writes = next_count kept.writes;
+      contents = kept.contents ++ piece;
+      room = kept.room - length piece;
+      late = late_after kept.late kept.faults;
+    }

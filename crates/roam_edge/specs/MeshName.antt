@@ -8,7 +8,8 @@ digit number power = 48 + number / power % 10
 -- a number below a million in six decimal digits, with leading zeros
 abbrev pub six_digits : ℕ → List ℕ
 six_digits number =
-    digit number 100000 ∷ digit number 10000 ∷ digit number 1000 ∷ digit number 100 ∷ digit number 10 ∷ digit number 1 ∷ []
+    digit number 100000 ∷ digit number 10000 ∷ digit number 1000 ∷ digit number 100
+    ∷ digit number 10 ∷ digit number 1 ∷ []
 
 -- the prefix, the number in six digits, and the ending of mesh files
 abbrev pub file_name : List ℕ → ℕ → List ℕ

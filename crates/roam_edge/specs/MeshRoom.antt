@@ -12,7 +12,12 @@ mesh_from room heading =
 -- a finished mesh: its bytes are those of the room between its start and its end
 abbrev pub mesh_at : List ℕ → Placed → WrittenMesh
 mesh_at room placed =
-    record { prefix = placed.heading.prefix.bytes; number = placed.heading.number; bytes = slice_range room placed.heading.start placed.end; finished = true }
+    record {
+      prefix = placed.heading.prefix.bytes;
+      number = placed.heading.number;
+      bytes = slice_range room placed.heading.start placed.end;
+      finished = true;
+    }
 
 -- each finished mesh lies within the first `size` bytes
 abbrev pub LieWithin : List Placed → ℕ → Type 0

@@ -22,13 +22,15 @@ abbrev pub closed : WrittenMesh → WrittenMesh
 closed mesh = record mesh { finished = true }
 
 -- beginning adds an unfinished mesh without bytes, and failing leaves all as before
-pub record BeginsMesh {T E : Type 0} (before now : Option (List WrittenMesh)) (name : List ℕ) (count : ℕ) (answer : Result T E) : Type 0 where
+pub record BeginsMesh {T E : Type 0} (before now : Option (List WrittenMesh)) (name : List ℕ) (count : ℕ)
+    (answer : Result T E) : Type 0 where
   pub ok : OnOk answer ((all : List WrittenMesh) → before ≡ Some all → now ≡ Some (all ++ begun name count ∷ []))
   pub failed : OnErr answer (now ≡ before)
   pub told : StaysTold before now
 
 -- writing appends the piece to the last mesh, and failing appends a prefix of it
-pub record Writes {T E : Type 0} (before now : Option (List WrittenMesh)) (piece : List ℕ) (answer : Result T E) : Type 0 where
+pub record Writes {T E : Type 0} (before now : Option (List WrittenMesh)) (piece : List ℕ)
+    (answer : Result T E) : Type 0 where
   pub ok : OnOk answer ((all : List WrittenMesh) (mesh : WrittenMesh) → before ≡ Some (all ++ mesh ∷ [])
       → now ≡ Some (all ++ longer mesh piece ∷ []))
   pub failed : OnErr answer ((all : List WrittenMesh) (mesh : WrittenMesh) → before ≡ Some (all ++ mesh ∷ [])

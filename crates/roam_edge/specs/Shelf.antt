@@ -1,5 +1,6 @@
 -- What a shelf of named files tells, and what its calls do. This project's own words.
-use Rattle.std.specs.Prelude.{◌≡◌, ℕ, ◌<◌, ◌≤◌, Bool, true, List, [], ◌∷◌, ◌++◌, length, take, drop, Option, Some, Result, IfOk, OnOk, OnErr, ◌↔◌, bytes_eq, if◌then◌else◌}
+use Rattle.std.specs.Prelude.{◌≡◌, ℕ, ◌<◌, ◌≤◌, Bool, true, List, [], ◌∷◌, ◌++◌, length, take, drop, Option, Some}
+use Rattle.std.specs.Prelude.{Result, IfOk, OnOk, OnErr, ◌↔◌, bytes_eq, if◌then◌else◌}
 use Rattle.roam_edge.specs.Told.{StaysTold}
 
 -- a file of a shelf: its name and its bytes
@@ -14,7 +15,8 @@ bytes_of (file ∷ files) name = if bytes_eq file.name name then file.bytes else
 
 -- opening by name chooses the first file of that name and leaves all its bytes unread
 -- `files` is what the shelf tells, `before` and `now` are the unread bytes
-pub record Opens {T E : Type 0} (files : Option (List NamedFile)) (before now : Option (List ℕ)) (name : List ℕ) (answer : Result T E) : Type 0 where
+pub record Opens {T E : Type 0} (files : Option (List NamedFile)) (before now : Option (List ℕ)) (name : List ℕ)
+    (answer : Result T E) : Type 0 where
   pub chosen : OnOk answer ((all : List NamedFile) → files ≡ Some all → now ≡ Some (bytes_of all name))
   pub nothing_chosen : OnErr answer ((unread : List ℕ) → before ≡ Some unread → now ≡ Some [])
   pub told : StaysTold before now

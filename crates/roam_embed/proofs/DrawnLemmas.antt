@@ -1,5 +1,7 @@
 -- The positions of a mesh, read at the places of its triangles, are those of the triangles' corners.
-use Rattle.std.proofs.Common.{◌≡◌, ℕ, zero, suc, ◌+◌, ◌-◌, ◌*◌, ◌^◌, ◌<◌, Bool, true, false, cond, not, ◌||◌, List, [], ◌∷◌, ◌++◌, length, take, drop, get_or, filter, flat_map, position, unwrap_or, Option, Some, None, All, refl, sym, ⊎_elim, ◌∙◌, ap, arith}
+use Rattle.std.proofs.Common.{◌≡◌, ℕ, zero, suc, ◌+◌, ◌-◌, ◌*◌, ◌^◌, ◌<◌, Bool, true, false, cond, not, ◌||◌, List, []}
+use Rattle.std.proofs.Common.{◌∷◌, ◌++◌, length, take, drop, get_or, filter, flat_map, position, unwrap_or, Option}
+use Rattle.std.proofs.Common.{Some, None, All, refl, sym, ⊎_elim, ◌∙◌, ap, arith}
 use Rattle.std.specs.List.{list_any, position_or_len}
 use Rattle.std.proofs.Math.Bool.{or-true}
 use Rattle.std.proofs.Math.Seq.{take-append_seam}
@@ -51,7 +53,8 @@ place-found vs p some =
 
 -- ---- the corners are vertices
 
-kept-step : (t : Point → Bool) (p v : Point) (vs : List Point) → t p ≡ true → (b : Bool) → t v ≡ b → IsPointIn p (v ∷ vs) →
+kept-step : (t : Point → Bool) (p v : Point) (vs : List Point) → t p ≡ true → (b : Bool) →
+    t v ≡ b → IsPointIn p (v ∷ vs) →
     (IsPointIn p vs → list_any (is_same_point p) (filter t vs) ≡ true) →
     list_any (is_same_point p) (cond b (v ∷ filter t vs) (filter t vs)) ≡ true
 kept-step t p v vs passes true is there rest =
@@ -84,11 +87,13 @@ shown-all n (a ∷ triangles) =
     All-cons (IsShown n (a ∷ triangles)) a triangles
     (λ p has. ap (λ b. b || is_vertex n triangles p) has)
     (All-weaker (IsShown n triangles) (IsShown n (a ∷ triangles))
-    (λ b shown p has. ap (λ c. has_corner (corners_of n a) p || c) (shown p has) ∙ or-true (has_corner (corners_of n a) p))
+    (λ b shown p has. ap (λ c. has_corner (corners_of n a) p || c) (shown p has)
+    ∙ or-true (has_corner (corners_of n a) p))
     triangles (shown-all n triangles))
 
 -- so they are vertices
-among-shown : (n : ℕ) (triangles : List ℕ) (a : ℕ) → IsShown n triangles a → AreAmong (vertices_of n triangles) (corners_of n a)
+among-shown : (n : ℕ) (triangles : List ℕ) (a : ℕ) → IsShown n triangles a →
+    AreAmong (vertices_of n triangles) (corners_of n a)
 unfolding vertices_of
 among-shown n triangles a shown =
     let c : Corners = corners_of n a in
@@ -100,16 +105,21 @@ among-shown n triangles a shown =
     ∙ or-true (is_same_point c.v0 c.apex) in
     let v1_is : has_corner c c.v1 ≡ true =
     ap (λ b. is_same_point c.v1 c.apex || (is_same_point c.v1 c.v0 || b)) (eq-same_point c.v1 c.v1 refl)
-    ∙ ap (λ b. is_same_point c.v1 c.apex || b) (or-true (is_same_point c.v1 c.v0)) ∙ or-true (is_same_point c.v1 c.apex) in
+    ∙ ap (λ b. is_same_point c.v1 c.apex || b) (or-true (is_same_point c.v1 c.v0))
+    ∙ or-true (is_same_point c.v1 c.apex) in
     record {
-      apex_in = kept (is_vertex n triangles) c.apex (shown c.apex apex_is) (points_of n) (IsPointIn-points_of n c.apex w.apex_x w.apex_y);
-      v0_in = kept (is_vertex n triangles) c.v0 (shown c.v0 v0_is) (points_of n) (IsPointIn-points_of n c.v0 w.v0_x w.v0_y);
-      v1_in = kept (is_vertex n triangles) c.v1 (shown c.v1 v1_is) (points_of n) (IsPointIn-points_of n c.v1 w.v1_x w.v1_y);
+      apex_in = kept (is_vertex n triangles) c.apex (shown c.apex apex_is) (points_of n)
+          (IsPointIn-points_of n c.apex w.apex_x w.apex_y);
+      v0_in =
+          kept (is_vertex n triangles) c.v0 (shown c.v0 v0_is) (points_of n) (IsPointIn-points_of n c.v0 w.v0_x w.v0_y);
+      v1_in =
+          kept (is_vertex n triangles) c.v1 (shown c.v1 v1_is) (points_of n) (IsPointIn-points_of n c.v1 w.v1_x w.v1_y);
     }
 
 -- ---- what is drawn
 
-length-some : (n : ℕ) (vs : List Point) (some : List ℕ) → length (flat_map (λ a. places_at vs (corners_of n a)) some) ≡ 3 * length some
+length-some : (n : ℕ) (vs : List Point) (some : List ℕ) →
+    length (flat_map (λ a. places_at vs (corners_of n a)) some) ≡ 3 * length some
 length-some n vs [] = refl
 length-some n vs (a ∷ some) = omega (arith, length-some n vs some)
 
@@ -156,10 +166,12 @@ module _ (n : ℕ) (heights : List ℕ) (spacing : ℕ) where
 
   -- of all triangles
   pub all-drawn : (triangles : List ℕ) →
-      drawn (positions_of n heights spacing triangles) (places_of n triangles) ≡ flat_map (corner_positions n heights spacing) triangles
+      drawn (positions_of n heights spacing triangles) (places_of n triangles)
+      ≡ flat_map (corner_positions n heights spacing) triangles
   all-drawn triangles =
       some-drawn (vertices_of n triangles) triangles
-      (All-weaker (IsShown n triangles) (λ a. AreAmong (vertices_of n triangles) (corners_of n a)) (among-shown n triangles)
+      (All-weaker (IsShown n triangles) (λ a. AreAmong (vertices_of n triangles) (corners_of n a))
+      (among-shown n triangles)
       triangles (shown-all n triangles))
 
 -- and so it is of the first places of an array

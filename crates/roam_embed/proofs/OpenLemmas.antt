@@ -15,7 +15,8 @@ IsOpened-of heights n budget spacing e count state most base stamps odometer fra
     let level : e.state.grid.n ≡ n = ap (λ s. s.grid.n) state in
     record {
       level = subst (IsPointCount (length heights)) (sym level) count;
-      state = state ∙ ap (λ k. start_state (record { n = k; maxval = 65535; heights = heights }) spacing budget) (sym level);
+      state = state
+          ∙ ap (λ k. start_state (record { n = k; maxval = 65535; heights = heights }) spacing budget) (sym level);
       most = most;
       base = base;
       stamps = stamps;

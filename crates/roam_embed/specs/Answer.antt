@@ -1,7 +1,9 @@
 -- The numbers of the answers, as C knows them. This project's own.
 use Rattle.std.specs.Prelude.{ℤ, pos}
 use Rattle.roam_embed.specs.declared.answer.Answer.{Answer}
-use Rattle.roam_embed.specs.declared.answer.Answer.TheVariants.{Done, NoMemory, BadGrid, BadBudget, BadSpacing, BadCamera, BadPlane, TooManyPlanes, OutsideGrid, BadChange, Worn, NoRoom, IsEmpty, BadTolerance}
+use Rattle.roam_embed.specs.declared.answer.Answer.TheVariants.{Done, NoMemory, BadGrid, BadBudget, BadSpacing}
+use Rattle.roam_embed.specs.declared.answer.Answer.TheVariants.{BadCamera, BadPlane, TooManyPlanes, OutsideGrid}
+use Rattle.roam_embed.specs.declared.answer.Answer.TheVariants.{BadChange, Worn, NoRoom, IsEmpty, BadTolerance}
 
 -- the number of an answer
 abbrev pub number_of : Answer → ℤ

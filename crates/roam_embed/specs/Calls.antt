@@ -1,12 +1,15 @@
--- What each call does to an engine and to the caller's arrays, and when each answer comes. Where several causes hold, the answer is
--- the one with the least number, and out of memory comes last; after an answer other than Done all is as before.
+-- What each call does to an engine and to the caller's arrays, and when each answer comes. Where several causes hold,
+-- the answer is the one with the least number, and out of memory comes last; after an answer other than Done all is as
+-- before.
 -- All of it is this project's own.
--- Words: IsOpenAnswer, IsOpened, IsCameraMoved, IsPlaneAdded, ArePlanesCleared, IsBudgetPut, IsHeightPut, IsAreaRaised, IsFrameMade,
--- AreIndicesTold, AreLeavesTold.
-use Rattle.std.specs.Prelude.{◌≡◌, ◌≢◌, ℕ, ◌+◌, ◌*◌, ◌<◌, ◌≤◌, ◌↔◌, ◌⊎◌, true, false, List, ◌++◌, length, drop, All, Contains, None, ℤ, unsigned_abs, []}
+-- Words: IsOpenAnswer, IsOpened, IsCameraMoved, IsPlaneAdded, ArePlanesCleared, IsBudgetPut, IsHeightPut, IsAreaRaised,
+-- IsFrameMade, AreIndicesTold, AreLeavesTold.
+use Rattle.std.specs.Prelude.{◌≡◌, ◌≢◌, ℕ, ◌+◌, ◌*◌, ◌<◌, ◌≤◌, ◌↔◌, ◌⊎◌, true, false, List, ◌++◌, length, drop, All}
+use Rattle.std.specs.Prelude.{Contains, None, ℤ, unsigned_abs, []}
 use Rattle.mesh_defs.specs.BoundingBox.{CameraAt, holds_point, point}
 use Rattle.mesh_defs.specs.View.{ViewPlane}
-use Rattle.mesh_defs.specs.State.{start_state, with_camera, with_plane, without_planes, with_budget, with_height, with_raised, move_length, priority_in}
+use Rattle.mesh_defs.specs.State.{start_state, with_camera, with_plane, without_planes, with_budget, with_height}
+use Rattle.mesh_defs.specs.State.{with_raised, move_length, priority_in}
 use Rattle.mesh_defs.specs.Triangle.{corners_of}
 use Rattle.mesh_defs.specs.BestMesh.{IsBestMesh}
 use Rattle.bintree_laws.specs.Areas.{overlaps}
@@ -18,7 +21,9 @@ use Rattle.view_priority.specs.Camera.{IsCamera}
 use Rattle.roam_mesh.specs.Mesh.{stamp_of, pool_members}
 use Rattle.frame_loop.specs.Engine.{EngineState, mesh_seen, IsExpired, IsFrameDone}
 use Rattle.roam_embed.specs.declared.answer.Answer.{Answer}
-use Rattle.roam_embed.specs.declared.answer.Answer.TheVariants.{Done, NoMemory, BadGrid, BadBudget, BadSpacing, BadCamera, BadPlane, TooManyPlanes, OutsideGrid, BadChange, Worn, NoRoom}
+use Rattle.roam_embed.specs.declared.answer.Answer.TheVariants.{Done, NoMemory, BadGrid, BadBudget, BadSpacing}
+use Rattle.roam_embed.specs.declared.answer.Answer.TheVariants.{BadCamera, BadPlane, TooManyPlanes, OutsideGrid}
+use Rattle.roam_embed.specs.declared.answer.Answer.TheVariants.{BadChange, Worn, NoRoom}
 use Rattle.roam_embed.specs.declared.notes.Frame.{Frame}
 use Rattle.roam_embed.specs.declared.view.TheConstants.{LONGEST_WAY, MOST_PLANES}
 use Rattle.roam_embed.specs.declared.ground.TheConstants.{GREATEST_CHANGE}
@@ -31,8 +36,10 @@ use Rattle.mesh_arrays.specs.Indices.{indices_of}
 pub record IsOpenAnswer (heights : List ℕ) (budget spacing : ℕ) (answer : Answer) : Type 0 where
   pub bad_grid : (answer ≡ BadGrid) ↔ (HasGrid (length heights) → ⊥)
   pub bad_budget : (answer ≡ BadBudget) ↔ (HasGrid (length heights) × ((budget < 2) ⊎ (MOST_LEAVES < budget)))
-  pub bad_spacing : (answer ≡ BadSpacing) ↔ (HasGrid (length heights) × (2 ≤ budget) × (budget ≤ MOST_LEAVES) × ((spacing < 1) ⊎ (GREATEST_SPACING < spacing)))
-  pub others : ((answer ≡ Done) ⊎ (answer ≡ NoMemory)) ↔ (HasGrid (length heights) × (2 ≤ budget) × (budget ≤ MOST_LEAVES) × (1 ≤ spacing) × (spacing ≤ GREATEST_SPACING))
+  pub bad_spacing : (answer ≡ BadSpacing) ↔ (HasGrid (length heights) × (2 ≤ budget) × (budget ≤ MOST_LEAVES)
+      × ((spacing < 1) ⊎ (GREATEST_SPACING < spacing)))
+  pub others : ((answer ≡ Done) ⊎ (answer ≡ NoMemory)) ↔ (HasGrid (length heights) × (2 ≤ budget)
+      × (budget ≤ MOST_LEAVES) × (1 ≤ spacing) × (spacing ≤ GREATEST_SPACING))
 
 -- an engine of these heights: seen from (0, 0, 0), no plane, the two halves of the square, no stamp, and all counts 0
 pub record IsOpened (heights : List ℕ) (budget spacing : ℕ) (e : EngineState) : Type 0 where
@@ -91,9 +98,14 @@ pub record IsHeightPut (before after : EngineState) (x y height : ℕ) (answer :
 pub record IsAreaRaised (before after : EngineState) (x0 y0 x1 y1 : ℕ) (dz : ℤ) (answer : Answer) : Type 0 where
   pub done : (answer ≡ Done) ↔ (IsAreaOf before.state.grid.n x0 y0 x1 y1 × (unsigned_abs dz ≤ GREATEST_CHANGE))
   pub outside_grid : (answer ≡ OutsideGrid) ↔ (IsAreaOf before.state.grid.n x0 y0 x1 y1 → ⊥)
-  pub bad_change : (answer ≡ BadChange) ↔ (IsAreaOf before.state.grid.n x0 y0 x1 y1 × (GREATEST_CHANGE < unsigned_abs dz))
-  pub raised : answer ≡ Done → after ≡ record before { state = with_raised (area_between x0 y0 x1 y1) dz before.state; mesh = after.mesh }
-  pub expired : answer ≡ Done → IsExpired before.mesh after.mesh (λ a. overlaps (corners_of before.state.grid.n a) (area_between x0 y0 x1 y1))
+  pub bad_change : (answer ≡ BadChange)
+      ↔ (IsAreaOf before.state.grid.n x0 y0 x1 y1 × (GREATEST_CHANGE < unsigned_abs dz))
+  pub raised : answer ≡ Done → after ≡ record before {
+    state = with_raised (area_between x0 y0 x1 y1) dz before.state;
+    mesh = after.mesh;
+  }
+  pub expired : answer ≡ Done →
+      IsExpired before.mesh after.mesh (λ a. overlaps (corners_of before.state.grid.n a) (area_between x0 y0 x1 y1))
   pub kept : (answer ≡ Done → ⊥) → after ≡ before
 
 -- the mesh is the best one of the state, and what is told of it
@@ -101,7 +113,8 @@ pub record IsFrameMade (before after : EngineState) (told_before told : Frame) (
   pub done : (answer ≡ Done) ↔ (before.frames < MOST_FRAMES)
   pub worn : (answer ≡ Worn) ↔ (MOST_FRAMES ≤ before.frames)
   pub made : answer ≡ Done → IsFrameDone before after (note_of told)
-  pub best : answer ≡ Done → IsBestMesh after.state.grid.n after.state.budget (priority_in after.state) (mesh_seen after)
+  pub best : answer ≡ Done →
+      IsBestMesh after.state.grid.n after.state.budget (priority_in after.state) (mesh_seen after)
   pub triangles : answer ≡ Done → told.triangles ≡ length (mesh_seen after)
   pub unblocked : answer ≡ Done → ((told.blocking ≡ 0) ↔ All (λ a. priority_in after.state a ≡ 0) (mesh_seen after))
   pub certificate : answer ≡ Done → told.blocking ≢ 0 → (after.state.budget < told.need)
@@ -110,16 +123,19 @@ pub record IsFrameMade (before after : EngineState) (told_before told : Frame) (
   pub untold : (answer ≡ Done → ⊥) → told ≡ told_before
 
 -- the indices of the mesh stand in the first places of an array, and how many triangles there are is told
-pub record AreIndicesTold (e : EngineState) (array_before array : List ℕ) (count_before count : ℕ) (answer : Answer) : Type 0 where
+pub record AreIndicesTold (e : EngineState) (array_before array : List ℕ) (count_before count : ℕ)
+    (answer : Answer) : Type 0 where
   pub done : (answer ≡ Done) ↔ (3 * length (mesh_seen e) ≤ length array_before)
   pub no_room : (answer ≡ NoRoom) ↔ (length array_before < 3 * length (mesh_seen e))
-  pub written : answer ≡ Done → array ≡ indices_of e.state.grid.n (mesh_seen e) ++ drop (3 * length (mesh_seen e)) array_before
+  pub written : answer ≡ Done →
+      array ≡ indices_of e.state.grid.n (mesh_seen e) ++ drop (3 * length (mesh_seen e)) array_before
   pub counted : answer ≡ Done → count ≡ length (mesh_seen e)
   pub unwritten : (answer ≡ Done → ⊥) → array ≡ array_before
   pub uncounted : (answer ≡ Done → ⊥) → count ≡ count_before
 
 -- the same of the addresses of the triangles
-pub record AreLeavesTold (e : EngineState) (array_before array : List ℕ) (count_before count : ℕ) (answer : Answer) : Type 0 where
+pub record AreLeavesTold (e : EngineState) (array_before array : List ℕ) (count_before count : ℕ)
+    (answer : Answer) : Type 0 where
   pub done : (answer ≡ Done) ↔ (length (mesh_seen e) ≤ length array_before)
   pub no_room : (answer ≡ NoRoom) ↔ (length array_before < length (mesh_seen e))
   pub written : answer ≡ Done → array ≡ mesh_seen e ++ drop (length (mesh_seen e)) array_before

@@ -1,5 +1,5 @@
--- The certificate of an engine's heights at a camera: of the best mesh of the budget in force, without planes. It is that of
--- `roam certify make` for the same grid, camera, budget and spacing. This project's own.
+-- The certificate of an engine's heights at a camera: of the best mesh of the budget in force, without planes. It is
+-- that of `roam certify make` for the same grid, camera, budget and spacing. This project's own.
 -- Words: unplaned_at, IsCertificateAt, IsCertificateTold.
 use Rattle.std.specs.Prelude.{◌≡◌, ℕ, ◌<◌, ◌≤◌, ◌↔◌, ◌⊎◌, List, ◌++◌, length, drop}
 use Rattle.mesh_defs.specs.BoundingBox.{CameraAt}
@@ -28,11 +28,14 @@ abbrev pub IsCertificateText : State → CameraAt → List ℕ → Type 0
 IsCertificateText state place text = (cert : Certificate) × IsCertificateAt state place cert × (text ≡ cert_text cert)
 
 -- its text stands in the first places of an array of bytes, and its length is told
-pub record IsCertificateTold (state : State) (place : CameraAt) (array_before array : List ℕ) (count_before count : ℕ) (answer : Answer) : Type 0 where
+pub record IsCertificateTold (state : State) (place : CameraAt) (array_before array : List ℕ) (count_before count : ℕ)
+    (answer : Answer) : Type 0 where
   pub bad_camera : (answer ≡ BadCamera) ↔ (IsCamera place → ⊥)
   pub others : ((answer ≡ Done) ⊎ ((answer ≡ NoRoom) ⊎ (answer ≡ NoMemory))) ↔ IsCamera place
-  pub no_room : answer ≡ NoRoom → (text : List ℕ) × IsCertificateText state place text × (length array_before < length text)
-  pub written : answer ≡ Done → (text : List ℕ) × IsCertificateText state place text × (length text ≤ length array_before)
+  pub no_room : answer ≡ NoRoom →
+      (text : List ℕ) × IsCertificateText state place text × (length array_before < length text)
+  pub written : answer ≡ Done →
+      (text : List ℕ) × IsCertificateText state place text × (length text ≤ length array_before)
       × (count ≡ length text) × (array ≡ text ++ drop (length text) array_before)
   pub unwritten : (answer ≡ Done → ⊥) → array ≡ array_before
   pub uncounted : (answer ≡ Done → ⊥) → count ≡ count_before

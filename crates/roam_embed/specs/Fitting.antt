@@ -21,20 +21,24 @@ fit_tolerance_of n thousandths = thousandths * 2 ^ n / 1000
 abbrev pub most_triangles : ℕ → ℕ → ℕ
 most_triangles n budget = min budget (2 * 4 ^ n)
 
--- The mesh for a tolerance: no triangle has an error above it, and there are as few as can be. Where these are more than the
--- budget, the greatest error is the least that a mesh of the budget can have, and for that there are as few as can be.
+-- The mesh for a tolerance: no triangle has an error above it, and there are as few as can be. Where these are more
+-- than the budget, the greatest error is the least that a mesh of the budget can have, and for that there are as few as
+-- can be.
 pub record IsFit (grid : HeightField) (thousandths budget : ℕ) (leaves : List ℕ) (told : Fitted) : Type 0 where
   pub within : length leaves ≤ budget
   pub off : told.off ≡ deviation_of grid.n grid.heights leaves
   pub over : told.over ≡ 2 ^ grid.n
   pub least : IsLeastMesh grid.n told.off (error_of grid.n grid.heights) leaves
-  pub fewest : told.off ≤ fit_tolerance_of grid.n thousandths → IsLeastMesh grid.n (fit_tolerance_of grid.n thousandths) (error_of grid.n grid.heights) leaves
-  pub best : fit_tolerance_of grid.n thousandths < told.off → IsBudgetMesh grid.n budget (error_of grid.n grid.heights) leaves
+  pub fewest : told.off ≤ fit_tolerance_of grid.n thousandths →
+      IsLeastMesh grid.n (fit_tolerance_of grid.n thousandths) (error_of grid.n grid.heights) leaves
+  pub best : fit_tolerance_of grid.n thousandths < told.off →
+      IsBudgetMesh grid.n budget (error_of grid.n grid.heights) leaves
   pub triangles : told.triangles ≡ length leaves
   pub vertices : told.vertices ≡ length (vertices_of grid.n leaves)
 
 -- the indices of that mesh stand in the first places of an array, and it is told of
-pub record IsFitTold (grid : HeightField) (thousandths budget : ℕ) (array_before array : List ℕ) (told_before told : Fitted) (answer : Answer) : Type 0 where
+pub record IsFitTold (grid : HeightField) (thousandths budget : ℕ) (array_before array : List ℕ)
+    (told_before told : Fitted) (answer : Answer) : Type 0 where
   pub bad_budget : (answer ≡ BadBudget) ↔ (budget < 2)
   pub no_room : (answer ≡ NoRoom) ↔ ((2 ≤ budget) × (length array_before < 3 * most_triangles grid.n budget))
   pub bad_tolerance : (answer ≡ BadTolerance)

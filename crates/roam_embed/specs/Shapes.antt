@@ -1,5 +1,5 @@
--- Calls that show the mesh in other ways: its vertices alone, its strip, and how far the surface is from it. As in Calls, each
--- refusal comes exactly where its cause holds, and after an answer other than Done all is as before.
+-- Calls that show the mesh in other ways: its vertices alone, its strip, and how far the surface is from it. As in
+-- Calls, each refusal comes exactly where its cause holds, and after an answer other than Done all is as before.
 -- All of it is this project's own.
 -- Words: vertices_seen, positions_seen, strip_seen, ArePositionsTold, IsCompactTold, IsStripTold, IsDeviationTold.
 use Rattle.std.specs.Prelude.{◌≡◌, ℕ, ◌*◌, ◌^◌, ◌<◌, ◌≤◌, ◌↔◌, ◌⊎◌, List, ◌++◌, length, take, drop}
@@ -29,7 +29,8 @@ abbrev pub strip_seen : EngineState → List ℕ
 strip_seen e = strip_of e.state.grid.n (is_split e)
 
 -- x, y and z of each vertex stand in the first places of an array, and how many vertices there are is told
-pub record ArePositionsTold (e : EngineState) (array_before array : List ℕ) (count_before count : ℕ) (answer : Answer) : Type 0 where
+pub record ArePositionsTold (e : EngineState) (array_before array : List ℕ) (count_before count : ℕ)
+    (answer : Answer) : Type 0 where
   pub done : (answer ≡ Done) ↔ (3 * length (vertices_seen e) ≤ length array_before)
   pub no_room : (answer ≡ NoRoom) ↔ (length array_before < 3 * length (vertices_seen e))
   pub written : answer ≡ Done → array ≡ positions_seen e ++ drop (3 * length (vertices_seen e)) array_before
@@ -37,23 +38,29 @@ pub record ArePositionsTold (e : EngineState) (array_before array : List ℕ) (c
   pub unwritten : (answer ≡ Done → ⊥) → array ≡ array_before
   pub uncounted : (answer ≡ Done → ⊥) → count ≡ count_before
 
--- The vertices of each triangle, by their numbers from 0, stand in the first places of an array, and how many triangles there are is
--- told. Read at these places, the positions of the vertices are those of the corners of each triangle in turn.
-pub record IsCompactTold (e : EngineState) (array_before array : List ℕ) (count_before count : ℕ) (answer : Answer) : Type 0 where
+-- The vertices of each triangle, by their numbers from 0, stand in the first places of an array, and how many triangles
+-- there are is told. Read at these places, the positions of the vertices are those of the corners of each triangle in
+-- turn.
+pub record IsCompactTold (e : EngineState) (array_before array : List ℕ) (count_before count : ℕ)
+    (answer : Answer) : Type 0 where
   pub done : (answer ≡ Done) ↔ (3 * length (mesh_seen e) ≤ length array_before)
   pub no_room : (answer ≡ NoRoom) ↔ (length array_before < 3 * length (mesh_seen e))
-  pub written : answer ≡ Done → array ≡ places_of e.state.grid.n (mesh_seen e) ++ drop (3 * length (mesh_seen e)) array_before
+  pub written : answer ≡ Done →
+      array ≡ places_of e.state.grid.n (mesh_seen e) ++ drop (3 * length (mesh_seen e)) array_before
   pub corners : answer ≡ Done → drawn (positions_seen e) (take (3 * length (mesh_seen e)) array)
       ≡ flat_map (corner_positions e.state.grid.n e.state.grid.heights e.state.view.spacing) (mesh_seen e)
   pub counted : answer ≡ Done → count ≡ length (mesh_seen e)
   pub unwritten : (answer ≡ Done → ⊥) → array ≡ array_before
   pub uncounted : (answer ≡ Done → ⊥) → count ≡ count_before
 
--- the indices of the mesh stand in the first places of an array in the order of its strip; whether there is memory for it is open
-pub record IsStripTold (e : EngineState) (array_before array : List ℕ) (count_before count : ℕ) (answer : Answer) : Type 0 where
+-- the indices of the mesh stand in the first places of an array in the order of its strip; whether there is memory for
+-- it is open
+pub record IsStripTold (e : EngineState) (array_before array : List ℕ) (count_before count : ℕ)
+    (answer : Answer) : Type 0 where
   pub no_room : (answer ≡ NoRoom) ↔ (length array_before < 3 * length (mesh_seen e))
   pub others : ((answer ≡ Done) ⊎ (answer ≡ NoMemory)) ↔ (3 * length (mesh_seen e) ≤ length array_before)
-  pub written : answer ≡ Done → array ≡ indices_of e.state.grid.n (strip_seen e) ++ drop (3 * length (mesh_seen e)) array_before
+  pub written : answer ≡ Done →
+      array ≡ indices_of e.state.grid.n (strip_seen e) ++ drop (3 * length (mesh_seen e)) array_before
   pub counted : answer ≡ Done → count ≡ length (mesh_seen e)
   pub unwritten : (answer ≡ Done → ⊥) → array ≡ array_before
   pub uncounted : (answer ≡ Done → ⊥) → count ≡ count_before

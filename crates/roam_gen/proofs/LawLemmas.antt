@@ -1,5 +1,6 @@
 -- What holds of generated grids, their texts, and the lines of generated scripts.
-use Rattle.std.proofs.Common.{ℕ, ◌+◌, ◌-◌, ◌*◌, ◌/◌, ◌%◌, ◌^◌, ◌<◌, ◌≤◌, List, [], length, map, refl, sym, subst, arith, lit<, lit≤, length-append}
+use Rattle.std.proofs.Common.{ℕ, ◌+◌, ◌-◌, ◌*◌, ◌/◌, ◌%◌, ◌^◌, ◌<◌, ◌≤◌, List, [], length, map, refl, sym, subst, arith}
+use Rattle.std.proofs.Common.{lit<, lit≤, length-append}
 use Rattle.std.specs.Prelude.{◌==◌, nat_lt}
 use Rattle.std.specs.Fmt.{decimal}
 use Rattle.std.specs.List.{range_with_len, flat_map}
@@ -33,7 +34,8 @@ made-is_grid n seed low high =
       maxval_low = lit≤ tt;
       maxval_high = lit≤ tt;
       count = long;
-      bounded = λ k d below. subst P (sym (get_or-map-range_with_len f 0 count k k d (omega (arith, long, below)) (omega arith)))
+      bounded = λ k d below.
+          subst P (sym (get_or-map-range_with_len f 0 count k k d (omega (arith, long, below)) (omega arith)))
           (octaves-bound (n + 1) n seed (k % side_of n) (2 ^ n - k / side_of n) (omega arith));
     }
 
@@ -55,12 +57,14 @@ header-is_text written n high =
 header-short : (n : ℕ) → n ≤ 11 → length (header_text n) ≤ 65536
 header-short n high =
     let small = side-small n high in
-    let side : length (decimal (side_of n)) ≤ 4 = length-decimal-le 4 (side_of n) (lit< tt) (omega (arith, small)) (omega (arith, small)) in
+    let side : length (decimal (side_of n)) ≤ 4 =
+    length-decimal-le 4 (side_of n) (lit< tt) (omega (arith, small)) (omega (arith, small)) in
     let most : length (decimal 65535) ≤ 5 = length-decimal-le 5 65535 (lit< tt) (lit< tt) (lit< tt) in
     omega (arith, length-append {A = ℕ}, side, most)
 
 -- what is written of it is a file text of it
-pub made-is_text : (n seed : ℕ) → n ≤ 11 → IsHeaderText (header_text n) (generated_header n) → IsFileText (made_grid n seed) (grid_text n seed)
+pub made-is_text : (n seed : ℕ) → n ≤ 11 → IsHeaderText (header_text n) (generated_header n) →
+    IsFileText (made_grid n seed) (grid_text n seed)
 unfolding made_grid
 made-is_text n seed high is_text =
     let heights : List ℕ = map (height_of_place n seed) (range_with_len 0 (side_of n * side_of n)) in
@@ -111,6 +115,7 @@ line-made n seed i high first last =
     let few : tens ≤ 4 = omega arith in
     let within : place < 21 = omega arith in
     cond_both (nat_lt place 18) _ _ (IsMadeLine n)
-    (λ early. cond_both (place % 2 == 0) _ _ (IsMadeLine n) (λ even. camera-made n (10 * tens + place / 2 + 1) high (omega (arith, few, within))) (λ odd. tt))
+    (λ early. cond_both (place % 2 == 0) _ _ (IsMadeLine n)
+    (λ even. camera-made n (10 * tens + place / 2 + 1) high (omega (arith, few, within))) (λ odd. tt))
     (λ late. cond_both (place == 18) _ _ (IsMadeLine n) (λ e. camera-made n (10 * tens + 10) high (omega (arith, few)))
     (λ other. cond_both (place == 19) _ _ (IsMadeLine n) (λ e. edit-made n seed (10 * tens + 10)) (λ e. tt)))

@@ -2,7 +2,8 @@
 --
 -- Words: plus, product, mixed, octave_base, lattice_from, lattice, between, octave, octaves, made_height, made_heights,
 -- made_grid, camera_line, edit_line, frame_lines, made_lines.
-use Rattle.std.specs.Prelude.{ℕ, zero, suc, ◌+◌, ◌-◌, ◌*◌, ◌/◌, ◌%◌, ◌^◌, ◌==◌, if◌then◌else◌, List, [], ◌∷◌, ◌++◌, map, pos}
+use Rattle.std.specs.Prelude.{ℕ, zero, suc, ◌+◌, ◌-◌, ◌*◌, ◌/◌, ◌%◌, ◌^◌, ◌==◌, if◌then◌else◌, List, [], ◌∷◌, ◌++◌, map}
+use Rattle.std.specs.Prelude.{pos}
 use Rattle.std.specs.List.{range_with_len, flat_map}
 use Rattle.mesh_defs.specs.HeightField.{HeightField, side_of}
 use Rattle.roam_script.specs.declared.line.Line.{Line}
@@ -41,7 +42,8 @@ octave seed k x y =
     let w : ℕ = 2 ^ k in
     let i : ℕ = x / w in
     let j : ℕ = y / w in
-    between w (x % w) (y % w) (lattice seed k i j) (lattice seed k (i + 1) j) (lattice seed k i (j + 1)) (lattice seed k (i + 1) (j + 1))
+    between w (x % w) (y % w) (lattice seed k i j) (lattice seed k (i + 1) j) (lattice seed k i (j + 1))
+    (lattice seed k (i + 1) (j + 1))
 
 -- the sum of the first octaves: the coarsest counts a half, each finer one half of the next coarser
 unfoldable pub octaves : ℕ → ℕ → ℕ → ℕ → ℕ → ℕ

@@ -9,7 +9,8 @@ use Rattle.roam_gen.specs.Generated.{camera_line, edit_line}
 abbrev pub line_of_tens : ℕ → ℕ → ℕ → ℕ → Line
 line_of_tens n seed tens place =
     if nat_lt place 18 then (if place % 2 == 0 then camera_line n (10 * tens + place / 2 + 1) else Frame)
-    else (if place == 18 then camera_line n (10 * tens + 10) else (if place == 19 then edit_line n seed (10 * tens + 10) else Frame))
+    else (if place == 18 then camera_line n (10 * tens + 10)
+    else (if place == 19 then edit_line n seed (10 * tens + 10) else Frame))
 
 -- line i, counted from 1
 abbrev pub line_at : ℕ → ℕ → ℕ → Line

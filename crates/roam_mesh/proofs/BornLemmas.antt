@@ -1,5 +1,6 @@
 -- The slots that a chain of splits gives out.
-use Rattle.std.proofs.Common.{◌≡◌, ℕ, ◌+◌, ◌*◌, ◌/◌, ◌≤◌, ◌⊎◌, inl, inr, true, List, [], ◌∷◌, ◌++◌, Option, None, Some, IfSome, IsSomeAnd, refl, sym, ◌∙◌, ap, subst, arith, ⊎_elim}
+use Rattle.std.proofs.Common.{◌≡◌, ℕ, ◌+◌, ◌*◌, ◌/◌, ◌≤◌, ◌⊎◌, inl, inr, true, List, [], ◌∷◌, ◌++◌, Option, None, Some}
+use Rattle.std.proofs.Common.{IfSome, IsSomeAnd, refl, sym, ◌∙◌, ap, subst, arith, ⊎_elim}
 use Rattle.std.proofs.lemmas.Bool.{false≢true}
 use Rattle.mesh_defs.specs.ClosedSet.{among}
 use Rattle.edge_laws.specs.Edge.{mate_of}
@@ -23,22 +24,27 @@ in_pair pair r h = ⊎_elim
     (λ rest. inr (⊎_elim (λ right. right) (λ none. absurd (false≢true none)) (in_cases r pair.1.0 [] rest)))
     (in_cases r pair.0.0 (pair.1.0 ∷ []) h)
 
-second_in : (second : Option (Slot × Slot)) (r : ℕ) → IsSomeAnd second (λ pair. IsOfPair pair r) → among (second_slots second) r ≡ true
+second_in : (second : Option (Slot × Slot)) (r : ℕ) → IsSomeAnd second (λ pair. IsOfPair pair r) →
+    among (second_slots second) r ≡ true
 second_in None r h = absurd h
 second_in (Some pair) r h = pair_in pair r h
 
-in_second : (second : Option (Slot × Slot)) (r : ℕ) → among (second_slots second) r ≡ true → IsSomeAnd second (λ pair. IsOfPair pair r)
+in_second : (second : Option (Slot × Slot)) (r : ℕ) → among (second_slots second) r ≡ true →
+    IsSomeAnd second (λ pair. IsOfPair pair r)
 in_second None r h = absurd (false≢true h)
 in_second (Some pair) r h = in_pair pair r h
 
 -- a slot that splits gave out is listed
 pub born_in : (answers : List Born) (r : ℕ) → IsBornOf answers r → among (born_slots answers) r ≡ true
 born_in [] r h = absurd h
-born_in (born ∷ others) r (inl (inl first)) = in_left r (pair_slots born.first ++ second_slots born.second) (born_slots others)
+born_in (born ∷ others) r (inl (inl first)) =
+    in_left r (pair_slots born.first ++ second_slots born.second) (born_slots others)
     (in_left r (pair_slots born.first) (second_slots born.second) (pair_in born.first r first))
-born_in (born ∷ others) r (inl (inr second)) = in_left r (pair_slots born.first ++ second_slots born.second) (born_slots others)
+born_in (born ∷ others) r (inl (inr second)) =
+    in_left r (pair_slots born.first ++ second_slots born.second) (born_slots others)
     (in_right r (pair_slots born.first) (second_slots born.second) (second_in born.second r second))
-born_in (born ∷ others) r (inr rest) = in_right r (pair_slots born.first ++ second_slots born.second) (born_slots others) (born_in others r rest)
+born_in (born ∷ others) r (inr rest) =
+    in_right r (pair_slots born.first ++ second_slots born.second) (born_slots others) (born_in others r rest)
 
 -- and what is listed was given out
 pub in_born : (answers : List Born) (r : ℕ) → among (born_slots answers) r ≡ true → IsBornOf answers r
@@ -55,29 +61,39 @@ in_born (born ∷ others) r h = ⊎_elim
 abbrev pub IsChildOf : List ℕ → ℕ → ℕ → Type 0
 IsChildOf pairs a r = (address_at pairs r / 2 ≡ a) ⊎ ((1 ≤ mate_of a) × (address_at pairs r / 2 ≡ mate_of a))
 
-pair_parent : (pairs : List ℕ) (a : ℕ) (pair : Slot × Slot) (r : ℕ) → AreChildren pairs a pair → IsOfPair pair r → address_at pairs r / 2 ≡ a
-pair_parent pairs a pair r are (inl left) = let at : address_at pairs r ≡ 2 * a = ap (address_at pairs) left ∙ are.0 in omega arith
-pair_parent pairs a pair r are (inr right) = let at : address_at pairs r ≡ 2 * a + 1 = ap (address_at pairs) right ∙ are.1 in omega arith
+pair_parent : (pairs : List ℕ) (a : ℕ) (pair : Slot × Slot) (r : ℕ) → AreChildren pairs a pair → IsOfPair pair r →
+    address_at pairs r / 2 ≡ a
+pair_parent pairs a pair r are (inl left) =
+    let at : address_at pairs r ≡ 2 * a = ap (address_at pairs) left ∙ are.0 in
+    omega arith
+pair_parent pairs a pair r are (inr right) =
+    let at : address_at pairs r ≡ 2 * a + 1 = ap (address_at pairs) right ∙ are.1 in
+    omega arith
 
-second_parent : (pairs : List ℕ) (m : ℕ) (second : Option (Slot × Slot)) (r : ℕ) → IfSome second (λ pair. (1 ≤ m) × AreChildren pairs m pair) →
+second_parent : (pairs : List ℕ) (m : ℕ) (second : Option (Slot × Slot)) (r : ℕ) →
+    IfSome second (λ pair. (1 ≤ m) × AreChildren pairs m pair) →
     IsSomeAnd second (λ pair. IsOfPair pair r) → (1 ≤ m) × (address_at pairs r / 2 ≡ m)
 second_parent pairs m None r are h = absurd h
 second_parent pairs m (Some pair) r are h = (are.0, pair_parent pairs m pair r are.1 h)
 
 -- the answers to two rows of splits
-pub born_either : (answers : List Born) (born : Born) (r : ℕ) → IsBornOf (answers ++ (born ∷ [])) r → IsBornOf answers r ⊎ IsBorn born r
+pub born_either : (answers : List Born) (born : Born) (r : ℕ) → IsBornOf (answers ++ (born ∷ [])) r →
+    IsBornOf answers r ⊎ IsBorn born r
 born_either [] born r (inl own) = inr own
 born_either [] born r (inr none) = absurd none
 born_either (other ∷ answers) born r (inl own) = inl (inl own)
-born_either (other ∷ answers) born r (inr rest) = ⊎_elim (λ old. inl (inr old)) (λ own. inr own) (born_either answers born r rest)
+born_either (other ∷ answers) born r (inr rest) =
+    ⊎_elim (λ old. inl (inr old)) (λ own. inr own) (born_either answers born r rest)
 
 -- each has a child of a triangle of the chain or of its mate
-pub born_parent : (old new chain : List ℕ) (answers : List Born) (r : ℕ) → AreAnswers old new chain answers → IsBornOf answers r →
+pub born_parent : (old new chain : List ℕ) (answers : List Born) (r : ℕ) →
+    AreAnswers old new chain answers → IsBornOf answers r →
     (c : ℕ) × (among chain c ≡ true) × IsChildOf new (address_at old c) r
 born_parent old new [] answers r are h = absurd (subst (λ z. IsBornOf z r) are h)
 born_parent old new (c ∷ rest) answers r (before, born, same, are, answer) h = ⊎_elim
     (λ old_one.
-    let found : (c : ℕ) × (among rest c ≡ true) × IsChildOf new (address_at old c) r = born_parent old new rest before r are old_one in
+    let found : (c : ℕ) × (among rest c ≡ true) × IsChildOf new (address_at old c) r =
+    born_parent old new rest before r are old_one in
     (found.0, in_later found.0 c rest found.1, found.2))
     (λ own. (
       c,
@@ -90,7 +106,8 @@ born_parent old new (c ∷ rest) answers r (before, born, same, are, answer) h =
     (born_either before born r (subst (λ z. IsBornOf z r) same h))
 
 -- and each triangle of the chain has a left child
-pub chain_child : (old new chain : List ℕ) (answers : List Born) (c : ℕ) → AreAnswers old new chain answers → among chain c ≡ true →
+pub chain_child : (old new chain : List ℕ) (answers : List Born) (c : ℕ) →
+    AreAnswers old new chain answers → among chain c ≡ true →
     (r : ℕ) × (address_at new r ≡ 2 * address_at old c)
 chain_child old new [] answers c are h = absurd (false≢true h)
 chain_child old new (x ∷ rest) answers c (before, born, same, are, answer) h = ⊎_elim

@@ -1,5 +1,6 @@
 -- The head of the merge queue, as the loop of a frame sees it.
-use Rattle.std.proofs.Common.{◌≡◌, ℕ, ◌*◌, ◌<◌, ◌≤◌, ◌⊎◌, ◌&&◌, inl, inr, true, false, nat_eq, nat_lt, [], Option, Some, None, MatchOption, slice_index_or, refl, sym, ◌∙◌, ap, subst, arith, ⊎_elim}
+use Rattle.std.proofs.Common.{◌≡◌, ℕ, ◌*◌, ◌<◌, ◌≤◌, ◌⊎◌, ◌&&◌, inl, inr, true, false, nat_eq, nat_lt, [], Option, Some}
+use Rattle.std.proofs.Common.{None, MatchOption, slice_index_or, refl, sym, ◌∙◌, ap, subst, arith, ⊎_elim}
 use Rattle.std.proofs.lemmas.Bool.{cases_lt, or_from, and_right, and_parts, eqb-true}
 use Rattle.mesh_defs.specs.Triangle.{level_of}
 use Rattle.mesh_defs.specs.ClosedSet.{among}
@@ -19,28 +20,36 @@ use Rattle.merge_queue.specs.Last.{IsLastEntry}
 use Rattle.deferred_loop.specs.Seen.{best_key, worst_key, sure, IsDecided, IsToAsk, IsLastHead}
 use Rattle.deferred_loop.specs.declared.queued.Located.{Located}
 use Rattle.roam_mesh.specs.Mesh.{slot_of, pool_members}
-use Rattle.roam_mesh.specs.Parts.{PartsState, entry_at, entry_of, best_of, merging_key, seen_parts, is_ready_at, is_out, worst_rank, diamond_rank, IsParts}
+use Rattle.roam_mesh.specs.Parts.{PartsState, entry_at, entry_of, best_of, merging_key, seen_parts, is_ready_at, is_out}
+use Rattle.roam_mesh.specs.Parts.{worst_rank, diamond_rank, IsParts}
 use Rattle.roam_mesh.specs.Change.{chief_slot}
 use Rattle.roam_mesh.specs.Keys.{is_sure, IsOfDiamond, IsKnownRank, IsTurn, IsUnasked}
 use Rattle.roam_mesh.proofs.PlaceLemmas.{slot_of-at}
-use Rattle.roam_mesh.proofs.RoleLemmas.{ready_live, ready_entry, entry_level, ready_of-at, ready_at-of, ready_mate, chief_ready, diamond_mate, mate_diamond}
-use Rattle.roam_mesh.proofs.HeadLemmas.{best_key_seen, worst_key_seen, sure_seen, settled_placed, merge_key, merge_key_of}
-use Rattle.roam_mesh.proofs.KeyLemmas.{rank_cases, better_least, diamond_alone, diamond_two, diamond_mate_rank, diamond_chief_rank, diamond_rank_own}
+use Rattle.roam_mesh.proofs.RoleLemmas.{ready_live, ready_entry, entry_level, ready_of-at, ready_at-of, ready_mate}
+use Rattle.roam_mesh.proofs.RoleLemmas.{chief_ready, diamond_mate, mate_diamond}
+use Rattle.roam_mesh.proofs.HeadLemmas.{best_key_seen, worst_key_seen, sure_seen, settled_placed, merge_key}
+use Rattle.roam_mesh.proofs.HeadLemmas.{merge_key_of}
+use Rattle.roam_mesh.proofs.KeyLemmas.{rank_cases, better_least, diamond_alone, diamond_two, diamond_mate_rank}
+use Rattle.roam_mesh.proofs.KeyLemmas.{diamond_chief_rank, diamond_rank_own}
 
 -- no triangle of a diamond is before the one that its key names
 diamond_least : (parts : PartsState) (a b : ℕ) → (b ≡ a) ⊎ ((1 ≤ mate_of a) × (b ≡ mate_of a)) →
     IsNoLater (diamond_rank parts a).p (diamond_rank parts a).tri (worst_rank parts b).p b
-diamond_least parts a b (inl own) = subst (λ z. IsNoLater (diamond_rank parts a).p (diamond_rank parts a).tri (worst_rank parts z).p z)
+diamond_least parts a b (inl own) =
+    subst (λ z. IsNoLater (diamond_rank parts a).p (diamond_rank parts a).tri (worst_rank parts z).p z)
     (sym own)
     (⊎_elim
     (λ (none : mate_of a < 1). subst (λ (z : Rank). IsNoLater z.p z.tri (worst_rank parts a).p a)
     (sym (diamond_alone parts a (omega arith))) (inr (refl, omega arith)))
-    (λ (some : 1 ≤ mate_of a). subst (λ (z : Rank). IsNoLater z.p z.tri (worst_rank parts a).p a) (sym (diamond_two parts a some))
+    (λ (some : 1 ≤ mate_of a). subst (λ (z : Rank). IsNoLater z.p z.tri (worst_rank parts a).p a)
+    (sym (diamond_two parts a some))
     (better_least (worst_rank parts a) (worst_rank parts (mate_of a))).0)
     (cases_lt (mate_of a) 1))
-diamond_least parts a b (inr mate) = subst (λ z. IsNoLater (diamond_rank parts a).p (diamond_rank parts a).tri (worst_rank parts z).p z)
+diamond_least parts a b (inr mate) =
+    subst (λ z. IsNoLater (diamond_rank parts a).p (diamond_rank parts a).tri (worst_rank parts z).p z)
     (sym mate.1)
-    (subst (λ (z : Rank). IsNoLater z.p z.tri (worst_rank parts (mate_of a)).p (mate_of a)) (sym (diamond_two parts a mate.0))
+    (subst (λ (z : Rank). IsNoLater z.p z.tri (worst_rank parts (mate_of a)).p (mate_of a))
+    (sym (diamond_two parts a mate.0))
     (better_least (worst_rank parts a) (worst_rank parts (mate_of a))).1)
 
 -- a rank that is a triangle's names that triangle
@@ -51,7 +60,8 @@ none_some : (q : Rank) → None ≡ Some q → ⊥
 none_some q h = cc
 
 -- the other one of two
-other_of : (a t x : ℕ) → 2 ≤ a → (t ≡ a) ⊎ ((1 ≤ mate_of a) × (t ≡ mate_of a)) → (x ≡ a) ⊎ ((1 ≤ mate_of a) × (x ≡ mate_of a)) → (x ≡ t)
+other_of : (a t x : ℕ) → 2 ≤ a → (t ≡ a) ⊎ ((1 ≤ mate_of a) × (t ≡ mate_of a)) →
+    (x ≡ a) ⊎ ((1 ≤ mate_of a) × (x ≡ mate_of a)) → (x ≡ t)
     ⊎ ((1 ≤ mate_of t) × (x ≡ mate_of t))
 other_of a t x low (inl own) is = subst (λ z. (x ≡ z) ⊎ ((1 ≤ mate_of z) × (x ≡ mate_of z))) (sym own) is
 other_of a t x low (inr mate) (inl own) =
@@ -60,7 +70,8 @@ other_of a t x low (inr mate) (inl own) =
 other_of a t x low (inr mate) (inr both) = inl (both.1 ∙ sym mate.1)
 
 -- the slots of a diamond that can be merged are live
-pub of_live : (parts : PartsState) (s t : ℕ) → is_ready_at parts.pool.pairs s ≡ true → IsOfDiamond parts s t → IsLive parts.pool.pairs t
+pub of_live : (parts : PartsState) (s t : ℕ) → is_ready_at parts.pool.pairs s ≡ true → IsOfDiamond parts s t →
+    IsLive parts.pool.pairs t
 of_live parts s t ready (inl own) = subst (λ z. 2 ≤ z) (sym own) (ready_live parts.pool.pairs s ready)
 of_live parts s t ready (inr mate) = subst (λ z. 2 ≤ z) (sym mate.1)
     (mate_of-low (address_at parts.pool.pairs s) (ready_live parts.pool.pairs s ready) mate.0)
@@ -72,17 +83,20 @@ module _ (parts : PartsState) (is : IsParts parts) (none : parts.fresh ≡ []) w
       let mate : ℕ = slot_of parts.pool.pairs (mate_of (address_at parts.pool.pairs s)) in
       or_from (among parts.fresh s) (nat_lt 0 (mate_of (address_at parts.pool.pairs s)) && among parts.fresh mate)
       (settled_placed parts s none)
-      (and_right (nat_lt 0 (mate_of (address_at parts.pool.pairs s))) (among parts.fresh mate) (settled_placed parts mate none))
+      (and_right (nat_lt 0 (mate_of (address_at parts.pool.pairs s))) (among parts.fresh mate)
+      (settled_placed parts mate none))
 
   -- each diamond that can be merged stands in the queue
   merge_queued : (a : ℕ) → CanMerge parts.pool.n (among (pool_members parts.pool)) a →
-      (2 ≤ a) × (level_of a ≤ 2 * parts.pool.n) × ((s : ℕ) × (slice_index_or parts.merge s None ≡ Some (diamond_rank parts a)))
+      (2 ≤ a) × (level_of a ≤ 2 * parts.pool.n)
+      × ((s : ℕ) × (slice_index_or parts.merge s None ≡ Some (diamond_rank parts a)))
   merge_queued a can =
       let at = ready_at-of parts.pool a is.pool can in
       let s : ℕ = slot_of parts.pool.pairs a in
       let low : 2 ≤ a = subst (λ z. 2 ≤ z) at.1 (ready_live parts.pool.pairs s at.0) in
       let chief = chief_ready parts.pool.n parts.pool.pairs s is.pool at.0 in
-      let rank : diamond_rank parts (address_at parts.pool.pairs (chief_slot parts.pool.pairs s)) ≡ diamond_rank parts a =
+      let rank : diamond_rank parts (address_at parts.pool.pairs (chief_slot parts.pool.pairs s))
+      ≡ diamond_rank parts a =
       ap (diamond_rank parts) (chief.1 ∙ ap chief_of at.1) ∙ diamond_chief_rank parts a low in (
         low,
         subst (λ z. level_of z ≤ 2 * parts.pool.n) at.1
@@ -126,7 +140,8 @@ module _ (parts : PartsState) (is : IsParts parts) (none : parts.fresh ≡ []) w
     key_is = ap (diamond_rank parts) chief.1 ∙ sym chief.2
 
     -- a triangle of that key is the one that the rank names
-    pub named_at : (better : Slot) → worst_rank parts (address_at parts.pool.pairs better.0) ≡ diamond_rank parts (chief_of top) →
+    pub named_at : (better : Slot) →
+        worst_rank parts (address_at parts.pool.pairs better.0) ≡ diamond_rank parts (chief_of top) →
         address_at parts.pool.pairs better.0 ≡ rank.tri
     named_at better key = ap (λ (z : Rank). z.tri) (key ∙ key_is)
 
@@ -134,21 +149,24 @@ module _ (parts : PartsState) (is : IsParts parts) (none : parts.fresh ≡ []) w
     worst_of_two : (rank ≡ worst_rank parts top) ⊎ ((1 ≤ mate_of top) × (rank ≡ worst_rank parts (mate_of top)))
     worst_of_two = ⊎_elim
         (λ (own : diamond_rank parts top ≡ worst_rank parts top). inl (chief.2 ∙ own))
-        (λ (mate : (1 ≤ mate_of top) × (diamond_rank parts top ≡ worst_rank parts (mate_of top))). inr (mate.0, chief.2 ∙ mate.1))
+        (λ (mate : (1 ≤ mate_of top) × (diamond_rank parts top ≡ worst_rank parts (mate_of top))).
+        inr (mate.0, chief.2 ∙ mate.1))
         (diamond_rank_own parts top)
 
     -- the triangle that the rank names is one of the head's diamond
     named : (rank.tri ≡ top) ⊎ ((1 ≤ mate_of top) × (rank.tri ≡ mate_of top))
     named = ⊎_elim
         (λ (own : rank ≡ worst_rank parts top). inl (ap (λ (z : Rank). z.tri) own))
-        (λ (mate : (1 ≤ mate_of top) × (rank ≡ worst_rank parts (mate_of top))). inr (mate.0, ap (λ (z : Rank). z.tri) mate.1))
+        (λ (mate : (1 ≤ mate_of top) × (rank ≡ worst_rank parts (mate_of top))).
+        inr (mate.0, ap (λ (z : Rank). z.tri) mate.1))
         worst_of_two
 
     -- and the rank is its worst one
     worst : rank ≡ worst_rank parts rank.tri
     worst = ⊎_elim
         (λ (own : rank ≡ worst_rank parts top). own_rank parts rank top own)
-        (λ (mate : (1 ≤ mate_of top) × (rank ≡ worst_rank parts (mate_of top))). own_rank parts rank (mate_of top) mate.1)
+        (λ (mate : (1 ≤ mate_of top) × (rank ≡ worst_rank parts (mate_of top))).
+        own_rank parts rank (mate_of top) mate.1)
         worst_of_two
 
     -- with the key that the loop sees
@@ -156,7 +174,8 @@ module _ (parts : PartsState) (is : IsParts parts) (none : parts.fresh ≡ []) w
     value = ap (λ (z : Rank). z.p) worst ∙ sym (worst_key_seen parts rank.tri)
 
     -- its slot
-    at : (s : ℕ) × (IsLive parts.pool.pairs s) × (is_ready_at parts.pool.pairs s ≡ true) × (address_at parts.pool.pairs s ≡ rank.tri)
+    at : (s : ℕ) × (IsLive parts.pool.pairs s) × (is_ready_at parts.pool.pairs s ≡ true)
+        × (address_at parts.pool.pairs s ≡ rank.tri)
     at = ⊎_elim
         (λ (own : rank.tri ≡ top). (head.0, top_low, ready_chief, sym own))
         (λ (mate : (1 ≤ mate_of top) × (rank.tri ≡ mate_of top)).
@@ -192,10 +211,12 @@ module _ (parts : PartsState) (is : IsParts parts) (none : parts.fresh ≡ []) w
     -- the key of each queued diamond comes no later
     key_no_later : (a s : ℕ) → slice_index_or parts.merge s None ≡ Some (diamond_rank parts a) →
         IsNoLater (diamond_rank parts a).p (diamond_rank parts a).tri (worst_key (seen_parts parts) rank.tri) rank.tri
-    key_no_later a s queued = subst (λ z. IsNoLater (diamond_rank parts a).p (diamond_rank parts a).tri z rank.tri) value
+    key_no_later a s queued =
+        subst (λ z. IsNoLater (diamond_rank parts a).p (diamond_rank parts a).tri z rank.tri) value
         (⊎_elim
         (λ (there : IsNoLater (diamond_rank parts a).p (diamond_rank parts a).tri rank.p rank.tri). there)
-        (λ (first : ComesFirst rank (diamond_rank parts a)). absurd (last.1 (record { 0 = s }) (diamond_rank parts a) queued first))
+        (λ (first : ComesFirst rank (diamond_rank parts a)).
+        absurd (last.1 (record { 0 = s }) (diamond_rank parts a) queued first))
         (rank_cases (diamond_rank parts a) rank))
 
     -- so each diamond that can be merged has a triangle that comes no later
@@ -215,7 +236,8 @@ module _ (parts : PartsState) (is : IsParts parts) (none : parts.fresh ≡ []) w
         (λ (mate : (1 ≤ mate_of a) × (diamond_rank parts a ≡ worst_rank parts (mate_of a))). (
           mate_of a,
           mate_diamond parts.pool.n a (mate_of a) queued.0 queued.1 (inr (mate.0, refl)),
-          subst (λ z. IsNoLater z (mate_of a) (worst_key (seen_parts parts) rank.tri) rank.tri) (sym (worst_key_seen parts (mate_of a)))
+          subst (λ z. IsNoLater z (mate_of a) (worst_key (seen_parts parts) rank.tri) rank.tri)
+              (sym (worst_key_seen parts (mate_of a)))
               (subst (λ (z : Rank). IsNoLater z.p z.tri (worst_key (seen_parts parts) rank.tri) rank.tri) mate.1 known),
         ))
         (diamond_rank_own parts a)
@@ -234,14 +256,16 @@ module _ (parts : PartsState) (is : IsParts parts) (none : parts.fresh ≡ []) w
               let some : 2 ≤ b = other.address.low in
               subst (λ z. IsNoLater z rank.tri (best_key (seen_parts parts) b) b) (sym (worst_key_seen parts rank.tri))
               (subst (λ z. IsNoLater (merging_key (entry_of parts rank.tri)) rank.tri z b) (sym (best_key_seen parts b))
-              (subst (λ z. IsNoLater (merging_key (entry_of parts rank.tri)) rank.tri (best_of (entry_of parts z)) z) same
+              (subst (λ z. IsNoLater (merging_key (entry_of parts rank.tri)) rank.tri
+              (best_of (entry_of parts z)) z) same
               (mate (omega arith))));
         }
 
     -- where the head is decided, the rank of its diamond is known
     known_of : IsDecided (seen_parts parts) rank.tri → IsKnownRank parts head.0
     known_of d = record {
-      own = subst (λ (z : Rank). is_sure (entry_of parts z.tri) ≡ true) (sym key_is) (sym (sure_seen parts rank.tri) ∙ d.own);
+      own = subst (λ (z : Rank). is_sure (entry_of parts z.tri) ≡ true) (sym key_is)
+          (sym (sure_seen parts rank.tri) ∙ d.own);
       mate = subst (λ (z : Rank). 1 ≤ mate_of z.tri → IsNoLater (merging_key (entry_of parts z.tri)) z.tri
           (best_of (entry_of parts (mate_of z.tri))) (mate_of z.tri)) (sym key_is)
           (λ some. subst (λ z. IsNoLater (merging_key (entry_of parts rank.tri)) rank.tri z (mate_of rank.tri))
@@ -252,27 +276,34 @@ module _ (parts : PartsState) (is : IsParts parts) (none : parts.fresh ≡ []) w
     }
 
     -- whose turn it is by what is kept of the slots, it is by the keys that the loop sees
-    turn_of : (t : ℕ) (s : Slot) → t ≡ address_at parts.pool.pairs s.0 → entry_of parts t ≡ entry_at parts s.0 → (t ≡ rank.tri → ⊥) →
+    turn_of : (t : ℕ) (s : Slot) → t ≡ address_at parts.pool.pairs s.0 →
+        entry_of parts t ≡ entry_at parts s.0 → (t ≡ rank.tri → ⊥) →
         IsTurn parts (diamond_rank parts (chief_of top)) s.0 →
         (sure (seen_parts parts) rank.tri ≡ true)
         ⊎ IsBefore (best_key (seen_parts parts) t) t (best_key (seen_parts parts) rank.tri) rank.tri
     turn_of t s here own differ turn = ⊎_elim
         (λ (known : is_sure (entry_of parts rank.tri) ≡ true). inl (sure_seen parts rank.tri ∙ known))
-        (λ (before : IsBefore (best_of (entry_at parts s.0)) (address_at parts.pool.pairs s.0) (best_of (entry_of parts rank.tri)) rank.tri).
-        inr (subst (λ z. IsBefore z t (best_key (seen_parts parts) rank.tri) rank.tri) (sym (best_key_seen parts t ∙ ap best_of own))
-        (subst (λ z. IsBefore (best_of (entry_at parts s.0)) z (best_key (seen_parts parts) rank.tri) rank.tri) (sym here)
+        (λ (before : IsBefore (best_of (entry_at parts s.0)) (address_at parts.pool.pairs s.0)
+        (best_of (entry_of parts rank.tri)) rank.tri).
+        inr (subst (λ z. IsBefore z t (best_key (seen_parts parts) rank.tri) rank.tri)
+        (sym (best_key_seen parts t ∙ ap best_of own))
+        (subst (λ z. IsBefore (best_of (entry_at parts s.0)) z (best_key (seen_parts parts) rank.tri) rank.tri)
+        (sym here)
         (subst (λ z. IsBefore (best_of (entry_at parts s.0)) (address_at parts.pool.pairs s.0) z rank.tri)
         (sym (best_key_seen parts rank.tri)) before))))
         (subst (λ (z : Rank). IsTurn parts z s.0) key_is turn (λ same. differ (here ∙ same)))
 
     -- the triangle of a slot of the diamond that is to be asked is the one that the loop is to ask
-    to_ask : (s : Slot) → IsUnasked parts head.0 s → IsToAsk (seen_parts parts) rank.tri (address_at parts.pool.pairs s.0)
+    to_ask : (s : Slot) → IsUnasked parts head.0 s →
+        IsToAsk (seen_parts parts) rank.tri (address_at parts.pool.pairs s.0)
     to_ask s next =
         let t : ℕ = address_at parts.pool.pairs s.0 in
         let own : entry_of parts t ≡ entry_at parts s.0 =
-        ap (entry_at parts) (slot_of-at parts.pool.n parts.pool.pairs s.0 is.pool (of_live parts head.0 s.0 ready_chief next.own)) in
+        ap (entry_at parts)
+        (slot_of-at parts.pool.n parts.pool.pairs s.0 is.pool (of_live parts head.0 s.0 ready_chief next.own)) in
         record {
-          in_diamond = mate_diamond parts.pool.n rank.tri t bounds.0 bounds.1 (other_of top rank.tri t top_low named next.own);
+          in_diamond =
+              mate_diamond parts.pool.n rank.tri t bounds.0 bounds.1 (other_of top rank.tri t top_low named next.own);
           not_sure = sure_seen parts t ∙ ap is_sure own ∙ next.not_sure;
           undecided = λ d. next.undecided (known_of d);
           turn = λ differ. turn_of t s refl own differ next.turn;
@@ -292,7 +323,8 @@ module _ (parts : PartsState) (is : IsParts parts) (none : parts.fresh ≡ []) w
         (λ t. IsUnasked parts head.0 t.slot × (address_at parts.pool.pairs t.slot.0 ≡ t.tri)) →
         IsLastHead (seen_parts parts) (record { rank = rank; slot = slot; unasked = unasked })
     last_head slot unasked next = record {
-      mergeable = subst (CanMerge parts.pool.n (among (pool_members parts.pool))) at.3 (ready_of-at parts.pool at.0 is.pool at.2);
+      mergeable = subst (CanMerge parts.pool.n (among (pool_members parts.pool))) at.3
+          (ready_of-at parts.pool at.0 is.pool at.2);
       value = value;
       better = better_than;
       last = first_of;

@@ -1,12 +1,16 @@
 -- What steps put into the log of a mesh.
-use Rattle.std.proofs.Common.{◌≡◌, ℕ, ◌+◌, ◌*◌, ◌/◌, ◌<◌, ◌≤◌, ◌⊎◌, inl, inr, Bool, true, false, cond, nat_lt, List, [], ◌∷◌, ◌++◌, length, Option, None, Some, IsNone, IfSome, IsSomeAnd, refl, sym, ◌∙◌, ap, subst, arith, ⊎_elim, length-append, append_assoc, slice_index, ◌≢◌}
-use Rattle.std.proofs.lemmas.Bool.{cases_Bool, cases_eq, cases_lt, both_ways, cond-true, lt-ltb, ltb-true, and_parts, false_from_ne_true, false≢true}
+use Rattle.std.proofs.Common.{◌≡◌, ℕ, ◌+◌, ◌*◌, ◌/◌, ◌<◌, ◌≤◌, ◌⊎◌, inl, inr, Bool, true, false, cond, nat_lt, List, []}
+use Rattle.std.proofs.Common.{◌∷◌, ◌++◌, length, Option, None, Some, IsNone, IfSome, IsSomeAnd, refl, sym, ◌∙◌, ap}
+use Rattle.std.proofs.Common.{subst, arith, ⊎_elim, length-append, append_assoc, slice_index, ◌≢◌}
+use Rattle.std.proofs.lemmas.Bool.{cases_Bool, cases_eq, cases_lt, both_ways, cond-true, lt-ltb, ltb-true, and_parts}
+use Rattle.std.proofs.lemmas.Bool.{false_from_ne_true, false≢true}
 use Rattle.mesh_defs.specs.ClosedSet.{among}
 use Rattle.bintree_addr.specs.declared.slot.Slot.{Slot}
 use Rattle.edge_laws.specs.Edge.{mate_of}
 use Rattle.edge_laws.specs.Slots.{address_at, has_children, split_set, diamond_size, IsLive, IsPool, IsMerge}
 use Rattle.closure_laws.proofs.ForcingLemmas.{with-old}
-use Rattle.edge_laws.proofs.SlotLemmas.{slot_of, set-has_children, has_children-set, parent_has_children, size_one, size_two, among-split_list}
+use Rattle.edge_laws.proofs.SlotLemmas.{slot_of, set-has_children, has_children-set, parent_has_children, size_one}
+use Rattle.edge_laws.proofs.SlotLemmas.{size_two, among-split_list}
 use Rattle.edge_laws.proofs.MateLemmas.{mate_of-low}
 use Rattle.triangle_pool.specs.Slots.{PoolState}
 use Rattle.triangle_pool.specs.Answer.{AreChildren, IsOfPair, IsBorn}
@@ -49,12 +53,16 @@ with_one-few (Some list) room a now is = by_test (nat_lt (length list) room) is
   where
     by_test : (test : Bool) → cond test (Some (list ++ (a ∷ []))) None ≡ Some now →
         (was : List ℕ) × (Some list ≡ Some was) × (length now ≡ length was + 1)
-    by_test true same = let lists : list ++ (a ∷ []) ≡ now = cc in (list, refl, ap length (sym lists) ∙ length-append list (a ∷ []))
+    by_test true same =
+        let lists : list ++ (a ∷ []) ≡ now = cc in
+        (list, refl, ap length (sym lists) ∙ length-append list (a ∷ []))
     by_test false same = let none : ⊥ = cc in absurd none
 
 -- and not lost where it has room
-with_one-fits : (list : List ℕ) (room a : ℕ) → length list < room → with_one (Some list) room a ≡ Some (list ++ (a ∷ []))
-with_one-fits list room a fits = cond-true (nat_lt (length list) room) (Some (list ++ (a ∷ []))) None (lt-ltb (length list) room fits)
+with_one-fits : (list : List ℕ) (room a : ℕ) → length list < room →
+    with_one (Some list) room a ≡ Some (list ++ (a ∷ []))
+with_one-fits list room a fits =
+    cond-true (nat_lt (length list) room) (Some (list ++ (a ∷ []))) None (lt-ltb (length list) room fits)
 
 -- ---- many
 
@@ -94,7 +102,8 @@ noted_all-fits log (a ∷ xs) was is fits =
 -- steps that change only listed triangles, and are counted by them, are logged by listing these
 pub noted_logged : (before after : PoolSet) (log : Log) (xs : List ℕ) →
     ((a : ℕ) → (among after.members a ≡ among before.members a) ⊎ (among xs a ≡ true)) →
-    after.splits + after.merges ≡ before.splits + before.merges + length xs → IsLogged before after log (noted_all log xs)
+    after.splits + after.merges ≡ before.splits + before.merges + length xs →
+    IsLogged before after log (noted_all log xs)
 noted_logged before after log xs each counted = record {
   kept = λ a h. noted_all-kept log xs a h;
   listed = λ a. ⊎_elim
@@ -130,21 +139,26 @@ sibling pairs a pair r are (inr right) =
     let two : address_at pairs r ≡ 2 * a + 1 = ap (address_at pairs) right ∙ are.1 in
     omega arith
 
-second_in : (pairs : List ℕ) (m : ℕ) (second : Option (Slot × Slot)) (r : ℕ) → IfSome second (λ pair. (1 ≤ m) × AreChildren pairs m pair) →
-    IsSomeAnd second (λ pair. IsOfPair pair r) → among (second_parent pairs second ++ []) (address_at pairs r / 2) ≡ true
+second_in : (pairs : List ℕ) (m : ℕ) (second : Option (Slot × Slot)) (r : ℕ) →
+    IfSome second (λ pair. (1 ≤ m) × AreChildren pairs m pair) →
+    IsSomeAnd second (λ pair. IsOfPair pair r) →
+    among (second_parent pairs second ++ []) (address_at pairs r / 2) ≡ true
 second_in pairs m None r are h = absurd h
 second_in pairs m (Some pair) r are h =
     in_first (address_at pairs r / 2) (address_at pairs pair.0.0 / 2) [] (sibling pairs m pair r are.1 h)
 
 -- the parent of each slot that was given out is listed
-parents_in : (old new chain : List ℕ) (answers : List Born) (r : ℕ) → AreAnswers old new chain answers → IsBornOf answers r →
+parents_in : (old new chain : List ℕ) (answers : List Born) (r : ℕ) →
+    AreAnswers old new chain answers → IsBornOf answers r →
     among (parents_of new answers) (address_at new r / 2) ≡ true
 parents_in old new [] answers r are h = absurd (subst (λ z. IsBornOf z r) are h)
 parents_in old new (c ∷ rest) answers r (before, born, same, are, answer) h =
     let p : ℕ = address_at new r / 2 in
     let own : List ℕ = (address_at new born.first.0.0 / 2) ∷ (second_parent new born.second ++ []) in
-    subst (λ z. among (parents_of new z) p ≡ true) (sym same) (subst (λ z. among z p ≡ true) (sym (parents-append new before born)) (⊎_elim
-    (λ (old_one : IsBornOf before r). in_left p (parents_of new before) own (parents_in old new rest before r are old_one))
+    subst (λ z. among (parents_of new z) p ≡ true) (sym same)
+    (subst (λ z. among z p ≡ true) (sym (parents-append new before born)) (⊎_elim
+    (λ (old_one : IsBornOf before r). in_left p (parents_of new before) own
+    (parents_in old new rest before r are old_one))
     (λ (new_one : IsBorn born r). in_right p (parents_of new before) own (⊎_elim
     (λ (first : IsOfPair born.first r).
     in_first p (address_at new born.first.0.0 / 2) (second_parent new born.second ++ [])
@@ -168,7 +182,8 @@ parents_size old new [] answers are = ap (λ z. length (parents_of new z)) are
 parents_size old new (c ∷ rest) answers (before, born, same, are, answer) =
     let own : List ℕ = (address_at new born.first.0.0 / 2) ∷ (second_parent new born.second ++ []) in
     let list : length (parents_of new answers) ≡ length (parents_of new before) + length own =
-    ap (λ z. length (parents_of new z)) same ∙ ap length (parents-append new before born) ∙ length-append (parents_of new before) own in
+    ap (λ z. length (parents_of new z)) same ∙ ap length (parents-append new before born)
+    ∙ length-append (parents_of new before) own in
     let others = parents_size old new rest before are in
     let size = second_size new (address_at old c) born.second answer.second answer.alone in
     omega arith
@@ -181,19 +196,23 @@ carried_born before after chain answers linked carried = record {
       let found = born_parent before.pairs after.pairs chain answers r carried.answered (in_born answers r h) in
       let live : 2 ≤ address_at before.pairs found.0 = (link_leaf before.pairs chain found.0 linked found.1).live in
       ⊎_elim
-      (λ (own : address_at after.pairs r / 2 ≡ address_at before.pairs found.0). let e : 4 ≤ address_at after.pairs r = omega arith in e)
+      (λ (own : address_at after.pairs r / 2 ≡ address_at before.pairs found.0).
+      let e : 4 ≤ address_at after.pairs r = omega arith in
+      e)
       (λ (mate : (1 ≤ mate_of (address_at before.pairs found.0))
       × (address_at after.pairs r / 2 ≡ mate_of (address_at before.pairs found.0))).
       let low = mate_of-low (address_at before.pairs found.0) live mate.0 in
       let half = mate.1 in
       let e : 4 ≤ address_at after.pairs r = omega arith in e)
       found.2);
-  kept = λ a split. carried.set.holds a (with-old (split_set before.pairs) (address_at before.pairs (slice_index chain 0)) a split);
+  kept = λ a split. carried.set.holds a
+      (with-old (split_set before.pairs) (address_at before.pairs (slice_index chain 0)) a split);
   new = λ a split.
       let up = set-has_children after.pairs a split in
       let low : 1 < a = ltb-true 1 a (and_parts (nat_lt 1 a) (among after.pairs a) split).0 in
       let half : (2 * a) / 2 ≡ a = omega arith in
-      let slot = slot_of after.pairs (2 * a) (omega arith) (subst (λ z. has_children after.pairs z ≡ true) (sym half) up) in
+      let slot =
+      slot_of after.pairs (2 * a) (omega arith) (subst (λ z. has_children after.pairs z ≡ true) (sym half) up) in
       let at = slot.1 in
       let parent : address_at after.pairs slot.0 / 2 ≡ a = omega arith in
       ⊎_elim
@@ -206,7 +225,8 @@ carried_born before after chain answers linked carried = record {
       inr (subst (λ z. among (parents_of after.pairs answers) z ≡ true) parent
       (parents_in before.pairs after.pairs chain answers slot.0 carried.answered born)))
       (carried.live slot.0 (subst (λ z. 2 ≤ z) (sym at) (omega arith)));
-  splits = carried.splits ∙ ap (λ z. before.splits + z) (sym (parents_size before.pairs after.pairs chain answers carried.answered));
+  splits = carried.splits
+      ∙ ap (λ z. before.splits + z) (sym (parents_size before.pairs after.pairs chain answers carried.answered));
   merges = carried.merges;
 }
 
@@ -233,7 +253,8 @@ split_logged before after answers log old new is =
     (λ (there : among (parents_of after.pairs answers) a ≡ true). inr there)
     (is.new a now))
     (λ (now : split_set after.pairs a ≡ false).
-    inl (now ∙ sym (false_from_ne_true (split_set before.pairs a) (λ was. both_ways (split_set after.pairs a) now (is.kept a was)))))
+    inl (now ∙ sym (false_from_ne_true (split_set before.pairs a)
+    (λ was. both_ways (split_set after.pairs a) now (is.kept a was)))))
     (cases_Bool (split_set after.pairs a))))
     (omega arith)
 
@@ -242,12 +263,14 @@ split_logged before after answers log old new is =
 diamond_length : (a : ℕ) → length (diamond_of a) ≡ diamond_size a
 diamond_length a = by_test (nat_lt 0 (mate_of a))
   where
-    by_test : (test : Bool) → length (cond test (mate_of a ∷ []) [] ++ (a ∷ [])) ≡ elim test as (λ _. ℕ) [ true ↦ 2 | false ↦ 1 ]
+    by_test : (test : Bool) →
+        length (cond test (mate_of a ∷ []) [] ++ (a ∷ [])) ≡ elim test as (λ _. ℕ) [ true ↦ 2 | false ↦ 1 ]
     by_test true = refl
     by_test false = refl
 
 -- and a merge by its diamond
-pub merge_logged : (before after : PoolState) (a : ℕ) (log : Log) → IsPool before.n before.pairs → IsPool after.n after.pairs →
+pub merge_logged : (before after : PoolState) (a : ℕ) (log : Log) → IsPool before.n before.pairs →
+    IsPool after.n after.pairs →
     IsMerge before.pairs after.pairs a →
     after.splits ≡ before.splits → after.merges ≡ before.merges + diamond_size a →
     IsLogged (pool_set before) (pool_set after) log (noted_all log (diamond_of a))
@@ -255,11 +278,13 @@ merge_logged before after a log old new is splits merges =
     let size = diamond_length a in
     noted_logged (pool_set before) (pool_set after) log (diamond_of a)
     (same_members before after (diamond_of a) old new (λ p. ⊎_elim
-    (λ (own : p ≡ a). inr (in_right p (cond (nat_lt 0 (mate_of a)) (mate_of a ∷ []) []) (a ∷ []) (in_first p a [] (sym own))))
+    (λ (own : p ≡ a).
+    inr (in_right p (cond (nat_lt 0 (mate_of a)) (mate_of a ∷ []) []) (a ∷ []) (in_first p a [] (sym own))))
     (λ (other : p ≢ a). ⊎_elim
     (λ (some : 0 < mate_of a). ⊎_elim
     (λ (mate : p ≡ mate_of a). inr (in_left p (cond (nat_lt 0 (mate_of a)) (mate_of a ∷ []) []) (a ∷ [])
-    (choice_in p (nat_lt 0 (mate_of a)) (mate_of a ∷ []) (lt-ltb 0 (mate_of a) some) (in_first p (mate_of a) [] (sym mate)))))
+    (choice_in p (nat_lt 0 (mate_of a)) (mate_of a ∷ []) (lt-ltb 0 (mate_of a) some)
+    (in_first p (mate_of a) [] (sym mate)))))
     (λ (apart : p ≢ mate_of a). inl (is.others p other (λ _. apart)))
     (cases_eq p (mate_of a)))
     (λ (none : mate_of a ≤ 0). inl (is.others p other (λ some. absurd (let e : ⊥ = omega arith in e))))

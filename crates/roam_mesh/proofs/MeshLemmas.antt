@@ -1,6 +1,10 @@
 -- A mesh between frames, by the parts that it is made of.
-use Rattle.std.proofs.Common.{◌≡◌, ℕ, ◌+◌, ◌≤◌, ◌^◌, ◌<◌, ◌&&◌, Bool, true, false, cond, not, nat_eq, nat_lt, List, [], map, reverse, length, get_or, get_or-set_same, get_or-set_other, Option, None, Some, option_map, slice_index, slice_index_or, slice_set, refl, sym, ◌∙◌, ap, subst, arith, ⊎_elim}
-use Rattle.std.proofs.lemmas.Bool.{cases_eq, eq-eqb, ne_eqb, and_parts, ltb-true, false_from_ne_true, true_from_ne_false}
+use Rattle.std.proofs.Common.{◌≡◌, ℕ, ◌+◌, ◌≤◌, ◌^◌, ◌<◌, ◌&&◌, Bool, true, false, cond, not, nat_eq, nat_lt, List, []}
+use Rattle.std.proofs.Common.{map, reverse, length, get_or, get_or-set_same, get_or-set_other, Option, None, Some}
+use Rattle.std.proofs.Common.{option_map, slice_index, slice_index_or, slice_set, refl, sym, ◌∙◌, ap, subst, arith}
+use Rattle.std.proofs.Common.{⊎_elim}
+use Rattle.std.proofs.lemmas.Bool.{cases_eq, eq-eqb, ne_eqb, and_parts, ltb-true, false_from_ne_true}
+use Rattle.std.proofs.lemmas.Bool.{true_from_ne_false}
 use Rattle.std.proofs.Math.ListN.{get_or-map}
 use Rattle.std.proofs.lemmas.Option.{none-some}
 use Rattle.mesh_defs.specs.ClosedSet.{among}
@@ -12,8 +16,11 @@ use Rattle.frame_steps.specs.Deferred.{IsEntry}
 use Rattle.frame_steps.specs.Stamps.{Stamp, Readings, StampsHold}
 use Rattle.deferred_loop.specs.Seen.{IsQuiet}
 use Rattle.deferred_loop.specs.Log.{Log}
-use Rattle.roam_mesh.specs.Mesh.{MeshState, slot_of, stamp_of, pool_members, with_expired, uncounted, OnlyEntriesStamped, seen_of}
-use Rattle.roam_mesh.specs.Parts.{PartsState, entry_at, entry_of, blank, best_of, merging_key, better_of, deadline_of, stamp_in, seen_parts, mesh_of, is_leaf_at, is_chief_at, is_entry_at, is_out, IsParts, IsWhole}
+use Rattle.roam_mesh.specs.Mesh.{MeshState, slot_of, stamp_of, pool_members, with_expired, uncounted}
+use Rattle.roam_mesh.specs.Mesh.{OnlyEntriesStamped, seen_of}
+use Rattle.roam_mesh.specs.Parts.{PartsState, entry_at, entry_of, blank, best_of, merging_key, better_of, deadline_of}
+use Rattle.roam_mesh.specs.Parts.{stamp_in, seen_parts, mesh_of, is_leaf_at, is_chief_at, is_entry_at, is_out, IsParts}
+use Rattle.roam_mesh.specs.Parts.{IsWhole}
 use Rattle.roam_mesh.specs.Change.{expired_at}
 use Rattle.roam_mesh.specs.declared.entry.Entry.{Entry}
 use Rattle.roam_mesh.proofs.PlaceLemmas.{at-slot_of, one_slot, live_below}
@@ -28,14 +35,16 @@ stamp_of-parts : (parts : PartsState) (log : Log) (a : ℕ)
 stamp_of-parts parts log a = get_or-map stamp_in parts.entries (slot_of parts.pool.pairs a) blank
 
 -- parts of which nothing is kept are quiet
-pub blank_quiet : (parts : PartsState) → ((s : ℕ) → entry_at parts s ≡ blank) → parts.fresh ≡ [] → IsQuiet (seen_parts parts)
+pub blank_quiet : (parts : PartsState) → ((s : ℕ) → entry_at parts s ≡ blank) → parts.fresh ≡ [] →
+    IsQuiet (seen_parts parts)
 blank_quiet parts nothing none = record {
   known = λ a. ap (λ e. e.known) (nothing (slot_of parts.pool.pairs a));
   fresh = ap (λ slots. reverse (map (address_at parts.pool.pairs) slots)) none;
 }
 
 -- and no triangle has a stamp
-pub blank_stamps : (parts : PartsState) (log : Log) → ((s : ℕ) → entry_at parts s ≡ blank) → (a : ℕ) → stamp_of (mesh_of parts log) a ≡ None
+pub blank_stamps : (parts : PartsState) (log : Log) → ((s : ℕ) → entry_at parts s ≡ blank) → (a : ℕ) →
+    stamp_of (mesh_of parts log) a ≡ None
 blank_stamps parts log nothing a = stamp_of-parts parts log a ∙ ap stamp_in (nothing (slot_of parts.pool.pairs a))
 
 -- in a pool that holds but the square's halves nothing is split
@@ -44,7 +53,8 @@ base_low true = omega arith
 base_low false = omega arith
 
 -- no triangle of the two halves of the square is split
-pub base_set : (pairs : List ℕ) → ((i : ℕ) → slice_index pairs i ≡ cond (nat_lt 0 i) 0 1) → (a : ℕ) → split_set pairs a ≡ false
+pub base_set : (pairs : List ℕ) → ((i : ℕ) → slice_index pairs i ≡ cond (nat_lt 0 i) 0 1) → (a : ℕ) →
+    split_set pairs a ≡ false
 base_set pairs base a = false_from_ne_true (split_set pairs a) (λ split.
     let big : 1 < a = ltb-true 1 a (and_parts (nat_lt 1 a) (among pairs a) split).0 in
     let pair = pair_of pairs a (set-has_children pairs a split) in
@@ -56,7 +66,13 @@ base_set pairs base a = false_from_ne_true (split_set pairs a) (λ split.
 stamped_by : (e : Entry) (stamp : Stamp) → stamp_in e ≡ Some stamp → e.stamped ≡ true
 stamped_by e stamp there = true_from_ne_false e.stamped (λ none.
     none-some stamp (sym (ap (λ b. cond b
-    (Some (record { odometer = e.odometer; slack = e.slack; upper = e.upper; lower = e.lower; expired = e.expired })) None) none) ∙ there))
+    (Some (record {
+      odometer = e.odometer;
+      slack = e.slack;
+      upper = e.upper;
+      lower = e.lower;
+      expired = e.expired;
+    })) None) none) ∙ there))
 
 -- so only entries have one
 pub placed_only : (parts : PartsState) (log : Log) → IsParts parts → OnlyEntriesStamped (mesh_of parts log)
@@ -73,10 +89,13 @@ expired_read : {X : Type 0} (read : Entry → X) → ((e : Entry) → read (reco
     (parts : PartsState) (s r : ℕ) →
     s < length parts.entries → read (entry_at (expired_at parts s) r) ≡ read (entry_at parts r)
 expired_read read same parts s r below = ⊎_elim
-    (λ own. ap read (ap (λ z. get_or (slice_set parts.entries s (record (entry_at parts s) { expired = true })) z blank) (sym own)
-    ∙ get_or-set_same parts.entries s (record (entry_at parts s) { expired = true }) blank below) ∙ same (entry_at parts s)
+    (λ own. ap read
+    (ap (λ z. get_or (slice_set parts.entries s (record (entry_at parts s) { expired = true })) z blank) (sym own)
+    ∙ get_or-set_same parts.entries s (record (entry_at parts s) { expired = true }) blank below)
+    ∙ same (entry_at parts s)
     ∙ ap (λ z. read (entry_at parts z)) own)
-    (λ other. ap read (get_or-set_other parts.entries s r (record (entry_at parts s) { expired = true }) blank (λ z. other (sym z))))
+    (λ other. ap read
+    (get_or-set_other parts.entries s r (record (entry_at parts s) { expired = true }) blank (λ z. other (sym z))))
     (cases_eq s r)
 
 -- an expired stamp is due at every odometer
@@ -92,7 +111,8 @@ expired_key true d = refl
 expired_key false d = refl
 
 -- to expire a slot's stamp leaves all in its place
-pub expired_parts : (parts : PartsState) (s : ℕ) → IsWhole parts → IsLive parts.pool.pairs s → IsParts parts → IsParts (expired_at parts s)
+pub expired_parts : (parts : PartsState) (s : ℕ) → IsWhole parts → IsLive parts.pool.pairs s → IsParts parts →
+    IsParts (expired_at parts s)
 expired_parts parts s whole live is =
     let places = live_below parts.pool.pairs s live in
     let entries = whole.entries in
@@ -108,7 +128,8 @@ expired_parts parts s whole live is =
       );
       placed = record {
         split = λ r. is.placed.split r
-            ∙ ap (λ p. cond (is_leaf_at pairs r && not (among parts.fresh r)) (Some (record { p = p; tri = address_at pairs r })) None)
+            ∙ ap (λ p. cond (is_leaf_at pairs r && not (among parts.fresh r))
+            (Some (record { p = p; tri = address_at pairs r })) None)
             (sym (expired_read best_of (λ e. refl) parts s r below));
         merge = λ r.
             let a = address_at pairs r in
@@ -124,16 +145,20 @@ expired_parts parts s whole live is =
         due = λ r. ⊎_elim
             (λ own. subst (λ z. slice_index_or (expired_at parts s).due z None ≡ cond (test z)
             (Some (deadline_of (entry_at (expired_at parts s) z))) None) own
-            (get_or-set_same parts.due s (option_map {U = ℕ} (λ _. 0) (slice_index_or parts.due s None)) None (omega arith)
+            (get_or-set_same parts.due s (option_map {U = ℕ} (λ _. 0) (slice_index_or parts.due s None)) None
+            (omega arith)
             ∙ ap (option_map {U = ℕ} (λ _. 0)) (is.placed.due s) ∙ expired_key (test s) (deadline_of (entry_at parts s))
             ∙ ap (λ d. cond (test s) (Some d) None)
-            (sym (ap deadline_of (get_or-set_same parts.entries s (record (entry_at parts s) { expired = true }) blank below)
+            (sym (ap deadline_of
+            (get_or-set_same parts.entries s (record (entry_at parts s) { expired = true }) blank below)
             ∙ expired_due (entry_at parts s)))))
-            (λ other. get_or-set_other parts.due s r (option_map {U = ℕ} (λ _. 0) (slice_index_or parts.due s None)) None
+            (λ other. get_or-set_other parts.due s r
+            (option_map {U = ℕ} (λ _. 0) (slice_index_or parts.due s None)) None
             (λ z. other (sym z))
             ∙ is.placed.due r
             ∙ ap (λ e. cond (test r) (Some (deadline_of e)) None)
-            (sym (get_or-set_other parts.entries s r (record (entry_at parts s) { expired = true }) blank (λ z. other (sym z)))))
+            (sym (get_or-set_other parts.entries s r
+            (record (entry_at parts s) { expired = true }) blank (λ z. other (sym z)))))
             (cases_eq s r);
         stamped = λ r h. is.placed.stamped r (sym (expired_read (λ e. e.stamped) (λ e. refl) parts s r below) ∙ h);
         known = λ r h. is.placed.known r (sym (expired_read (λ e. e.known) (λ e. refl) parts s r below) ∙ h);
@@ -147,7 +172,13 @@ expired_stamp e = by_stamped e.stamped
     by_stamped : (b : Bool) → cond b (Some
         (record { odometer = e.odometer; slack = e.slack; upper = e.upper; lower = e.lower; expired = true })) None
         ≡ option_map with_expired (cond b (Some
-        (record { odometer = e.odometer; slack = e.slack; upper = e.upper; lower = e.lower; expired = e.expired })) None)
+        (record {
+          odometer = e.odometer;
+          slack = e.slack;
+          upper = e.upper;
+          lower = e.lower;
+          expired = e.expired;
+        })) None)
     by_stamped true = refl
     by_stamped false = refl
 
@@ -160,7 +191,13 @@ chosen t a x y z same other = ⊎_elim
 
 unstamped : (e : Entry) → e.stamped ≡ false → stamp_in e ≡ None
 unstamped e none = ap (λ b. cond b
-    (Some (record { odometer = e.odometer; slack = e.slack; upper = e.upper; lower = e.lower; expired = e.expired })) None) none
+    (Some (record {
+      odometer = e.odometer;
+      slack = e.slack;
+      upper = e.upper;
+      lower = e.lower;
+      expired = e.expired;
+    })) None) none
 
 -- and expires the stamp of its triangle alone
 pub expired_stamps : (parts : PartsState) (log : Log) (s t : ℕ) → IsWhole parts → IsParts parts
@@ -185,7 +222,8 @@ expired_stamps parts log s t whole is live at a =
     ∙ ap (option_map with_expired) (sym (stamp_of-parts parts log a)))
     (λ apart.
     stamp_of-parts (expired_at parts s) log a
-    ∙ ap stamp_in (get_or-set_other parts.entries s (slot_of pairs a) (record (entry_at parts s) { expired = true }) blank
+    ∙ ap stamp_in (get_or-set_other parts.entries s (slot_of pairs a)
+    (record (entry_at parts s) { expired = true }) blank
     (λ same. apart (sym at ∙ at-slot_of pairs s a live same)))
     ∙ sym (stamp_of-parts parts log a))
 
@@ -202,7 +240,8 @@ dead_stamps mesh t pool only dead a =
     nothing own None is = is
     nothing own (Some stamp) is =
         let there = entry_at-of mesh.pool a pool (only a stamp is) in
-        absurd (dead (slot_of mesh.pool.pairs a) (entry_live mesh.pool.pairs (slot_of mesh.pool.pairs a) there.0) (there.1 ∙ sym own))
+        absurd (dead (slot_of mesh.pool.pairs a)
+        (entry_live mesh.pool.pairs (slot_of mesh.pool.pairs a) there.0) (there.1 ∙ sym own))
 
 -- what is counted has no part in where all stands
 pub uncounted_parts : (parts : PartsState) → IsParts parts → IsParts (record parts { pool = uncounted parts.pool })
@@ -232,7 +271,8 @@ pub stamps_hold : (priority : ℕ → ℕ) (odometer : ℕ) (parts : PartsState)
 stamps_hold priority odometer parts log hold = subst (StampsHold priority odometer) (sym (seen_stamps parts log)) hold
 
 -- what the loop takes at most is said of the mesh between frames
-pub at_most : (told : Priorities) (readings : Readings) (odometer : ℕ) (parts : PartsState) (log : Log) (budget steps count more : ℕ) →
+pub at_most : (told : Priorities) (readings : Readings) (odometer : ℕ) (parts : PartsState) (log : Log)
+    (budget steps count more : ℕ) →
     IsAtMost told readings odometer (seen_parts parts) budget steps count more
     → IsAtMost told readings odometer (seen_of (mesh_of parts log)) budget steps count more
 at_most told readings odometer parts log budget steps count more most =

@@ -3,7 +3,8 @@ use Rattle.std.proofs.Common.{◌≡◌, Bool, true, false, cond, refl}
 use Rattle.std.proofs.lemmas.Bool.{false≢true}
 
 -- two choices of which either answers just where the other does
-pub same_cond : {A : Type 0} (b c : Bool) (x y z : A) → (b ≡ true → (c ≡ true) × (x ≡ y)) → (c ≡ true → b ≡ true) → cond b x z ≡ cond c y z
+pub same_cond : {A : Type 0} (b c : Bool) (x y z : A) → (b ≡ true → (c ≡ true) × (x ≡ y)) →
+    (c ≡ true → b ≡ true) → cond b x z ≡ cond c y z
 same_cond true true x y z there back = (there refl).1
 same_cond true false x y z there back = absurd (false≢true (there refl).0)
 same_cond false true x y z there back = absurd (false≢true (back refl))

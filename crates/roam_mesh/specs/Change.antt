@@ -1,8 +1,10 @@
 -- What each call does to the parts of a mesh, as functions.
 -- All of it is this project's own.
--- Words: chief_slot, diamond_slots, child_slots, above_slots, with_above, with_mate, with_chain, gone_entry, taken_out, left, left_all,
--- pushed, pushed_all, rekeyed, is_mate_fresh, put_in, heard, rated, read_entry, entered, seated, unheard, forgotten, begun_at, expired_at.
-use Rattle.std.specs.Prelude.{ℕ, ◌+◌, ◌*◌, ◌/◌, ◌&&◌, ◌||◌, Bool, true, false, cond, nat_le, nat_lt, List, [], ◌∷◌, ◌++◌, None, Some, option_map, slice_index_or, slice_set}
+-- Words: chief_slot, diamond_slots, child_slots, above_slots, with_above, with_mate, with_chain, gone_entry, taken_out,
+-- left, left_all, pushed, pushed_all, rekeyed, is_mate_fresh, put_in, heard, rated, read_entry, entered, seated,
+-- unheard, forgotten, begun_at, expired_at.
+use Rattle.std.specs.Prelude.{ℕ, ◌+◌, ◌*◌, ◌/◌, ◌&&◌, ◌||◌, Bool, true, false, cond, nat_le, nat_lt, List, [], ◌∷◌}
+use Rattle.std.specs.Prelude.{◌++◌, None, Some, option_map, slice_index_or, slice_set}
 use Rattle.edge_laws.specs.Edge.{mate_of}
 use Rattle.edge_laws.specs.Slots.{address_at, has_children}
 use Rattle.edge_laws.specs.Chief.{chief_of}
@@ -17,7 +19,8 @@ chief_slot pairs s = slot_of pairs (chief_of (address_at pairs s))
 
 -- the slots of a diamond, the other triangle's first
 abbrev pub diamond_slots : List ℕ → ℕ → List ℕ
-diamond_slots pairs s = cond (nat_lt 0 (mate_of (address_at pairs s))) (slot_of pairs (mate_of (address_at pairs s)) ∷ []) [] ++ (s ∷ [])
+diamond_slots pairs s =
+    cond (nat_lt 0 (mate_of (address_at pairs s))) (slot_of pairs (mate_of (address_at pairs s)) ∷ []) [] ++ (s ∷ [])
 
 -- the slots of the children of a split triangle
 abbrev pub child_slots : List ℕ → ℕ → List ℕ
@@ -26,7 +29,8 @@ child_slots pairs s = slot_of pairs (2 * address_at pairs s) ∷ (slot_of pairs 
 -- the diamond above a leaf, where it can be merged
 abbrev pub above_slots : List ℕ → ℕ → List ℕ
 above_slots pairs s =
-    cond (nat_le 4 (address_at pairs s) && is_ready pairs (address_at pairs s / 2)) (diamond_slots pairs (slot_of pairs (address_at pairs s / 2))) []
+    cond (nat_le 4 (address_at pairs s) && is_ready pairs (address_at pairs s / 2))
+    (diamond_slots pairs (slot_of pairs (address_at pairs s / 2))) []
 
 -- a leaf, and that diamond
 abbrev pub with_above : List ℕ → ℕ → List ℕ
@@ -35,7 +39,8 @@ with_above pairs s = s ∷ above_slots pairs s
 -- and the same of its mate, where that is a leaf
 abbrev pub with_mate : List ℕ → ℕ → List ℕ
 with_mate pairs s = with_above pairs s
-    ++ cond (nat_lt 0 (mate_of (address_at pairs s)) && has_children pairs (mate_of (address_at pairs s) / 2)) (with_above pairs (slot_of pairs (mate_of (address_at pairs s)))) []
+    ++ cond (nat_lt 0 (mate_of (address_at pairs s)) && has_children pairs (mate_of (address_at pairs s) / 2))
+    (with_above pairs (slot_of pairs (mate_of (address_at pairs s)))) []
 
 -- the entries that a chain of splits takes away
 abbrev pub with_chain : List ℕ → List ℕ → List ℕ
@@ -45,7 +50,8 @@ with_chain pairs (s ∷ rest) = with_mate pairs s ++ with_chain pairs rest
 -- the entries that a merge takes away: the children of a diamond, and the diamond
 abbrev pub with_children : List ℕ → ℕ → List ℕ
 with_children pairs s = (child_slots pairs s
-    ++ cond (nat_lt 0 (mate_of (address_at pairs s))) (child_slots pairs (slot_of pairs (mate_of (address_at pairs s)))) []) ++ diamond_slots pairs s
+    ++ cond (nat_lt 0 (mate_of (address_at pairs s)))
+    (child_slots pairs (slot_of pairs (mate_of (address_at pairs s)))) []) ++ diamond_slots pairs s
 
 -- an entry no longer: no stamp, and nothing known
 abbrev pub gone_entry : Entry → Entry
@@ -83,12 +89,15 @@ abbrev pub rekeyed : PartsState → ℕ → PartsState
 rekeyed parts s = record parts {
   split = cond (is_leaf_at parts.pool.pairs s) (slice_set parts.split s (Some (leaf_rank parts s))) parts.split;
   merge = cond (is_leaf_at parts.pool.pairs s) parts.merge
-      (slice_set parts.merge (chief_slot parts.pool.pairs s) (Some (diamond_rank parts (chief_of (address_at parts.pool.pairs s)))));
+      (slice_set parts.merge (chief_slot parts.pool.pairs s)
+      (Some (diamond_rank parts (chief_of (address_at parts.pool.pairs s)))));
 }
 
 -- the mate of the slot's triangle is fresh
 abbrev pub is_mate_fresh : PartsState → ℕ → Bool
-is_mate_fresh parts s = nat_lt 0 (mate_of (address_at parts.pool.pairs s)) && (entry_at parts (slot_of parts.pool.pairs (mate_of (address_at parts.pool.pairs s)))).fresh
+is_mate_fresh parts s =
+    nat_lt 0 (mate_of (address_at parts.pool.pairs s)) &&
+    (entry_at parts (slot_of parts.pool.pairs (mate_of (address_at parts.pool.pairs s)))).fresh
 
 -- the slot's leaf is in its place, or its diamond once nothing of it is fresh
 abbrev pub put_in : PartsState → ℕ → PartsState
@@ -141,10 +150,14 @@ unheard e = record e { known = false; listed = false }
 
 -- the slot s is the last that was asked, and rest are the others
 abbrev pub forgotten : PartsState → List ℕ → ℕ → PartsState
-forgotten parts rest s = cond (entry_at parts s).known (rekeyed (unasked_slot parts rest s) s) (unasked_slot parts rest s)
+forgotten parts rest s =
+    cond (entry_at parts s).known (rekeyed (unasked_slot parts rest s) s) (unasked_slot parts rest s)
   where
     unasked_slot : PartsState → List ℕ → ℕ → PartsState
-    unasked_slot parts rest s = record parts { entries = slice_set parts.entries s (unheard (entry_at parts s)); asked = rest }
+    unasked_slot parts rest s = record parts {
+      entries = slice_set parts.entries s (unheard (entry_at parts s));
+      asked = rest;
+    }
 
 -- a slot that is due is out of its place, and fresh
 abbrev pub begun_at : PartsState → ℕ → PartsState

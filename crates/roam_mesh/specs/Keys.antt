@@ -9,7 +9,8 @@ use Rattle.mesh_defs.specs.Ranking.{IsBefore}
 use Rattle.closure_laws.specs.Order.{IsNoLater}
 use Rattle.bintree_addr.specs.declared.rank.Rank.{Rank}
 use Rattle.bintree_addr.specs.declared.slot.Slot.{Slot}
-use Rattle.roam_mesh.specs.Parts.{PartsState, entry_at, entry_of, is_ready_at, best_of, merging_key, worst_rank, diamond_rank}
+use Rattle.roam_mesh.specs.Parts.{PartsState, entry_at, entry_of, is_ready_at, best_of, merging_key, worst_rank}
+use Rattle.roam_mesh.specs.Parts.{diamond_rank}
 use Rattle.roam_mesh.specs.declared.entry.Entry.{Entry}
 
 -- the priority of an entry is known: it was told, or its bounds are equal
@@ -20,22 +21,27 @@ is_sure e = e.known || nat_eq (cond e.stamped e.upper 0) (cond e.stamped e.lower
 abbrev pub IsOfDiamond : PartsState → ℕ → ℕ → Type 0
 IsOfDiamond parts s t =
     (address_at parts.pool.pairs t ≡ address_at parts.pool.pairs s)
-    ⊎ ((1 ≤ mate_of (address_at parts.pool.pairs s)) × (address_at parts.pool.pairs t ≡ mate_of (address_at parts.pool.pairs s)))
+    ⊎ ((1 ≤ mate_of (address_at parts.pool.pairs s))
+    × (address_at parts.pool.pairs t ≡ mate_of (address_at parts.pool.pairs s)))
 
 -- the slot of the triangle that the diamond's key names, and that of its mate
 pub record IsBetterFirst (parts : PartsState) (s : ℕ) (pair : Slot × Option Slot) : Type 0 where
-  pub key : worst_rank parts (address_at parts.pool.pairs pair.0.0) ≡ diamond_rank parts (chief_of (address_at parts.pool.pairs s))
+  pub key : worst_rank parts (address_at parts.pool.pairs pair.0.0)
+      ≡ diamond_rank parts (chief_of (address_at parts.pool.pairs s))
   pub ready : is_ready_at parts.pool.pairs pair.0.0 ≡ true
   pub own : IsOfDiamond parts s pair.0.0
   pub alone : IsNone pair.1 ↔ mate_of (address_at parts.pool.pairs pair.0.0) ≡ 0
-  pub other : IfSome pair.1 (λ m. (address_at parts.pool.pairs m.0 ≡ mate_of (address_at parts.pool.pairs pair.0.0)) × (is_ready_at parts.pool.pairs m.0 ≡ true))
+  pub other : IfSome pair.1 (λ m. (address_at parts.pool.pairs m.0 ≡ mate_of (address_at parts.pool.pairs pair.0.0))
+      × (is_ready_at parts.pool.pairs m.0 ≡ true))
 
 -- the triangle that the diamond's key names is sure, and no later than its mate by the best that this can be
 pub record IsKnownRank (parts : PartsState) (s : ℕ) : Type 0 where
   pub own : is_sure (entry_of parts (diamond_rank parts (chief_of (address_at parts.pool.pairs s))).tri) ≡ true
   pub mate : 1 ≤ mate_of (diamond_rank parts (chief_of (address_at parts.pool.pairs s))).tri →
-      IsNoLater (merging_key (entry_of parts (diamond_rank parts (chief_of (address_at parts.pool.pairs s))).tri)) (diamond_rank parts (chief_of (address_at parts.pool.pairs s))).tri
-      (best_of (entry_of parts (mate_of (diamond_rank parts (chief_of (address_at parts.pool.pairs s))).tri))) (mate_of (diamond_rank parts (chief_of (address_at parts.pool.pairs s))).tri)
+      IsNoLater (merging_key (entry_of parts (diamond_rank parts (chief_of (address_at parts.pool.pairs s))).tri))
+      (diamond_rank parts (chief_of (address_at parts.pool.pairs s))).tri
+      (best_of (entry_of parts (mate_of (diamond_rank parts (chief_of (address_at parts.pool.pairs s))).tri)))
+      (mate_of (diamond_rank parts (chief_of (address_at parts.pool.pairs s))).tri)
 
 -- the slot t has the triangle of this key, unless that is sure, or t comes first by the best that each can be
 abbrev pub IsTurn : PartsState → Rank → ℕ → Type 0

@@ -1,7 +1,8 @@
 -- The log of a mesh, and what steps put into it.
 -- All of it is this project's own.
 -- Words: noted, noted_all, parents_of, diamond_of, IsBornOfSplit.
-use Rattle.std.specs.Prelude.{◌≡◌, ℕ, ◌+◌, ◌/◌, ◌≤◌, ◌⊎◌, true, cond, nat_lt, List, [], ◌∷◌, ◌++◌, length, Option, None, Some}
+use Rattle.std.specs.Prelude.{◌≡◌, ℕ, ◌+◌, ◌/◌, ◌≤◌, ◌⊎◌, true, cond, nat_lt, List, [], ◌∷◌, ◌++◌, length, Option, None}
+use Rattle.std.specs.Prelude.{Some}
 use Rattle.std.specs.List.{AllByRecursion}
 use Rattle.mesh_defs.specs.ClosedSet.{among}
 use Rattle.edge_laws.specs.Edge.{mate_of}
@@ -33,7 +34,8 @@ second_parent pairs (Some pair) = (address_at pairs pair.0.0 / 2) ∷ []
 -- the triangles whose children splits gave out
 abbrev pub parents_of : List ℕ → List Born → List ℕ
 parents_of pairs [] = []
-parents_of pairs (born ∷ others) = (address_at pairs born.first.0.0 / 2) ∷ (second_parent pairs born.second ++ parents_of pairs others)
+parents_of pairs (born ∷ others) =
+    (address_at pairs born.first.0.0 / 2) ∷ (second_parent pairs born.second ++ parents_of pairs others)
 
 -- the triangles of the diamond of a
 abbrev pub diamond_of : ℕ → List ℕ
@@ -43,6 +45,7 @@ diamond_of a = cond (nat_lt 0 (mate_of a)) (mate_of a ∷ []) [] ++ (a ∷ [])
 pub record IsBornOfSplit (before after : PoolState) (answers : List Born) : Type 0 where
   pub low : AllByRecursion (λ r. 4 ≤ address_at after.pairs r) (born_slots answers)
   pub kept : (a : ℕ) → split_set before.pairs a ≡ true → split_set after.pairs a ≡ true
-  pub new : (a : ℕ) → split_set after.pairs a ≡ true → (split_set before.pairs a ≡ true) ⊎ (among (parents_of after.pairs answers) a ≡ true)
+  pub new : (a : ℕ) → split_set after.pairs a ≡ true →
+      (split_set before.pairs a ≡ true) ⊎ (among (parents_of after.pairs answers) a ≡ true)
   pub splits : after.splits ≡ before.splits + length (parents_of after.pairs answers)
   pub merges : after.merges ≡ before.merges

@@ -12,8 +12,8 @@ use Rattle.roam_mesh.specs.Change.{above_slots, with_children, left_all, pushed_
 abbrev pub mate_slots : List ℕ → ℕ → List ℕ
 mate_slots pairs m = cond (nat_lt 0 m) (above_slots pairs (slot_of pairs m) ++ (slot_of pairs m ∷ [])) []
 
--- The diamond of slot s is merged: its children and it leave; the pool merges; the diamonds above it that can be merged now are
--- fresh, and so are its triangles, leaves now, the one of s last.
+-- The diamond of slot s is merged: its children and it leave; the pool merges; the diamonds above it that can be merged
+-- now are fresh, and so are its triangles, leaves now, the one of s last.
 pub record IsMergeAt (before after : PartsState) (s : ℕ) : Type 0 where
   pub n : after.pool.n ≡ before.pool.n
   pub most : after.pool.most ≡ before.pool.most
@@ -22,7 +22,8 @@ pub record IsMergeAt (before after : PartsState) (s : ℕ) : Type 0 where
   pub room : room_of after.pool.pairs ≡ room_of before.pool.pairs + diamond_size (address_at before.pool.pairs s)
   pub merge : IsMerge before.pool.pairs after.pool.pairs (address_at before.pool.pairs s)
   pub valid : IsPool after.pool.n after.pool.pairs
-  pub state : after ≡ pushed_all (pushed_all (pushed_all (record (left_all before (with_children before.pool.pairs s)) { pool = after.pool })
+  pub state : after ≡ pushed_all
+      (pushed_all (pushed_all (record (left_all before (with_children before.pool.pairs s)) { pool = after.pool })
       (above_slots after.pool.pairs s))
       (mate_slots after.pool.pairs (mate_of (address_at before.pool.pairs s))))
       (s ∷ [])

@@ -2,7 +2,8 @@
 -- Source: Duchaineau et al., "ROAMing Terrain", IEEE Visualization 1997, the part on deferred priority lists.
 -- Words: MeshState, slot_of, stamp_of, pool_members, pool_set, seen_of, with_expired, uncounted,
 -- OnlyEntriesStamped.
-use Rattle.std.specs.Prelude.{◌≡◌, ℕ, ◌+◌, ◌*◌, ◌/◌, ◌%◌, true, false, nat_eq, List, [], Option, None, Some, slice_index_or}
+use Rattle.std.specs.Prelude.{◌≡◌, ℕ, ◌+◌, ◌*◌, ◌/◌, ◌%◌, true, false, nat_eq, List, [], Option, None, Some}
+use Rattle.std.specs.Prelude.{slice_index_or}
 use Rattle.std.specs.List.{position_or_len}
 use Rattle.mesh_defs.specs.ClosedSet.{among}
 use Rattle.edge_laws.specs.Slots.{split_list}
@@ -33,11 +34,23 @@ pool_members pool = split_list pool.n pool.pairs
 
 -- the set of a pool, as the loop of a frame sees it
 abbrev pub pool_set : PoolState → PoolSet
-pool_set pool = record { n = pool.n; members = pool_members pool; most = pool.most; splits = pool.splits; merges = pool.merges }
+pool_set pool = record {
+  n = pool.n;
+  members = pool_members pool;
+  most = pool.most;
+  splits = pool.splits;
+  merges = pool.merges;
+}
 
 -- a mesh between frames, as the loop sees it
 abbrev pub seen_of : MeshState → SeenMesh
-seen_of mesh = record { set = pool_set mesh.pool; known = λ a. false; exact = λ a. 0; stamps = stamp_of mesh; fresh = [] }
+seen_of mesh = record {
+  set = pool_set mesh.pool;
+  known = λ a. false;
+  exact = λ a. 0;
+  stamps = stamp_of mesh;
+  fresh = [];
+}
 
 -- the stamp, expired
 abbrev pub with_expired : Stamp → Stamp
@@ -49,4 +62,5 @@ uncounted pool = record pool { splits = 0; merges = 0 }
 
 -- only entries have a stamp
 abbrev pub OnlyEntriesStamped : MeshState → Type 0
-OnlyEntriesStamped mesh = (a : ℕ) (stamp : Stamp) → stamp_of mesh a ≡ Some stamp → IsEntry mesh.pool.n (among (pool_members mesh.pool)) a
+OnlyEntriesStamped mesh =
+    (a : ℕ) (stamp : Stamp) → stamp_of mesh a ≡ Some stamp → IsEntry mesh.pool.n (among (pool_members mesh.pool)) a

@@ -1,9 +1,10 @@
 -- A mesh half way through a frame: its pool, what is kept of each slot, and what the three heaps hold.
 -- All of it is this project's own.
--- Words: PartsState, parts_of, stamp_in, best_of, merging_key, deadline_of, blank, entry_at, entry_of, seen_parts, QueuedState, mesh_of, is_leaf_at, is_bare,
--- is_ready, is_ready_at, is_chief_at, is_entry_at, is_out, leaf_rank, worst_rank, better_of, diamond_rank, IsSlotList, IsWhole,
--- IsPlaced, IsNear, IsParts.
-use Rattle.std.specs.Prelude.{◌≡◌, ℕ, ◌+◌, ◌*◌, ◌^◌, ◌≤◌, Bool, true, false, not, ◌&&◌, ◌||◌, cond, nat_eq, nat_le, nat_lt, List, length, map, take, reverse, Option, None, Some, slice_index, slice_index_or}
+-- Words: PartsState, parts_of, stamp_in, best_of, merging_key, deadline_of, blank, entry_at, entry_of, seen_parts,
+-- QueuedState, mesh_of, is_leaf_at, is_bare, is_ready, is_ready_at, is_chief_at, is_entry_at, is_out, leaf_rank,
+-- worst_rank, better_of, diamond_rank, IsSlotList, IsWhole, IsPlaced, IsNear, IsParts.
+use Rattle.std.specs.Prelude.{◌≡◌, ℕ, ◌+◌, ◌*◌, ◌^◌, ◌≤◌, Bool, true, false, not, ◌&&◌, ◌||◌, cond, nat_eq, nat_le}
+use Rattle.std.specs.Prelude.{nat_lt, List, length, map, take, reverse, Option, None, Some, slice_index, slice_index_or}
 use Rattle.std.specs.List.{IsDistinct}
 use Rattle.mesh_defs.specs.ClosedSet.{among}
 use Rattle.edge_laws.specs.Edge.{mate_of}
@@ -31,7 +32,8 @@ pub record PartsState : Type 0 where
   pub fresh : List ℕ
 
 -- the same, where the two lists are the first entries of arrays
-abbrev pub parts_of : PoolState → List Entry → List (Option Rank) → List (Option Rank) → List (Option ℕ) → List Slot → ℕ → List Slot → ℕ → PartsState
+abbrev pub parts_of : PoolState → List Entry → List (Option Rank) → List (Option Rank) → List (Option ℕ) → List Slot →
+    ℕ → List Slot → ℕ → PartsState
 parts_of pool entries split merge due asked asked_count fresh fresh_count = record {
   pool = pool;
   entries = entries;
@@ -44,7 +46,14 @@ parts_of pool entries split merge due asked asked_count fresh fresh_count = reco
 
 -- the stamp of an entry
 abbrev pub stamp_in : Entry → Option Stamp
-stamp_in e = cond e.stamped (Some (record { odometer = e.odometer; slack = e.slack; upper = e.upper; lower = e.lower; expired = e.expired })) None
+stamp_in e =
+    cond e.stamped (Some (record {
+      odometer = e.odometer;
+      slack = e.slack;
+      upper = e.upper;
+      lower = e.lower;
+      expired = e.expired;
+    })) None
 
 -- its key in the split queue
 abbrev pub best_of : Entry → ℕ
@@ -60,7 +69,18 @@ deadline_of e = cond (e.stamped && not e.expired) (e.odometer + e.slack + 1) 0
 
 -- what is kept of a slot that has nothing
 abbrev pub blank : Entry
-blank = record { odometer = 0; slack = 0; upper = 0; lower = 0; exact = 0; stamped = false; expired = false; known = false; listed = false; fresh = false }
+blank = record {
+  odometer = 0;
+  slack = 0;
+  upper = 0;
+  lower = 0;
+  exact = 0;
+  stamped = false;
+  expired = false;
+  known = false;
+  listed = false;
+  fresh = false;
+}
 
 -- what is kept of a slot, and of an address
 abbrev pub entry_at : PartsState → ℕ → Entry
@@ -114,7 +134,8 @@ is_entry_at pairs s = is_leaf_at pairs s || is_ready_at pairs s
 
 -- the slot is out of its place, or its mate's is
 abbrev pub is_out : List ℕ → (ℕ → Bool) → ℕ → Bool
-is_out pairs out s = out s || (nat_lt 0 (mate_of (address_at pairs s)) && out (slot_of pairs (mate_of (address_at pairs s))))
+is_out pairs out s =
+    out s || (nat_lt 0 (mate_of (address_at pairs s)) && out (slot_of pairs (mate_of (address_at pairs s))))
 
 -- the key of a leaf
 abbrev pub leaf_rank : PartsState → ℕ → Rank
@@ -130,7 +151,8 @@ better_of r q = cond (nat_lt q.p r.p || (nat_eq r.p q.p && nat_le r.tri q.tri)) 
 
 -- the key of a diamond: the better one of its triangles
 abbrev pub diamond_rank : PartsState → ℕ → Rank
-diamond_rank parts a = cond (nat_eq (mate_of a) 0) (worst_rank parts a) (better_of (worst_rank parts a) (worst_rank parts (mate_of a)))
+diamond_rank parts a =
+    cond (nat_eq (mate_of a) 0) (worst_rank parts a) (better_of (worst_rank parts a) (worst_rank parts (mate_of a)))
 
 -- a list of slots, each once; they are those with a mark
 pub record IsSlotList (entries : List Entry) (mark : Entry → Bool) (slots : List ℕ) : Type 0 where
@@ -150,13 +172,15 @@ pub record IsWhole (parts : PartsState) : Type 0 where
   pub fresh : IsSlotList parts.entries (λ e. e.fresh) parts.fresh
   pub known : (s : ℕ) → (entry_at parts s).known ≡ true → (entry_at parts s).listed ≡ true
 
--- The heaps hold just what they must, but for the slots that are out of place: the leaves by the best that their priorities
--- can be, the diamonds that can be merged under their chiefs, the entries by their deadlines. Only entries have a stamp or are known.
+-- The heaps hold just what they must, but for the slots that are out of place: the leaves by the best that their
+-- priorities can be, the diamonds that can be merged under their chiefs, the entries by their deadlines. Only entries
+-- have a stamp or are known.
 pub record IsPlaced (parts : PartsState) (out : ℕ → Bool) : Type 0 where
   pub split : (s : ℕ) → slice_index_or parts.split s None
       ≡ cond (is_leaf_at parts.pool.pairs s && not (out s)) (Some (leaf_rank parts s)) None
   pub merge : (s : ℕ) → slice_index_or parts.merge s None
-      ≡ cond (is_chief_at parts.pool.pairs s && not (is_out parts.pool.pairs out s)) (Some (diamond_rank parts (address_at parts.pool.pairs s))) None
+      ≡ cond (is_chief_at parts.pool.pairs s && not (is_out parts.pool.pairs out s))
+      (Some (diamond_rank parts (address_at parts.pool.pairs s))) None
   pub due : (s : ℕ) → slice_index_or parts.due s None
       ≡ cond (is_entry_at parts.pool.pairs s && not (out s)) (Some (deadline_of (entry_at parts s))) None
   pub stamped : (s : ℕ) → (entry_at parts s).stamped ≡ true → is_entry_at parts.pool.pairs s ≡ true

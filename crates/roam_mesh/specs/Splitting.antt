@@ -1,7 +1,8 @@
 -- What a split does to the parts of a mesh.
 -- All of it is this project's own.
 -- Words: pair_slots, second_slots, born_slots, born_leaves, IsLeafMate, IsChainSplit, IsSplitAt.
-use Rattle.std.specs.Prelude.{◌≡◌, ℕ, ◌+◌, ◌/◌, ◌≤◌, ◌⊎◌, true, List, [], ◌∷◌, ◌++◌, length, slice_index, Option, None, Some}
+use Rattle.std.specs.Prelude.{◌≡◌, ℕ, ◌+◌, ◌/◌, ◌≤◌, ◌⊎◌, true, List, [], ◌∷◌, ◌++◌, length, slice_index, Option, None}
+use Rattle.std.specs.Prelude.{Some}
 use Rattle.std.specs.List.{filter}
 use Rattle.mesh_defs.specs.ClosedSet.{IsLeastClosed}
 use Rattle.mesh_defs.specs.Greedy.{with_triangle}
@@ -46,15 +47,16 @@ pub record IsChainSplit (before after : PoolState) (chain : List ℕ) (answers :
   pub merges : after.merges ≡ before.merges
   pub splits : after.splits ≡ before.splits + chain_size before.pairs chain
   pub room : room_of after.pairs + chain_size before.pairs chain ≡ room_of before.pairs
-  pub set : IsLeastClosed before.n (with_triangle (split_set before.pairs) (address_at before.pairs (slice_index chain 0))) (split_set after.pairs)
+  pub set : IsLeastClosed before.n
+      (with_triangle (split_set before.pairs) (address_at before.pairs (slice_index chain 0))) (split_set after.pairs)
   pub kept : (r : ℕ) → IsLive before.pairs r → address_at after.pairs r ≡ address_at before.pairs r
   pub live : (r : ℕ) → IsLive after.pairs r → IsLive before.pairs r ⊎ IsBornOf answers r
   pub answered : AreAnswers before.pairs after.pairs chain answers
   pub old : IsPool before.n before.pairs
   pub valid : IsPool after.n after.pairs
 
--- The leaf at slot s is split with what it forces: its chain, with the diamonds above it, leaves; the pool splits; the new leaves are
--- fresh, and the diamond of s.
+-- The leaf at slot s is split with what it forces: its chain, with the diamonds above it, leaves; the pool splits; the
+-- new leaves are fresh, and the diamond of s.
 pub record IsSplitAt (before after : PartsState) (s : ℕ) : Type 0 where
   pub chain : List ℕ
   pub answers : List Born
@@ -66,10 +68,12 @@ pub record IsSplitAt (before after : PartsState) (s : ℕ) : Type 0 where
   pub merges : after.pool.merges ≡ before.pool.merges
   pub splits : after.pool.splits ≡ before.pool.splits + chain_size before.pool.pairs chain
   pub room : room_of after.pool.pairs + chain_size before.pool.pairs chain ≡ room_of before.pool.pairs
-  pub set : IsLeastClosed before.pool.n (with_triangle (split_set before.pool.pairs) (address_at before.pool.pairs s)) (split_set after.pool.pairs)
+  pub set : IsLeastClosed before.pool.n (with_triangle (split_set before.pool.pairs) (address_at before.pool.pairs s))
+      (split_set after.pool.pairs)
   pub kept : (r : ℕ) → IsLive before.pool.pairs r → address_at after.pool.pairs r ≡ address_at before.pool.pairs r
   pub live : (r : ℕ) → IsLive after.pool.pairs r → IsLive before.pool.pairs r ⊎ IsBornOf answers r
   pub answered : AreAnswers before.pool.pairs after.pool.pairs chain answers
   pub valid : IsPool after.pool.n after.pool.pairs
-  pub state : after ≡ pushed_all (pushed_all (record (left_all before (with_chain before.pool.pairs chain)) { pool = after.pool })
+  pub state : after
+      ≡ pushed_all (pushed_all (record (left_all before (with_chain before.pool.pairs chain)) { pool = after.pool })
       (born_leaves after.pool.pairs answers)) (diamond_slots after.pool.pairs s)

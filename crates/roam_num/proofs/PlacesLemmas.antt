@@ -1,5 +1,8 @@
 -- Numbers with a decimal point: where the point is, what thousandths a text is of, and the digits of a fraction.
-use Rattle.std.proofs.Common.{zero, suc, [], inl, inr, ◌≡◌, ◌≢◌, ◌↔◌, ◌⊎◌, decimal, Option, Some, None, ◌∷◌, ◌++◌, ℕ, ◌+◌, ◌-◌, ◌*◌, ◌/◌, ◌%◌, ◌^◌, ◌<◌, ◌≤◌, List, length, get_or, take, drop, refl, sym, ◌∙◌, ap, subst, arith, All, append_assoc, append-nil, drop-cons, add-one, take_all, length-drop}
+use Rattle.std.proofs.Common.{zero, suc, [], inl, inr, ◌≡◌, ◌≢◌, ◌↔◌, ◌⊎◌, decimal, Option, Some, None, ◌∷◌, ◌++◌, ℕ}
+use Rattle.std.proofs.Common.{◌+◌, ◌-◌, ◌*◌, ◌/◌, ◌%◌, ◌^◌, ◌<◌, ◌≤◌, List, length, get_or, take, drop, refl, sym, ◌∙◌}
+use Rattle.std.proofs.Common.{ap, subst, arith, All, append_assoc, append-nil, drop-cons, add-one, take_all}
+use Rattle.std.proofs.Common.{length-drop}
 use Rattle.std.specs.Option.{option_map}
 use Rattle.std.proofs.Math.Nat.{pow-succ', mod-lt, mul-sub, div-lt_iff_lt-mul}
 use Rattle.std.proofs.Math.Seq.{drop-length, drop-append_seam, take-append_seam}
@@ -11,7 +14,8 @@ use Rattle.text_laws.specs.Digits.{IsDigit, value_of}
 use Rattle.text_laws.specs.Numbers.{IsDecText, number_in}
 use Rattle.text_laws.proofs.NumberLemmas.{number-to, number-from}
 use Rattle.roam_num.specs.Laws.{FractionsAreExact}
-use Rattle.roam_num.specs.Places.{until_point, with_places, thousandths_in, IsThousandthsOf, fraction_digits, behind_point, exact_decimal}
+use Rattle.roam_num.specs.Places.{until_point, with_places, thousandths_in, IsThousandthsOf, fraction_digits}
+use Rattle.roam_num.specs.Places.{behind_point, exact_decimal}
 
 -- where the first point is
 
@@ -33,15 +37,18 @@ until-split (byte ∷ bytes) =
     ]
 
 -- the rest begins with the point
-until-point : (bytes : List ℕ) (first : ℕ) (rest : List ℕ) → drop (length (until_point bytes)) bytes ≡ first ∷ rest → first ≡ 46
+until-point : (bytes : List ℕ) (first : ℕ) (rest : List ℕ) →
+    drop (length (until_point bytes)) bytes ≡ first ∷ rest → first ≡ 46
 until-point [] first rest is = absurd (not-empty is)
   where
     not-empty : [] ≡ first ∷ rest → ⊥
     not-empty e = cc
 until-point (byte ∷ bytes) first rest is =
     elim (eqb_tells byte 46) [
-      | inl p ↦ sym (head (ap (λ (l : List ℕ). drop (length l) (byte ∷ bytes)) (sym (until-here byte bytes p.1)) ∙ is)) ∙ p.1
-      | inr p ↦ until-point bytes first rest (ap (λ (l : List ℕ). drop (length l) (byte ∷ bytes)) (sym (until-later byte bytes p.1)) ∙ is)
+      | inl p ↦
+          sym (head (ap (λ (l : List ℕ). drop (length l) (byte ∷ bytes)) (sym (until-here byte bytes p.1)) ∙ is)) ∙ p.1
+      | inr p ↦ until-point bytes first rest
+          (ap (λ (l : List ℕ). drop (length l) (byte ∷ bytes)) (sym (until-later byte bytes p.1)) ∙ is)
     ]
   where
     head : byte ∷ bytes ≡ first ∷ rest → byte ≡ first
@@ -78,12 +85,14 @@ map-found f None v h = absurd (none-some v h)
 map-found f (Some n) v h = (n, refl, cc)
 
 read-by : (bytes : List ℕ) (count : ℕ) (whole : Option ℕ) (behind : List ℕ) → number_in 16 (until_point bytes) ≡ whole
-    → drop (length (until_point bytes)) bytes ≡ behind → with_places whole behind ≡ Some count → IsThousandthsOf bytes count
+    → drop (length (until_point bytes)) bytes ≡ behind → with_places whole behind ≡ Some count →
+    IsThousandthsOf bytes count
 read-by bytes count None behind w b is = absurd (none-some count is)
 read-by bytes count (Some whole) [] w b is =
     let read = number-to 16 (until_point bytes) whole w in
     let same : until_point bytes ≡ bytes =
-    sym (append-nil (until_point bytes)) ∙ ap (λ (l : List ℕ). until_point bytes ++ l) (sym b) ∙ sym (until-split bytes) in
+    sym (append-nil (until_point bytes)) ∙ ap (λ (l : List ℕ). until_point bytes ++ l) (sym b)
+    ∙ sym (until-split bytes) in
     let value : 1000 * whole ≡ count = one (1000 * whole) count is in
     let P : List ℕ → Type 0 = λ l. IsDecText 16 l × (count ≡ 1000 * value_of l) in
     inl (subst P same (read.0, sym value ∙ ap (λ (k : ℕ). 1000 * k) read.1))
@@ -109,7 +118,8 @@ read-by bytes count (Some whole) (point ∷ digits) w b is =
 
 thousandths-to : (bytes : List ℕ) (count : ℕ) → thousandths_in bytes ≡ Some count → IsThousandthsOf bytes count
 unfolding thousandths_in
-thousandths-to bytes count is = read-by bytes count (number_in 16 (until_point bytes)) (drop (length (until_point bytes)) bytes) refl refl is
+thousandths-to bytes count is =
+    read-by bytes count (number_in 16 (until_point bytes)) (drop (length (until_point bytes)) bytes) refl refl is
 
 thousandths-from : (bytes : List ℕ) (count : ℕ) → IsThousandthsOf bytes count → thousandths_in bytes ≡ Some count
 unfolding thousandths_in
@@ -131,7 +141,8 @@ thousandths-from bytes count (inr is) =
     ∙ ap Some (sym is.5)))))
 
 -- what is answered is how many thousandths the bytes are
-pub thousandths-reads : (bytes : List ℕ) (result : Option ℕ) → result ≡ thousandths_in bytes → (count : ℕ) → (result ≡ Some count) ↔ IsThousandthsOf bytes count
+pub thousandths-reads : (bytes : List ℕ) (result : Option ℕ) → result ≡ thousandths_in bytes → (count : ℕ) →
+    (result ≡ Some count) ↔ IsThousandthsOf bytes count
 thousandths-reads bytes result same count =
     ((λ h. thousandths-to bytes count (sym same ∙ h)), (λ h. same ∙ thousandths-from bytes count h))
 
@@ -152,21 +163,24 @@ three-places digits part is one two =
 pub until-take : (bytes : List ℕ) (k : ℕ) → k ≡ length (until_point bytes) → take k bytes ≡ until_point bytes
 until-take bytes k is =
     let u : List ℕ = until_point bytes in
-    ap (λ (j : ℕ). take j bytes) is ∙ ap (take (length u)) (until-split bytes) ∙ take-append_seam u (drop (length u) bytes)
+    ap (λ (j : ℕ). take j bytes) is ∙ ap (take (length u)) (until-split bytes)
+    ∙ take-append_seam u (drop (length u) bytes)
 
 -- without a whole number there is none
 pub whole-refused : (bytes : List ℕ) → number_in 16 (until_point bytes) ≡ None → None ≡ thousandths_in bytes
 unfolding thousandths_in
 whole-refused bytes w = sym (ap (λ (o : Option ℕ). with_places o (drop (length (until_point bytes)) bytes)) w)
 
-pub whole-and-part : (bytes : List ℕ) (whole : Option ℕ) (k : ℕ) → number_in 16 (until_point bytes) ≡ whole → k ≡ length (until_point bytes) → k < length bytes
+pub whole-and-part : (bytes : List ℕ) (whole : Option ℕ) (k : ℕ) → number_in 16 (until_point bytes) ≡ whole →
+    k ≡ length (until_point bytes) → k < length bytes
     → with_places whole (46 ∷ drop (k + 1) bytes) ≡ thousandths_in bytes
 unfolding thousandths_in
 whole-and-part bytes whole k w at below =
     sym (ap (λ (o : Option ℕ). with_places o (drop (length (until_point bytes)) bytes)) w
     ∙ ap (λ (l : List ℕ). with_places whole l)
     (ap (λ (j : ℕ). drop j bytes) (sym at) ∙ drop-cons bytes k 0 below
-    ∙ ap (λ (c : ℕ). c ∷ drop (suc k) bytes) (until-point bytes (get_or bytes k 0) (drop (suc k) bytes) (ap (λ (j : ℕ). drop j bytes) (sym at) ∙ drop-cons bytes k 0 below))
+    ∙ ap (λ (c : ℕ). c ∷ drop (suc k) bytes) (until-point bytes (get_or bytes k 0) (drop (suc k) bytes)
+    (ap (λ (j : ℕ). drop j bytes) (sym at) ∙ drop-cons bytes k 0 below))
     ∙ ap (λ (j : ℕ). 46 ∷ drop j bytes) (sym (add-one k))))
 
 -- a slice to the end is the rest of the list
@@ -174,10 +188,13 @@ pub slice-rest : (bytes : List ℕ) (k : ℕ) → take (length bytes - k) (drop 
 slice-rest bytes k = take_all (length bytes - k) (drop k bytes) (let l = length-drop k bytes in omega (arith, l))
 
 -- what is behind the point has no number, or this one
-pub part-refused : (bytes digits : List ℕ) (whole k : ℕ) → number_in 16 (until_point bytes) ≡ Some whole → k ≡ length (until_point bytes) → k < length bytes
-    → digits ≡ drop (k + 1) bytes → option_map (λ part. part * 10 ^ (3 - length digits)) (number_in 3 digits) ≡ None → None ≡ thousandths_in bytes
+pub part-refused : (bytes digits : List ℕ) (whole k : ℕ) → number_in 16 (until_point bytes) ≡ Some whole →
+    k ≡ length (until_point bytes) → k < length bytes
+    → digits ≡ drop (k + 1) bytes → option_map (λ part. part * 10 ^ (3 - length digits)) (number_in 3 digits) ≡ None →
+    None ≡ thousandths_in bytes
 part-refused bytes digits whole k w at below is none =
-    none-mapped (λ part. part * 10 ^ (3 - length digits)) (λ part. 1000 * whole + part * 10 ^ (3 - length digits)) (number_in 3 digits) none
+    none-mapped (λ part. part * 10 ^ (3 - length digits)) (λ part. 1000 * whole + part * 10 ^ (3 - length digits))
+    (number_in 3 digits) none
     ∙ ap (λ (l : List ℕ). with_places (Some whole) (46 ∷ l)) is
     ∙ whole-and-part bytes (Some whole) k w at below
   where
@@ -185,18 +202,22 @@ part-refused bytes digits whole k w at below is none =
     none-mapped f h None e = refl
     none-mapped f h (Some n) e = absurd (none-some (f n) (sym e))
 
-pub part-added : (bytes digits : List ℕ) (whole part k : ℕ) → number_in 16 (until_point bytes) ≡ Some whole → k ≡ length (until_point bytes) → k < length bytes
-    → digits ≡ drop (k + 1) bytes → option_map (λ n. n * 10 ^ (3 - length digits)) (number_in 3 digits) ≡ Some part → Some (1000 * whole + part) ≡ thousandths_in bytes
+pub part-added : (bytes digits : List ℕ) (whole part k : ℕ) → number_in 16 (until_point bytes) ≡ Some whole →
+    k ≡ length (until_point bytes) → k < length bytes
+    → digits ≡ drop (k + 1) bytes → option_map (λ n. n * 10 ^ (3 - length digits)) (number_in 3 digits) ≡ Some part →
+    Some (1000 * whole + part) ≡ thousandths_in bytes
 part-added bytes digits whole part k w at below is some =
     some-mapped (λ n. n * 10 ^ (3 - length digits)) (number_in 3 digits) some
     ∙ ap (λ (l : List ℕ). with_places (Some whole) (46 ∷ l)) is
     ∙ whole-and-part bytes (Some whole) k w at below
   where
-    some-mapped : (f : ℕ → ℕ) (o : Option ℕ) → option_map f o ≡ Some part → Some (1000 * whole + part) ≡ option_map (λ n. 1000 * whole + f n) o
+    some-mapped : (f : ℕ → ℕ) (o : Option ℕ) → option_map f o ≡ Some part →
+        Some (1000 * whole + part) ≡ option_map (λ n. 1000 * whole + f n) o
     some-mapped f None e = absurd (none-some part e)
     some-mapped f (Some n) e = ap (λ (o : Option ℕ). option_map (λ m. 1000 * whole + m) o) (sym e)
 
-pub whole-alone : (bytes : List ℕ) (whole : ℕ) → number_in 16 (until_point bytes) ≡ Some whole → length (until_point bytes) ≡ length bytes
+pub whole-alone : (bytes : List ℕ) (whole : ℕ) → number_in 16 (until_point bytes) ≡ Some whole →
+    length (until_point bytes) ≡ length bytes
     → Some (1000 * whole) ≡ thousandths_in bytes
 unfolding thousandths_in
 whole-alone bytes whole w all =
@@ -220,7 +241,8 @@ fraction-some (suc most) (suc rest) over some left =
     ap (λ (k : ℕ). (48 + 10 * suc rest / over) ∷ fraction_digits k (10 * suc rest % over) over) (sym less)
 
 -- the text of a number and its fraction
-pub decimal-items : (old middle new : List ℕ) (count n same over : ℕ) → over ≡ 2 ^ n → same ≡ count → middle ≡ old ++ decimal (same / over)
+pub decimal-items : (old middle new : List ℕ) (count n same over : ℕ) → over ≡ 2 ^ n → same ≡ count →
+    middle ≡ old ++ decimal (same / over)
     → new ≡ middle ++ behind_point (fraction_digits n (same % over) over) → new ≡ old ++ exact_decimal count n
 unfolding exact_decimal
 decimal-items old middle new count n same over power is first second =
@@ -245,11 +267,13 @@ fraction-items old middle new most rest over some left first second =
     ∙ ap (λ (l : List ℕ). old ++ behind_point l) (sym one)
 
 -- there are no digits, and no point
-pub fraction-nothing : (old : List ℕ) (most rest over : ℕ) → (most ≡ 0) ⊎ (rest ≡ 0) → old ≡ old ++ behind_point (fraction_digits most rest over)
+pub fraction-nothing : (old : List ℕ) (most rest over : ℕ) → (most ≡ 0) ⊎ (rest ≡ 0) →
+    old ≡ old ++ behind_point (fraction_digits most rest over)
 fraction-nothing old most rest over (inl none) =
     sym (ap (λ (k : ℕ). old ++ behind_point (fraction_digits k rest over)) none ∙ append-nil old)
 fraction-nothing old most rest over (inr none) =
-    sym (ap (λ (k : ℕ). old ++ behind_point (fraction_digits most k over)) none ∙ ap (λ (l : List ℕ). old ++ behind_point l) (fraction-none most over) ∙ append-nil old)
+    sym (ap (λ (k : ℕ). old ++ behind_point (fraction_digits most k over)) none
+    ∙ ap (λ (l : List ℕ). old ++ behind_point l) (fraction-none most over) ∙ append-nil old)
 
 -- one digit of the loop more, or none because nothing is left
 pub next-digit : (all old new : List ℕ) (most place rest over : ℕ) → place < most → 0 < rest
@@ -264,7 +288,8 @@ next-digit all old new most place rest over below left before pushed =
     ∙ ap (λ (l : List ℕ). old ++ l) (sym one)
     ∙ before
 
-pub no-digit : (all old : List ℕ) (most place rest over : ℕ) → rest ≡ 0 → old ++ fraction_digits (most - place) rest over ≡ all
+pub no-digit : (all old : List ℕ) (most place rest over : ℕ) → rest ≡ 0 →
+    old ++ fraction_digits (most - place) rest over ≡ all
     → old ++ fraction_digits (most - (place + 1)) rest over ≡ all
 no-digit all old most place rest over none before =
     ap (λ (k : ℕ). old ++ fraction_digits (most - (place + 1)) k over) none
@@ -273,12 +298,14 @@ no-digit all old most place rest over none before =
     ∙ before
 
 -- long division, over plain numbers
-put-together : (d over r s power value : ℕ) → d * over + r ≡ 10 * s → value * over ≡ r * power → (d * power + value) * over ≡ s * (10 * power)
+put-together : (d over r s power value : ℕ) → d * over + r ≡ 10 * s → value * over ≡ r * power →
+    (d * power + value) * over ≡ s * (10 * power)
 put-together d over r s power value step tail =
     let m : (d * over + r) * power ≡ 10 * s * power = ap (λ (k : ℕ). k * power) step in
     omega (arith, m, tail)
 
-quotient : (d over r s power q : ℕ) → d * over + r ≡ 10 * s → s * (10 * power) ≡ q * over → r * power ≡ over * (q - d * power)
+quotient : (d over r s power q : ℕ) → d * over + r ≡ 10 * s → s * (10 * power) ≡ q * over →
+    r * power ≡ over * (q - d * power)
 quotient d over r s power q step ends =
     let m : (d * over + r) * power ≡ 10 * s * power = ap (λ (k : ℕ). k * power) step in
     let sub = mul-sub over q (d * power) in
@@ -294,8 +321,10 @@ module _ (over : ℕ) where
   next-ends : (most rest q : ℕ) → suc rest * 10 ^ suc most ≡ over * q
       → 10 * suc rest % over * 10 ^ most ≡ over * (q - 10 * suc rest / over * 10 ^ most)
   next-ends most rest q ends =
-      let e : suc rest * (10 * 10 ^ most) ≡ q * over = ap (λ (k : ℕ). suc rest * k) (sym (pow-succ' 10 most)) ∙ ends ∙ omega arith in
-      quotient (10 * suc rest / over) over (10 * suc rest % over) (suc rest) (10 ^ most) q (div-add-mod' (10 * suc rest) over) e
+      let e : suc rest * (10 * 10 ^ most) ≡ q * over =
+      ap (λ (k : ℕ). suc rest * k) (sym (pow-succ' 10 most)) ∙ ends ∙ omega arith in
+      quotient (10 * suc rest / over) over (10 * suc rest % over) (suc rest) (10 ^ most) q
+      (div-add-mod' (10 * suc rest) over) e
 
   next-below : (rest : ℕ) → rest < over → 10 * rest % over < over
   next-below rest below = mod-lt (10 * rest) {m = over} (omega (arith, below))
@@ -310,17 +339,21 @@ module _ (over : ℕ) where
       let r : ℕ = 10 * suc rest % over in
       let digits : List ℕ = fraction_digits most r over in
       let tail = fraction-exact most r (q - d * 10 ^ most) (next-below (suc rest) below) (next-ends most rest q ends) in
-      let sum = put-together d over r (suc rest) (10 ^ length digits) (value_of digits) (div-add-mod' (10 * suc rest) over) tail in
+      let sum = put-together d over r (suc rest) (10 ^ length digits) (value_of digits)
+      (div-add-mod' (10 * suc rest) over) tail in
       let digit : 48 + d - 48 ≡ d = omega arith in
-      ap (λ (k : ℕ). (k * 10 ^ length digits + value_of digits) * over) digit ∙ sum ∙ ap (λ (k : ℕ). suc rest * k) (sym (pow-succ' 10 (length digits)))
+      ap (λ (k : ℕ). (k * 10 ^ length digits + value_of digits) * over) digit ∙ sum
+      ∙ ap (λ (k : ℕ). suc rest * k) (sym (pow-succ' 10 (length digits)))
 
   -- they are digits
   fraction-digits : (most rest : ℕ) → rest < over → All IsDigit (fraction_digits most rest over)
   fraction-digits zero rest below = All-nil IsDigit
   fraction-digits (suc most) zero below = All-nil IsDigit
   fraction-digits (suc most) (suc rest) below =
-      let small = (div-lt_iff_lt-mul {k = over} {x = 10 * suc rest} {y = 10} (omega (arith, below))).1 (omega (arith, below)) in
-      All-cons IsDigit (48 + 10 * suc rest / over) (fraction_digits most (10 * suc rest % over) over) (omega arith, omega (arith, small))
+      let small =
+      (div-lt_iff_lt-mul {k = over} {x = 10 * suc rest} {y = 10} (omega (arith, below))).1 (omega (arith, below)) in
+      All-cons IsDigit (48 + 10 * suc rest / over) (fraction_digits most (10 * suc rest % over) over)
+      (omega arith, omega (arith, small))
       (fraction-digits most (10 * suc rest % over) (next-below (suc rest) below))
 
   -- not too many
@@ -330,7 +363,8 @@ module _ (over : ℕ) where
   fraction-short (suc most) (suc rest) = let l = fraction-short most (10 * suc rest % over) in omega (arith, l)
 
   -- where there is none, nothing is left
-  fraction-empty : (most rest q : ℕ) → rest < over → rest * 10 ^ most ≡ over * q → fraction_digits most rest over ≡ [] → rest ≡ 0
+  fraction-empty : (most rest q : ℕ) → rest < over → rest * 10 ^ most ≡ over * q →
+      fraction_digits most rest over ≡ [] → rest ≡ 0
   fraction-empty zero rest q below ends none = whole-none over rest q below ends
   fraction-empty (suc most) zero q below ends none = refl
   fraction-empty (suc most) (suc rest) q below ends none = absurd (filled none)
@@ -339,7 +373,8 @@ module _ (over : ℕ) where
       filled e = cc
 
   -- and the last is not 0
-  fraction-last : (most rest q : ℕ) → rest < over → rest * 10 ^ most ≡ over * q → (before : List ℕ) → fraction_digits most rest over ≡ before ++ 48 ∷ [] → ⊥
+  fraction-last : (most rest q : ℕ) → rest < over → rest * 10 ^ most ≡ over * q → (before : List ℕ) →
+      fraction_digits most rest over ≡ before ++ 48 ∷ [] → ⊥
   fraction-last zero rest q below ends [] is = cc
   fraction-last zero rest q below ends (b ∷ before) is = cc
   fraction-last (suc most) zero q below ends [] is = cc
@@ -347,20 +382,25 @@ module _ (over : ℕ) where
   fraction-last (suc most) (suc rest) q below ends [] is =
       let d : ℕ = 10 * suc rest / over in
       let r : ℕ = 10 * suc rest % over in
-      let none = fraction-empty most r (q - d * 10 ^ most) (next-below (suc rest) below) (next-ends most rest q ends) (tail is) in
+      let none = fraction-empty most r (q - d * 10 ^ most) (next-below (suc rest) below)
+      (next-ends most rest q ends) (tail is) in
       let zero_digit : 48 + d ≡ 48 = head is in
       let step = div-add-mod' (10 * suc rest) over in
       let d_none : d ≡ 0 = omega (arith, zero_digit) in
-      let sum : 0 * over + 0 ≡ 10 * suc rest = ap (λ (k : ℕ). k * over + 0) (sym d_none) ∙ ap (λ (k : ℕ). d * over + k) (sym none) ∙ step in
+      let sum : 0 * over + 0 ≡ 10 * suc rest =
+      ap (λ (k : ℕ). k * over + 0) (sym d_none) ∙ ap (λ (k : ℕ). d * over + k) (sym none) ∙ step in
       omega (arith, sum)
     where
-      head : (48 + 10 * suc rest / over) ∷ fraction_digits most (10 * suc rest % over) over ≡ 48 ∷ [] → 48 + 10 * suc rest / over ≡ 48
+      head : (48 + 10 * suc rest / over) ∷ fraction_digits most (10 * suc rest % over) over ≡ 48 ∷ [] →
+          48 + 10 * suc rest / over ≡ 48
       head e = cc
 
-      tail : (48 + 10 * suc rest / over) ∷ fraction_digits most (10 * suc rest % over) over ≡ 48 ∷ [] → fraction_digits most (10 * suc rest % over) over ≡ []
+      tail : (48 + 10 * suc rest / over) ∷ fraction_digits most (10 * suc rest % over) over ≡ 48 ∷ [] →
+          fraction_digits most (10 * suc rest % over) over ≡ []
       tail e = cc
   fraction-last (suc most) (suc rest) q below ends (b ∷ before) is =
-      fraction-last most (10 * suc rest % over) (q - 10 * suc rest / over * 10 ^ most) (next-below (suc rest) below) (next-ends most rest q ends) before (tail is)
+      fraction-last most (10 * suc rest % over) (q - 10 * suc rest / over * 10 ^ most) (next-below (suc rest) below)
+      (next-ends most rest q ends) before (tail is)
     where
       tail : (48 + 10 * suc rest / over) ∷ fraction_digits most (10 * suc rest % over) over ≡ b ∷ (before ++ 48 ∷ [])
           → fraction_digits most (10 * suc rest % over) over ≡ before ++ 48 ∷ []

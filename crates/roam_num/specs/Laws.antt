@@ -1,5 +1,6 @@
 -- What reading and writing have to do with one another.
-use Rattle.std.specs.Prelude.{◌≡◌, ℕ, ◌*◌, ◌%◌, ◌^◌, ◌<◌, ◌≤◌, List, [], ◌∷◌, ◌++◌, length, All, Some, ℤ, FitsSigned, unsigned_abs, decimal}
+use Rattle.std.specs.Prelude.{◌≡◌, ℕ, ◌*◌, ◌%◌, ◌^◌, ◌<◌, ◌≤◌, List, [], ◌∷◌, ◌++◌, length, All, Some, ℤ, FitsSigned}
+use Rattle.std.specs.Prelude.{unsigned_abs, decimal}
 use Rattle.std.specs.Fmt.{signed_decimal}
 use Rattle.std.specs.Int.{w64}
 use Rattle.text_laws.specs.Digits.{IsDigit, value_of}
@@ -22,8 +23,8 @@ TextsHaveOneNumber = (bytes : List ℕ) (v w : ℤ) → IsSignedTextOf bytes v �
 abbrev pub NumbersHaveOwnTexts : Type 0
 NumbersHaveOwnTexts = (v w : ℤ) → FitsSigned w64 v → FitsSigned w64 w → signed_decimal v ≡ signed_decimal w → v ≡ w
 
--- the digits behind the point of an exact decimal: as many tenths of tenths as the fraction has, exactly; all are digits, at most
--- n of them, and the last is not 0
+-- the digits behind the point of an exact decimal: as many tenths of tenths as the fraction has, exactly; all are
+-- digits, at most n of them, and the last is not 0
 pub record IsFractionText (n rest : ℕ) (digits : List ℕ) : Type 0 where
   pub exact : value_of digits * 2 ^ n ≡ rest * 10 ^ length digits
   pub digits_all : All IsDigit digits

@@ -1,5 +1,6 @@
 -- The end of a generated run: all that it does is its line.
-use Rattle.std.proofs.Common.{◌≡◌, ℕ, ◌+◌, ◌++◌, ◌⊎◌, ◌↔◌, false, true, IsTrue, IsSome, if◌then◌else◌, List, [], ◌∷◌, length, Option, Some, None, option_map, refl, sym, ◌∙◌, ap, subst, arith, inl, inr}
+use Rattle.std.proofs.Common.{◌≡◌, ℕ, ◌+◌, ◌++◌, ◌⊎◌, ◌↔◌, false, true, IsTrue, IsSome, if◌then◌else◌, List, [], ◌∷◌}
+use Rattle.std.proofs.Common.{length, Option, Some, None, option_map, refl, sym, ◌∙◌, ap, subst, arith, inl, inr}
 use Rattle.std.proofs.lemmas.Bool.{false≢true}
 use Rattle.roam_edge.specs.Shelf.{NamedFile}
 use Rattle.roam_gen.specs.Generated.{made_lines}
@@ -11,7 +12,8 @@ use Rattle.word_laws.specs.Words.{as_sums, Generated}
 use Rattle.run_laws.specs.Picture.{Picture}
 use Rattle.run_laws.specs.ReportText.{all_triangles, worst_in, sums_line, try_line}
 use Rattle.run_laws.specs.Act.{Act, ReportText, Told, Stands, IsCutShort}
-use Rattle.run_laws.specs.Outcome.{Outcome, text_outcome, shown_acts, sum_acts, stop_acts, stop_status, frames_outcome, engine_end, made_walk}
+use Rattle.run_laws.specs.Outcome.{Outcome, text_outcome, shown_acts, sum_acts, stop_acts, stop_status, frames_outcome}
+use Rattle.run_laws.specs.Outcome.{engine_end, made_walk}
 use Rattle.run_laws.specs.Promise.{Seen, is_complete, ends_script, may_end}
 use Rattle.run_laws.proofs.WalkLemmas.{along-stop}
 use Rattle.run_engine.specs.declared.generated.Sums.{Sums}
@@ -49,25 +51,32 @@ sums-text n seed ps sums text are is =
     ∙ ap (λ (k : ℕ). sums_line n seed (length ps) (all_triangles ps) (worst_in ps) k) are.blocked)))
 
 -- where it was carried out its engine is left
-left-by : (n seed : ℕ) (sums : Sums) (engine : EngineState) (left : Option EngineState) (status : Status) (all : SumsUp n seed sums engine)
-    → (status ≡ ends.Done) ⊎ (status ≡ ends.WriteFault) → left ≡ (if ends_script status then Some engine else None) → IsTrue (is_complete status)
+left-by : (n seed : ℕ) (sums : Sums) (engine : EngineState) (left : Option EngineState) (status : Status)
+    (all : SumsUp n seed sums engine)
+    → (status ≡ ends.Done) ⊎ (status ≡ ends.WriteFault) → left ≡ (if ends_script status then Some engine else None) →
+    IsTrue (is_complete status)
     → option_map engine_seen left ≡ Some (engine_end (made_walk n seed) all.pictures)
 left-by n seed sums engine left status all (inl done) is e =
     let P : Status → Type 0 = λ s. left ≡ (if ends_script s then Some engine else None) in
-    ap (option_map engine_seen) (subst P done is) ∙ ap Some (followed-end (made_walk n seed) all.pictures engine all.followed)
+    ap (option_map engine_seen) (subst P done is)
+    ∙ ap Some (followed-end (made_walk n seed) all.pictures engine all.followed)
 left-by n seed sums engine left status all (inr failed) is e =
     let P : Status → Type 0 = λ s. is_complete s ≡ true in
     absurd (false≢true (subst P failed e))
 
 -- the line of its sums ends it
-pub made-ends : (before now : Told) (shelf : Seen) (n seed : ℕ) (sums : Sums) (engine : EngineState) (left : Option EngineState) (files : List NamedFile)
-    (text : List ℕ) (status : Status) → SumsUp n seed sums engine → text ≡ sums_line n seed sums.frames sums.triangles sums.worst sums.blocked
+pub made-ends : (before now : Told) (shelf : Seen) (n seed : ℕ) (sums : Sums) (engine : EngineState)
+    (left : Option EngineState) (files : List NamedFile)
+    (text : List ℕ) (status : Status) → SumsUp n seed sums engine →
+    text ≡ sums_line n seed sums.frames sums.triangles sums.worst sums.blocked
     → (status ≡ ends.Done) ⊎ (status ≡ ends.WriteFault) → left ≡ (if ends_script status then Some engine else None)
-    → DoesAs before now (text_outcome text ends.Done 0) status → CommandEnds before now shelf shelf (Generated n seed) files status (option_map engine_seen left)
+    → DoesAs before now (text_outcome text ends.Done 0) status →
+    CommandEnds before now shelf shelf (Generated n seed) files status (option_map engine_seen left)
 made-ends before now shelf n seed sums engine left files text status all is either by does =
     let end : Outcome = frames_outcome (as_sums n seed) 0 (made_walk n seed) all.pictures in
     let same : ReportText text ∷ [] ≡ end.acts =
-    ap (λ (t : List ℕ). ReportText t ∷ []) (sums-text n seed all.pictures sums text all.summed is) ∙ sym (made-acts n seed all.pictures) in
+    ap (λ (t : List ℕ). ReportText t ∷ []) (sums-text n seed all.pictures sums text all.summed is)
+    ∙ sym (made-acts n seed all.pictures) in
     let P : List Act → Type 0 = λ l. Stands before now l in
     let Q : List Act → Type 0 = λ l. IsCutShort before now l in
     record {
@@ -84,18 +93,23 @@ made-ends before now shelf n seed sums engine left files text status all is eith
     }
 
 -- a generated run was carried out
-pub made-runs : (before now : Moment) (n seed : ℕ) (sums : Sums) (engine : EngineState) (left : Option EngineState) (text : List ℕ) (status : Status)
-    → before.under_way ≡ false → SumsUp n seed sums engine → text ≡ sums_line n seed sums.frames sums.triangles sums.worst sums.blocked
+pub made-runs : (before now : Moment) (n seed : ℕ) (sums : Sums) (engine : EngineState) (left : Option EngineState)
+    (text : List ℕ) (status : Status)
+    → before.under_way ≡ false → SumsUp n seed sums engine →
+    text ≡ sums_line n seed sums.frames sums.triangles sums.worst sums.blocked
     → left ≡ (if ends_script status then Some engine else None) → (IsSome left ↔ IsTrue (ends_script status))
-    → TellsLast before now text ends.Done status → Runs before now (Some (Generated n seed)) status (option_map engine_seen left)
+    → TellsLast before now text ends.Done status →
+    Runs before now (Some (Generated n seed)) status (option_map engine_seen left)
 made-runs before now n seed sums engine left text status idle all is by some tells =
     let P : Seen → Type 0 = λ shelf. (files : List NamedFile)
-    → CommandEnds before.sinks now.sinks before.shelf shelf (Generated n seed) files status (option_map engine_seen left) in
+    → CommandEnds before.sinks now.sinks before.shelf shelf (Generated n seed) files status
+    (option_map engine_seen left) in
     let opened : now.shelf.opens ≡ before.shelf.opens = ap (λ (shelf : Seen). shelf.opens) tells.shelf in
     record {
       ends = ends-by-status before now (Generated n seed) status (option_map engine_seen left)
           (λ files are. subst P (sym tells.shelf) (λ other.
-          made-ends before.sinks now.sinks before.shelf n seed sums engine left other text status all is tells.ends by (tells.does 0)) files)
+          made-ends before.sinks now.sinks before.shelf n seed sums engine left other text status all is tells.ends by
+          (tells.does 0)) files)
           (λ e. absurd (not-read tells.ends e))
           (λ e. absurd (not-memory tells.ends e));
       leaves = record {
@@ -146,7 +160,8 @@ made-runs before now n seed sums engine left text status idle all is by some tel
     allowed (inr a) = subst (λ (s : Status). IsTrue (may_end (Some (Generated n seed)) s)) (sym a) refl
 
 -- memory ran out in one
-pub unmade-runs : (now : Moment) (n seed : ℕ) → now.under_way ≡ false → Runs now now (Some (Generated n seed)) ends.NoMemory None
+pub unmade-runs : (now : Moment) (n seed : ℕ) → now.under_way ≡ false →
+    Runs now now (Some (Generated n seed)) ends.NoMemory None
 unmade-runs now n seed idle = record {
   ends = ends-by-status now now (Generated n seed) ends.NoMemory None
       (λ files are. record { ends = λ m r. absurd (m refl) })

@@ -1,7 +1,9 @@
 -- The numbers of the refusals, which are this project's own.
 use Rattle.std.specs.Prelude.{ℕ}
 use Rattle.roam_script.specs.declared.script_fault.ScriptFault.{ScriptFault}
-use Rattle.roam_script.specs.declared.script_fault.ScriptFault.TheVariants.{LineTooLong, UnknownCommand, WrongFields, BadNumber, OutOfRange, TooManyLines, TooManyFrames, TooManyPlanes}
+use Rattle.roam_script.specs.declared.script_fault.ScriptFault.TheVariants.{LineTooLong, UnknownCommand, WrongFields}
+use Rattle.roam_script.specs.declared.script_fault.ScriptFault.TheVariants.{BadNumber, OutOfRange, TooManyLines}
+use Rattle.roam_script.specs.declared.script_fault.ScriptFault.TheVariants.{TooManyFrames, TooManyPlanes}
 
 -- the number of a kind of refusal
 abbrev pub script_fault_number : ScriptFault → ℕ

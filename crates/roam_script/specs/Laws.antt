@@ -1,16 +1,20 @@
 -- What the line of some bytes is, and where each refusal comes, in the words of the format.
 -- Words: line_fields, IsShort, SaysNothing, word_of, fields_behind, HasCommand, AreWithin, FailsFirst, IsSoundLine,
 -- IsOfSize, LiesInRange, and a law a word.
-use Rattle.std.specs.Prelude.{◌≡◌, ◌≢◌, ◌↔◌, ⊤, ℕ, ◌+◌, ◌<◌, ◌≤◌, ◌^◌, true, false, List, [], ◌∷◌, ◌++◌, length, Some, None, Ok, Err, codes, ℤ, unsigned_abs}
+use Rattle.std.specs.Prelude.{◌≡◌, ◌≢◌, ◌↔◌, ⊤, ℕ, ◌+◌, ◌<◌, ◌≤◌, ◌^◌, true, false, List, [], ◌∷◌, ◌++◌, length, Some}
+use Rattle.std.specs.Prelude.{None, Ok, Err, codes, ℤ, unsigned_abs}
 use Rattle.text_laws.specs.Numbers.{signed_in}
 use Rattle.roam_script.specs.declared.limits.Limits.{Limits}
-use Rattle.roam_script.specs.declared.limits.TheConstants.{MOST_LINES, MOST_LINE_BYTES, MOST_FRAMES, MOST_PLANES, LEAST_BUDGET}
+use Rattle.roam_script.specs.declared.limits.TheConstants.{MOST_LINES, MOST_LINE_BYTES, MOST_FRAMES, MOST_PLANES}
+use Rattle.roam_script.specs.declared.limits.TheConstants.{LEAST_BUDGET}
 use Rattle.roam_script.specs.declared.command.Command.{Command}
 use Rattle.roam_script.specs.declared.command.Command.TheVariants as command
 use Rattle.roam_script.specs.declared.line.Line.{Line}
 use Rattle.roam_script.specs.declared.line.Line.TheVariants.{Blank, Camera, Set, Frame, Plane, NoPlanes, Budget, Raise}
 use Rattle.roam_script.specs.declared.script_fault.ScriptFault.{ScriptFault}
-use Rattle.roam_script.specs.declared.script_fault.ScriptFault.TheVariants.{LineTooLong, UnknownCommand, WrongFields, BadNumber, OutOfRange, TooManyLines, TooManyFrames, TooManyPlanes}
+use Rattle.roam_script.specs.declared.script_fault.ScriptFault.TheVariants.{LineTooLong, UnknownCommand, WrongFields}
+use Rattle.roam_script.specs.declared.script_fault.ScriptFault.TheVariants.{BadNumber, OutOfRange, TooManyLines}
+use Rattle.roam_script.specs.declared.script_fault.ScriptFault.TheVariants.{TooManyFrames, TooManyPlanes}
 use Rattle.text_laws.specs.Fields.{without_last_cr, fields_of}
 use Rattle.roam_script.specs.LineText.{command_in, Range, is_in_range, ranges_of, line_with, is_comment, line_in}
 
@@ -61,17 +65,22 @@ pub record HasFields (limits : Limits) (bytes : List ℕ) (word : Command) (fiel
 -- each field is a text of a number in its range
 pub data AreWithin : List Range → List (List ℕ) → Type 0 where
   NoneIsLeft : AreWithin [] []
-  IsAndMore : (range : Range) (ranges : List Range) (field : List ℕ) (fields : List (List ℕ)) (v : ℤ) (is : signed_in field ≡ Some v) (within : is_in_range range v ≡ true)
+  IsAndMore : (range : Range) (ranges : List Range) (field : List ℕ) (fields : List (List ℕ)) (v : ℤ)
+      (is : signed_in field ≡ Some v) (within : is_in_range range v ≡ true)
       (more : AreWithin ranges fields) → AreWithin (range ∷ ranges) (field ∷ fields)
 
 -- the first field that fails is no number, or one out of its range; the first field of all has this number
 pub data FailsFirst : ℕ → List Range → List (List ℕ) → ScriptFault → Type 0 where
-  IsNoNumber : (number : ℕ) (range : Range) (ranges : List Range) (field : List ℕ) (fields : List (List ℕ)) (none : signed_in field ≡ None)
+  IsNoNumber : (number : ℕ) (range : Range) (ranges : List Range) (field : List ℕ) (fields : List (List ℕ))
+      (none : signed_in field ≡ None)
       → FailsFirst number (range ∷ ranges) (field ∷ fields) (BadNumber number)
-  IsOutside : (number : ℕ) (range : Range) (ranges : List Range) (field : List ℕ) (fields : List (List ℕ)) (v : ℤ) (is : signed_in field ≡ Some v) (outside : is_in_range range v ≡ false)
+  IsOutside : (number : ℕ) (range : Range) (ranges : List Range) (field : List ℕ) (fields : List (List ℕ)) (v : ℤ)
+      (is : signed_in field ≡ Some v) (outside : is_in_range range v ≡ false)
       → FailsFirst number (range ∷ ranges) (field ∷ fields) (OutOfRange number)
-  FailsLater : (number : ℕ) (range : Range) (ranges : List Range) (field : List ℕ) (fields : List (List ℕ)) (fault : ScriptFault) (v : ℤ) (is : signed_in field ≡ Some v)
-      (within : is_in_range range v ≡ true) (later : FailsFirst (number + 1) ranges fields fault) → FailsFirst number (range ∷ ranges) (field ∷ fields) fault
+  FailsLater : (number : ℕ) (range : Range) (ranges : List Range) (field : List ℕ) (fields : List (List ℕ))
+      (fault : ScriptFault) (v : ℤ) (is : signed_in field ≡ Some v)
+      (within : is_in_range range v ≡ true) (later : FailsFirst (number + 1) ranges fields fault) →
+      FailsFirst number (range ∷ ranges) (field ∷ fields) fault
 
 -- the line passes all tests of its fields
 pub record IsSoundLine (limits : Limits) (bytes : List ℕ) (word : Command) (fields : List (List ℕ)) : Type 0 where
@@ -86,40 +95,52 @@ IsWithinCounts limits _ = ⊤
 
 -- line 10,000,001 and each later one, whatever it holds
 abbrev pub LateLinesAreTooMany : Type 0
-LateLinesAreTooMany = (limits : Limits) (bytes : List ℕ) → (line_in limits bytes ≡ Err TooManyLines) ↔ (MOST_LINES < limits.line)
+LateLinesAreTooMany =
+    (limits : Limits) (bytes : List ℕ) → (line_in limits bytes ≡ Err TooManyLines) ↔ (MOST_LINES < limits.line)
 
 -- more than 200 bytes
 abbrev pub LongLinesAreTooLong : Type 0
-LongLinesAreTooLong = (limits : Limits) (bytes : List ℕ) → (line_in limits bytes ≡ Err LineTooLong) ↔ ((limits.line ≤ MOST_LINES) × (MOST_LINE_BYTES < length bytes))
+LongLinesAreTooLong =
+    (limits : Limits) (bytes : List ℕ) →
+    (line_in limits bytes ≡ Err LineTooLong) ↔ ((limits.line ≤ MOST_LINES) × (MOST_LINE_BYTES < length bytes))
 
 -- what follows the 201st byte of a line changes no answer
 abbrev pub LongLinesAreSettled : Type 0
-LongLinesAreSettled = (limits : Limits) (bytes more : List ℕ) → MOST_LINE_BYTES < length bytes → line_in limits (bytes ++ more) ≡ line_in limits bytes
+LongLinesAreSettled =
+    (limits : Limits) (bytes more : List ℕ) → MOST_LINE_BYTES < length bytes →
+    line_in limits (bytes ++ more) ≡ line_in limits bytes
 
 -- Blank exactly without a field, or where the first begins with `#`
 abbrev pub BlankLinesSayNothing : Type 0
-BlankLinesSayNothing = (limits : Limits) (bytes : List ℕ) → (line_in limits bytes ≡ Ok Blank) ↔ (IsShort limits bytes × SaysNothing (line_fields bytes))
+BlankLinesSayNothing =
+    (limits : Limits) (bytes : List ℕ) →
+    (line_in limits bytes ≡ Ok Blank) ↔ (IsShort limits bytes × SaysNothing (line_fields bytes))
 
 -- else an unknown command exactly where the first field is the word of none
 abbrev pub OtherWordsAreUnknown : Type 0
 OtherWordsAreUnknown = (limits : Limits) (bytes : List ℕ) → (line_in limits bytes ≡ Err UnknownCommand)
-    ↔ ((first : List ℕ) × (fields : List (List ℕ)) × IsShort limits bytes × (line_fields bytes ≡ first ∷ fields) × (is_comment first ≡ false)
+    ↔ ((first : List ℕ) × (fields : List (List ℕ)) × IsShort limits bytes × (line_fields bytes ≡ first ∷ fields)
+    × (is_comment first ≡ false)
     × ((word : Command) → first ≢ word_of word))
 
 -- else wrong fields exactly where there are not as many as the command has
 abbrev pub OtherCountsAreWrong : Type 0
 OtherCountsAreWrong = (limits : Limits) (bytes : List ℕ) → (line_in limits bytes ≡ Err WrongFields)
-    ↔ ((word : Command) × (fields : List (List ℕ)) × HasCommand limits bytes word fields × (length fields ≢ fields_behind word))
+    ↔ ((word : Command) × (fields : List (List ℕ)) × HasCommand limits bytes word fields
+    × (length fields ≢ fields_behind word))
 
 -- else a bad number in the first field that fails, exactly where it is none
 abbrev pub BadNumbersAreRefused : Type 0
 BadNumbersAreRefused = (limits : Limits) (bytes : List ℕ) (number : ℕ) → (line_in limits bytes ≡ Err (BadNumber number))
-    ↔ ((word : Command) × (fields : List (List ℕ)) × HasFields limits bytes word fields × FailsFirst 1 (ranges_of limits word fields) fields (BadNumber number))
+    ↔ ((word : Command) × (fields : List (List ℕ)) × HasFields limits bytes word fields
+    × FailsFirst 1 (ranges_of limits word fields) fields (BadNumber number))
 
 -- and a number out of its range in the first field that fails, exactly where it is one
 abbrev pub OutsideNumbersAreRefused : Type 0
-OutsideNumbersAreRefused = (limits : Limits) (bytes : List ℕ) (number : ℕ) → (line_in limits bytes ≡ Err (OutOfRange number))
-    ↔ ((word : Command) × (fields : List (List ℕ)) × HasFields limits bytes word fields × FailsFirst 1 (ranges_of limits word fields) fields (OutOfRange number))
+OutsideNumbersAreRefused =
+    (limits : Limits) (bytes : List ℕ) (number : ℕ) → (line_in limits bytes ≡ Err (OutOfRange number))
+    ↔ ((word : Command) × (fields : List (List ℕ)) × HasFields limits bytes word fields
+    × FailsFirst 1 (ranges_of limits word fields) fields (OutOfRange number))
 
 -- else too many planes exactly for a plane behind six
 abbrev pub SeventhPlanesAreTooMany : Type 0
@@ -133,8 +154,10 @@ LateFramesAreTooMany = (limits : Limits) (bytes : List ℕ) → (line_in limits 
 
 -- a line that passes all tests is accepted as what it says, and no other one is
 abbrev pub SoundLinesAreAccepted : Type 0
-SoundLinesAreAccepted = (limits : Limits) (bytes : List ℕ) (line : Line) → line ≢ Blank → (line_in limits bytes ≡ Ok line)
-    ↔ ((word : Command) × (fields : List (List ℕ)) × IsSoundLine limits bytes word fields × IsWithinCounts limits word × (line ≡ line_with word fields))
+SoundLinesAreAccepted =
+    (limits : Limits) (bytes : List ℕ) (line : Line) → line ≢ Blank → (line_in limits bytes ≡ Ok line)
+    ↔ ((word : Command) × (fields : List (List ℕ)) × IsSoundLine limits bytes word fields × IsWithinCounts limits word
+    × (line ≡ line_with word fields))
 
 -- the number is of at most this size
 abbrev pub IsOfSize : ℕ → ℤ → Type 0
@@ -146,14 +169,18 @@ LiesInRange limits Blank = ⊤
 LiesInRange limits (Camera x y z) = IsOfSize (2 ^ 30) x × IsOfSize (2 ^ 30) y × IsOfSize (2 ^ 30) z
 LiesInRange limits (Set x y h) = (x ≤ 2 ^ limits.n) × (y ≤ 2 ^ limits.n) × (h ≤ limits.maxval)
 LiesInRange limits Frame = limits.frames < MOST_FRAMES
-LiesInRange limits (Plane a b c d) = IsOfSize (2 ^ 20) a × IsOfSize (2 ^ 20) b × IsOfSize (2 ^ 20) c × IsOfSize (2 ^ 50) d × (limits.planes < MOST_PLANES)
+LiesInRange limits (Plane a b c d) =
+    IsOfSize (2 ^ 20) a × IsOfSize (2 ^ 20) b × IsOfSize (2 ^ 20) c × IsOfSize (2 ^ 50) d
+    × (limits.planes < MOST_PLANES)
 LiesInRange limits NoPlanes = ⊤
 LiesInRange limits (Budget n) = (LEAST_BUDGET ≤ n) × (n ≤ limits.budget)
-LiesInRange limits (Raise x0 y0 x1 y1 dz) = (x0 ≤ x1) × (x1 ≤ 2 ^ limits.n) × (y0 ≤ y1) × (y1 ≤ 2 ^ limits.n) × IsOfSize 65535 dz
+LiesInRange limits (Raise x0 y0 x1 y1 dz) =
+    (x0 ≤ x1) × (x1 ≤ 2 ^ limits.n) × (y0 ≤ y1) × (y1 ≤ 2 ^ limits.n) × IsOfSize 65535 dz
 
 -- an accepted line lies in its ranges
 abbrev pub AcceptedLinesLieInRange : Type 0
-AcceptedLinesLieInRange = (limits : Limits) (bytes : List ℕ) (line : Line) → line_in limits bytes ≡ Ok line → LiesInRange limits line
+AcceptedLinesLieInRange =
+    (limits : Limits) (bytes : List ℕ) (line : Line) → line_in limits bytes ≡ Ok line → LiesInRange limits line
 
 -- a field is a command exactly where it is its word
 abbrev pub CommandsAreWords : Type 0

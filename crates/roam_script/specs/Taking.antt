@@ -5,7 +5,8 @@ use Rattle.roam_script.specs.declared.script_fault.ScriptFault.{ScriptFault}
 use Rattle.roam_script.specs.LineText.{Range, field_number}
 
 -- the first of the fields, which has this number, was read under the range, and the others are left
-pub record TakesNumber (before : List (List ℕ)) (number : ℕ) (range : Range) (after : List (List ℕ)) (answer : Result ℤ ScriptFault) : Type 0 where
+pub record TakesNumber (before : List (List ℕ)) (number : ℕ) (range : Range) (after : List (List ℕ))
+    (answer : Result ℤ ScriptFault) : Type 0 where
   pub field : List ℕ
   pub cut : before ≡ field ∷ after
   pub value : answer ≡ field_number range number (signed_in field)

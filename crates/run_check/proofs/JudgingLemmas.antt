@@ -1,5 +1,6 @@
 -- A certificate and a mesh are judged: what the calls of a check come to.
-use Rattle.std.proofs.Common.{◌≡◌, ℕ, ◌+◌, ◌*◌, ◌≤◌, inl, inr, List, [], ◌∷◌, Some, None, Ok, All, false, refl, ◌∙◌, subst, arith}
+use Rattle.std.proofs.Common.{◌≡◌, ℕ, ◌+◌, ◌*◌, ◌≤◌, inl, inr, List, [], ◌∷◌, Some, None, Ok, All, false, refl, ◌∙◌}
+use Rattle.std.proofs.Common.{subst, arith}
 use Rattle.std.specs.List.{AllByRecursion}
 use Rattle.std.proofs.lemmas.List.Elements.{recursion_from_All, All-from_recursion}
 use Rattle.mesh_defs.specs.HeightField.{HeightField}
@@ -8,7 +9,8 @@ use Rattle.bintree_laws.proofs.LevelLemmas.{level-le}
 use Rattle.roam_edge.specs.Shelf.{NamedFile, bytes_of}
 use Rattle.pgm_grid.specs.Progress.{grid_of}
 use Rattle.certificate_laws.specs.declared.reason.Reject.{Reject}
-use Rattle.certificate_laws.specs.declared.reason.Reject.TheVariants.{BadLine, NotConforming, OverBudget, BadReason, TooFewReasons, MeshDiffers}
+use Rattle.certificate_laws.specs.declared.reason.Reject.TheVariants.{BadLine, NotConforming, OverBudget, BadReason}
+use Rattle.certificate_laws.specs.declared.reason.Reject.TheVariants.{TooFewReasons, MeshDiffers}
 use Rattle.run_laws.specs.declared.status.Status.{Status}
 use Rattle.run_laws.specs.declared.status.Status.TheVariants.{Done, NoMemory, ReadFault}
 use Rattle.run_laws.specs.declared.status.Status.TheVariants as ends
@@ -21,26 +23,31 @@ use Rattle.run_laws.specs.Moment.{Moment}
 use Rattle.run_laws.specs.Leaving.{Runs, HasOpened, ReadsGrid, TellsLast}
 use Rattle.run_laws.proofs.ActLemmas.{stands-nothing}
 use Rattle.run_laws.proofs.GridLemmas.{file-fault, same-name}
-use Rattle.run_laws.proofs.RunLemmas.{read-failed, memory-spent, opens-then, fails-then, certified-runs, rejected-runs, tells-as}
+use Rattle.run_laws.proofs.RunLemmas.{read-failed, memory-spent, opens-then, fails-then, certified-runs, rejected-runs}
+use Rattle.run_laws.proofs.RunLemmas.{tells-as}
 use Rattle.run_check.specs.declared.verdict_report.Judgement.{Judgement}
 use Rattle.run_check.specs.declared.verdict_report.Judgement.TheVariants.{Certified, Rejected}
-use Rattle.run_check.specs.Judging.{judged_text, judged_status, mesh_opens, IsJudged, IsFaultlessFile, JudgesNoMemory, JudgesFault}
+use Rattle.run_check.specs.Judging.{judged_text, judged_status, mesh_opens, IsJudged, IsFaultlessFile, JudgesNoMemory}
+use Rattle.run_check.specs.Judging.{JudgesFault}
 
 -- triangles of the grid have levels of the grid
-levels-recursion : (n : ℕ) (leaves : List ℕ) → AllByRecursion (IsAddress n) leaves → AllByRecursion (λ a. level_of a ≤ 2 * n) leaves
+levels-recursion : (n : ℕ) (leaves : List ℕ) → AllByRecursion (IsAddress n) leaves →
+    AllByRecursion (λ a. level_of a ≤ 2 * n) leaves
 levels-recursion n [] are = tt
 levels-recursion n (a ∷ leaves) are = (level-le n a are.0, levels-recursion n leaves are.1)
 
 pub leaf-levels : (n : ℕ) (leaves : List ℕ) → All (IsAddress n) leaves → All (λ a. level_of a ≤ 2 * n) leaves
 leaf-levels n leaves are =
-    All-from_recursion (λ a. level_of a ≤ 2 * n) leaves (levels-recursion n leaves (recursion_from_All (IsAddress n) leaves are))
+    All-from_recursion (λ a. level_of a ≤ 2 * n) leaves
+    (levels-recursion n leaves (recursion_from_All (IsAddress n) leaves are))
 
 -- commands that check are the same
 same-check : (name other : List ℕ) (c check : Checking) → OnGrid name (Check c) ≡ OnGrid other (Check check) → c ≡ check
 same-check name other c check e = cc
 
 -- and none is a check of a fitted mesh
-not-fit : (name other : List ℕ) (c : Checking) (check : FitChecking) → OnGrid name (Check c) ≡ OnGrid other (CheckFit check) → ⊥
+not-fit : (name other : List ℕ) (c : Checking) (check : FitChecking) →
+    OnGrid name (Check c) ≡ OnGrid other (CheckFit check) → ⊥
 not-fit name other c check e = cc
 
 -- the grid of one is that of the other
@@ -73,14 +80,16 @@ behind-memory before old new name c grid count opens low high found faultless = 
   fit_in_order = λ other check files e told two. absurd (not-fit name other c check e);
 }
 
-module _ (before middle now : Moment) (name : List ℕ) (c : Checking) (grid : HeightField) (idle : before.under_way ≡ false)
+module _ (before middle now : Moment) (name : List ℕ) (c : Checking) (grid : HeightField)
+    (idle : before.under_way ≡ false)
     (read : ReadsGrid before middle name grid) where
   -- memory ran out behind the grid
   pub check-memory : JudgesNoMemory c grid middle now → Runs before now (Some (OnGrid name (Check c))) NoMemory None
   check-memory (inl one) =
       let opened = opens-then before middle now 1 1 read.opened one in
       memory-spent before now name (Check c) 2 idle opened
-      (behind-memory _ _ _ name c grid 2 opened.opens (omega arith) (omega arith) read.is_grid (λ three. absurd (omega (arith, three))))
+      (behind-memory _ _ _ name c grid 2 opened.opens (omega arith) (omega arith) read.is_grid
+      (λ three. absurd (omega (arith, three))))
   check-memory (inr (two, faultless)) =
       let opened = opens-then before middle now 1 2 read.opened two in
       memory-spent before now name (Check c) 3 idle opened
@@ -110,12 +119,16 @@ module _ (before middle now : Moment) (name : List ℕ) (c : Checking) (grid : H
         before_script = λ scripted. stands-nothing before.sinks;
         at_file = λ files told.
             let at = failed.stops files told in
-            file-fault _ _ now.shelf (OnGrid name (Check c)) files 2 c.mesh [] _ at refl
-            (grid, read.is_grid files told, ((cert, is files (read.opened.only.files ∙ told), faultless, at.has_read), refl))
+            file-fault _ _ now.shelf (OnGrid name (Check c)) files 2 c.mesh [] _ at refl (
+              grid,
+              read.is_grid files told,
+              ((cert, is files (read.opened.only.files ∙ told), faultless, at.has_read), refl),
+            )
             (stands-nothing before.sinks);
       })
 
-module _ (before middle last now : Moment) (name : List ℕ) (c : Checking) (grid : HeightField) (text : List ℕ) (meant status : Status)
+module _ (before middle last now : Moment) (name : List ℕ) (c : Checking) (grid : HeightField)
+    (text : List ℕ) (meant status : Status)
     (idle : before.under_way ≡ false) (read : ReadsGrid before middle name grid) where
   -- the line of a judgement ends a check
   pub check-runs : (judgement : Judgement) → HasOpened middle last (1 + mesh_opens judgement)
@@ -124,10 +137,12 @@ module _ (before middle last now : Moment) (name : List ℕ) (c : Checking) (gri
       → text ≡ judged_text judgement → meant ≡ judged_status judgement → TellsLast last now text meant status
       → Runs before now (Some (OnGrid name (Check c))) status None
   check-runs (Certified camera triangles worst) opened ended judged is_text is_end tells =
-      certified-runs before middle last now name (Check c) grid 2 _ status idle read opened refl refl (ended refl) refl judged
+      certified-runs before middle last now name (Check c) grid 2 _ status idle read opened refl refl
+      (ended refl) refl judged
       (tells-as is_text is_end tells)
   check-runs (Rejected why) opened ended judged is_text is_end tells =
-      rejected-runs before middle last now name (Check c) grid (1 + mesh_opens (Rejected why)) _ status idle read opened refl
+      rejected-runs before middle last now name (Check c) grid
+      (1 + mesh_opens (Rejected why)) _ status idle read opened refl
       (omega arith) (two-most why) refl refl
       (λ files told. subst (λ (k : ℕ). IsJobOutcome (Check c) grid files (text_outcome (rejection why) ends.Rejected k))
       (one-more (mesh_opens (Rejected why))) (judged files told))

@@ -1,12 +1,13 @@
 -- What a check of a certificate and a mesh comes to, and where it stops.
--- Words: judged_text, judged_status, mesh_opens, judged_outcome, cert_mesh_text, IsJudged, IsFaultlessFile, MeshHasRead, NoMemoryBehind,
--- FailsBehind, JudgesNoMemory, JudgesFault.
+-- Words: judged_text, judged_status, mesh_opens, judged_outcome, cert_mesh_text, IsJudged, IsFaultlessFile,
+-- MeshHasRead, NoMemoryBehind, FailsBehind, JudgesNoMemory, JudgesFault.
 use Rattle.std.specs.Prelude.{◌≡◌, ℕ, ◌+◌, ◌⊎◌, List, Some, Ok}
 use Rattle.mesh_defs.specs.HeightField.{HeightField}
 use Rattle.mesh_defs.specs.State.{text_in}
 use Rattle.roam_edge.specs.Shelf.{NamedFile, bytes_of}
 use Rattle.roam_edge.specs.Told.{IsPrefix}
-use Rattle.certificate_laws.specs.declared.reason.Reject.TheVariants.{BadLine, NotConforming, OverBudget, BadReason, TooFewReasons, MeshDiffers}
+use Rattle.certificate_laws.specs.declared.reason.Reject.TheVariants.{BadLine, NotConforming, OverBudget, BadReason}
+use Rattle.certificate_laws.specs.declared.reason.Reject.TheVariants.{TooFewReasons, MeshDiffers}
 use Rattle.cert_text.specs.Certificate.{Certificate}
 use Rattle.run_laws.specs.declared.status.Status.{Status}
 use Rattle.run_laws.specs.declared.status.Status.TheVariants as ends
@@ -51,7 +52,8 @@ cert_mesh_text c grid cert = text_in (checks_at c grid cert.camera) cert.leaves
 -- the judgement is right for the files
 abbrev pub IsJudged : Checking → HeightField → List NamedFile → Judgement → Type 0
 IsJudged c grid files judgement =
-    IsCheckOutcome c grid (cert_in grid.n (bytes_of files c.certificate)) (bytes_of files c.mesh) (judged_outcome judgement)
+    IsCheckOutcome c grid (cert_in grid.n (bytes_of files c.certificate)) (bytes_of files c.mesh)
+    (judged_outcome judgement)
 
 -- the file is that of a certificate without a fault
 abbrev pub IsFaultlessFile : Checking → HeightField → List NamedFile → Type 0
@@ -68,18 +70,21 @@ NoMemoryBehind c grid cert before now = HasOpened before now 0 ⊎ (HasOpened be
 
 -- behind this certificate, which has no fault, a read of the mesh failed
 abbrev pub FailsBehind : Checking → HeightField → Certificate → Moment → Moment → Type 0
-FailsBehind c grid cert before now = IsFaultless c grid cert × HasFailed before now 1 c.mesh (MeshHasRead (cert_mesh_text c grid cert))
+FailsBehind c grid cert before now =
+    IsFaultless c grid cert × HasFailed before now 1 c.mesh (MeshHasRead (cert_mesh_text c grid cert))
 
 -- memory ran out once the certificate was opened, or once the mesh was too, behind a certificate without a fault
 abbrev pub JudgesNoMemory : Checking → HeightField → Moment → Moment → Type 0
 JudgesNoMemory c grid before now =
     HasOpened before now 1
-    ⊎ (HasOpened before now 2 × ((files : List NamedFile) → before.shelf.files ≡ Some files → IsFaultlessFile c grid files))
+    ⊎ (HasOpened before now 2 × ((files : List NamedFile) → before.shelf.files ≡ Some files →
+    IsFaultlessFile c grid files))
 
 -- a read failed, at the certificate or, behind one without a fault, at the mesh
 abbrev pub JudgesFault : Checking → HeightField → Moment → Moment → Type 0
 JudgesFault c grid before now =
     HasFailed before now 1 c.certificate (CertHasRead grid.n)
     ⊎ ((cert : Certificate)
-    × ((files : List NamedFile) → before.shelf.files ≡ Some files → cert_in grid.n (bytes_of files c.certificate) ≡ Ok cert)
+    × ((files : List NamedFile) → before.shelf.files ≡ Some files →
+    cert_in grid.n (bytes_of files c.certificate) ≡ Ok cert)
     × IsFaultless c grid cert × HasFailed before now 2 c.mesh (MeshHasRead (cert_mesh_text c grid cert)))

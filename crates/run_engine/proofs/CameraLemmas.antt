@@ -11,4 +11,10 @@ along-short a b one two = grind (arith, ints, one, two)
 
 -- in all
 pub way-short : (from to : CameraAt) → IsCamera from → IsCamera to → move_length from to ≤ 2 ^ 33
-way-short from to a b = omega (arith, along-short from.x to.x a.x_small b.x_small, along-short from.y to.y a.y_small b.y_small, along-short from.z to.z a.z_small b.z_small)
+way-short from to a b =
+    omega (
+      arith,
+      along-short from.x to.x a.x_small b.x_small,
+      along-short from.y to.y a.y_small b.y_small,
+      along-short from.z to.z a.z_small b.z_small,
+    )

@@ -16,29 +16,37 @@ use Rattle.word_laws.specs.Words.{Making}
 use Rattle.certificate_laws.specs.Certificate.{IsSound}
 use Rattle.run_laws.specs.Certify.{IsMade, makes_at}
 
-module _ (state : State) (before after : EngineState) (note : FrameNote) (leaves : List ℕ) (same : before.state ≡ state) (done : IsFrameDone before after note)
+module _ (state : State) (before after : EngineState) (note : FrameNote) (leaves : List ℕ) (same : before.state ≡ state)
+    (done : IsFrameDone before after note)
     (listed : leaves ≡ leaves_of after.state.grid.n (among (pool_members after.mesh.pool))) where
   -- the leaves of a frame are those of its set
   leaves-frame : leaves ≡ leaves_of state.grid.n (among (pool_members after.mesh.pool))
-  leaves-frame = listed ∙ ap (λ (s : State). leaves_of s.grid.n (among (pool_members after.mesh.pool))) (done.state ∙ same)
+  leaves-frame =
+      listed ∙ ap (λ (s : State). leaves_of s.grid.n (among (pool_members after.mesh.pool))) (done.state ∙ same)
 
   -- which is the frame of the state
-  set-frame : IsFrame state.grid.n state.budget (priority_in state) (among (pool_members after.mesh.pool)) note.worst note.blocked
-  set-frame = subst (λ (s : State). IsFrame s.grid.n s.budget (priority_in s) (among (pool_members after.mesh.pool)) note.worst note.blocked) same done.frame
+  set-frame : IsFrame state.grid.n state.budget (priority_in state)
+      (among (pool_members after.mesh.pool)) note.worst note.blocked
+  set-frame = subst (λ (s : State). IsFrame s.grid.n s.budget (priority_in s)
+      (among (pool_members after.mesh.pool)) note.worst note.blocked) same done.frame
 
   -- so the note has their worst
   pub worst-frame : note.worst ≡ worst_of (priority_in state) leaves
   worst-frame = set-frame.greatest ∙ ap (worst_of (priority_in state)) (sym leaves-frame)
 
   -- and they are the best mesh of the budget
-  pub best-frame : IsFalling state.grid.n (priority_in state) → 2 ≤ state.budget → IsBestMesh state.grid.n state.budget (priority_in state) leaves
+  pub best-frame : IsFalling state.grid.n (priority_in state) → 2 ≤ state.budget →
+      IsBestMesh state.grid.n state.budget (priority_in state) leaves
   best-frame falling low = subst (λ l. IsBestMesh state.grid.n state.budget (priority_in state) l) (sym leaves-frame)
-      (IsBestMesh-frame state.grid.n state.budget (priority_in state) (among (pool_members after.mesh.pool)) note.worst note.blocked set-frame falling low)
+      (IsBestMesh-frame state.grid.n state.budget (priority_in state)
+      (among (pool_members after.mesh.pool)) note.worst note.blocked set-frame falling low)
 
 -- a certificate of the best mesh's leaves may be made
 pub made-of : {E : Type 0} (m : Making) (grid : HeightField) (leaves : List ℕ) (r : Result Certificate E)
-    → IsBestMesh grid.n m.budget (priority_in (makes_at m grid)) leaves → IfOk r (λ cert. cert.camera ≡ m.camera) → IfOk r (λ cert. cert.leaves ≡ leaves)
-    → IfOk r (λ cert. IsSound grid.n m.budget (priority_in (makes_at m grid)) cert.leaves cert.reasons) → IfOk r (λ cert. length cert.reasons < m.budget)
+    → IsBestMesh grid.n m.budget (priority_in (makes_at m grid)) leaves → IfOk r (λ cert. cert.camera ≡ m.camera) →
+    IfOk r (λ cert. cert.leaves ≡ leaves)
+    → IfOk r (λ cert. IsSound grid.n m.budget (priority_in (makes_at m grid)) cert.leaves cert.reasons) →
+    IfOk r (λ cert. length cert.reasons < m.budget)
     → IfOk r (λ cert. IsMade m grid cert)
 made-of m grid leaves (Ok cert) best place same sound few = record {
   camera = place;

@@ -1,5 +1,6 @@
 -- An engine that follows a walk: where it begins, and what a line does to it.
-use Rattle.std.proofs.Common.{◌≡◌, ◌≢◌, ℕ, ◌+◌, ◌*◌, ◌^◌, IsTrue, List, [], ◌∷◌, ◌++◌, length, sym, ◌∙◌, ap, subst, arith, append-nil, length-append}
+use Rattle.std.proofs.Common.{◌≡◌, ◌≢◌, ℕ, ◌+◌, ◌*◌, ◌^◌, IsTrue, List, [], ◌∷◌, ◌++◌, length, sym, ◌∙◌, ap, subst}
+use Rattle.std.proofs.Common.{arith, append-nil, length-append}
 use Rattle.std.proofs.lemmas.List.Sums.{sum_by_push}
 use Rattle.std.specs.List.{range_with_len}
 use Rattle.mesh_defs.specs.GridSet.{IsAscending}
@@ -29,11 +30,15 @@ use Rattle.run_engine.specs.NoteSeen.{picture_seen}
 
 -- its members ascend
 pub members-ascend : (pool : PoolState) → IsAscending (pool_members pool)
-members-ascend pool = ascending-filter (split_set pool.pairs) (range_with_len 0 (4 * 2 ^ (2 * pool.n))) (ascending-range 0 (4 * 2 ^ (2 * pool.n)))
+members-ascend pool =
+    ascending-filter (split_set pool.pairs) (range_with_len 0 (4 * 2 ^ (2 * pool.n)))
+    (ascending-range 0 (4 * 2 ^ (2 * pool.n)))
 
 -- an engine that was just made follows the walk before the first line
-pub followed-begins : (grid : HeightField) (spacing budget : ℕ) (engine : EngineState) → engine.state ≡ start_state grid spacing budget → engine.most ≡ budget
-    → pool_members engine.mesh.pool ≡ [] → engine.odometer ≡ 0 → engine.frames ≡ 0 → engine.mesh.pool.splits ≡ 0 → engine.mesh.pool.merges ≡ 0
+pub followed-begins : (grid : HeightField) (spacing budget : ℕ) (engine : EngineState) →
+    engine.state ≡ start_state grid spacing budget → engine.most ≡ budget
+    → pool_members engine.mesh.pool ≡ [] → engine.odometer ≡ 0 → engine.frames ≡ 0 → engine.mesh.pool.splits ≡ 0 →
+    engine.mesh.pool.merges ≡ 0
     → HasFollowed (start_walk budget (start_state grid spacing budget)) [] engine
 followed-begins grid spacing budget engine state most none odometer frames splits merges = record {
   at_state = state;
@@ -45,14 +50,18 @@ followed-begins grid spacing budget engine state most none odometer frames split
   all_merges = merges;
 }
 
-module _ (walk : Walk) (pictures : List Picture) (old new : EngineState) (followed : HasFollowed walk pictures old) where
+module _ (walk : Walk) (pictures : List Picture) (old new : EngineState)
+    (followed : HasFollowed walk pictures old) where
   -- a line was carried out that makes no frame
-  pub followed-line : (line : Line) → line ≢ Frame → IsCarriedOut old new line → HasFollowed (after_line line walk) pictures new
+  pub followed-line : (line : Line) → line ≢ Frame → IsCarriedOut old new line →
+      HasFollowed (after_line line walk) pictures new
   followed-line line other out = record {
     at_state = out.next ∙ ap (state_after line) followed.at_state;
     greatest = out.greatest ∙ followed.greatest;
-    gone = out.gone ∙ (ap (λ (k : ℕ). k + way_of line old.state) followed.gone ∙ ap (λ (s : State). walk.odometer + way_of line s) followed.at_state);
-    made = out.made ∙ (followed.made ∙ ap length (sym (append-nil walk.frames) ∙ ap (λ (l : List State). walk.frames ++ l) (sym (shown_by-none line walk.state other))));
+    gone = out.gone ∙ (ap (λ (k : ℕ). k + way_of line old.state) followed.gone
+        ∙ ap (λ (s : State). walk.odometer + way_of line s) followed.at_state);
+    made = out.made ∙ (followed.made ∙ ap length (sym (append-nil walk.frames)
+        ∙ ap (λ (l : List State). walk.frames ++ l) (sym (shown_by-none line walk.state other))));
     set = ap pool_members out.pool ∙ followed.set;
     all_splits = ap (λ (p : PoolState). p.splits) out.pool ∙ followed.all_splits;
     all_merges = ap (λ (p : PoolState). p.merges) out.pool ∙ followed.all_merges;
@@ -65,22 +74,29 @@ module _ (walk : Walk) (pictures : List Picture) (old new : EngineState) (follow
       at_state = done.state ∙ followed.at_state;
       greatest = done.most ∙ followed.greatest;
       gone = done.odometer ∙ (followed.gone ∙ plus-zero walk.odometer);
-      made = (let e = followed.made in let f = done.frames in let l = length-append walk.frames (walk.state ∷ []) in omega (arith, e, f, l));
+      made = (let e = followed.made in let f = done.frames in let l = length-append walk.frames (walk.state ∷ []) in
+          omega (arith, e, f, l));
       set = sym (last_members-append [] pictures (picture_seen new note));
-      all_splits = done.counters.splits_rose ∙ (ap (λ (k : ℕ). k + note.splits) followed.all_splits ∙ sym (sum_by_push (λ (p : Picture). p.splits) pictures (picture_seen new note)));
-      all_merges = done.counters.merges_rose ∙ (ap (λ (k : ℕ). k + note.merges) followed.all_merges ∙ sym (sum_by_push (λ (p : Picture). p.merges) pictures (picture_seen new note)));
+      all_splits = done.counters.splits_rose ∙ (ap (λ (k : ℕ). k + note.splits) followed.all_splits
+          ∙ sym (sum_by_push (λ (p : Picture). p.splits) pictures (picture_seen new note)));
+      all_merges = done.counters.merges_rose ∙ (ap (λ (k : ℕ). k + note.merges) followed.all_merges
+          ∙ sym (sum_by_push (λ (p : Picture). p.merges) pictures (picture_seen new note)));
     }
       where
         plus-zero : (k : ℕ) → k ≡ k + 0
         plus-zero k = omega arith
 
     -- what it shows is the picture of the state
-    pub picture-shown : (show : Show) → IsTrue (is_of_engine show) → IsPicture show (last_members [] pictures) walk.state (picture_seen new note)
+    pub picture-shown : (show : Show) → IsTrue (is_of_engine show) →
+        IsPicture show (last_members [] pictures) walk.state (picture_seen new note)
     picture-shown show engine =
-        let P : State → List ℕ → Type 0 = λ s before. IsFrameRun s.grid.n s.budget (priority_in s) before (pool_members new.mesh.pool) note.splits note.merges in
-        let Q : State → Type 0 = λ s. IsFrame s.grid.n s.budget (priority_in s) (among (pool_members new.mesh.pool)) note.worst note.blocked in
+        let P : State → List ℕ → Type 0 = λ s before.
+        IsFrameRun s.grid.n s.budget (priority_in s) before (pool_members new.mesh.pool) note.splits note.merges in
+        let Q : State → Type 0 = λ s.
+        IsFrame s.grid.n s.budget (priority_in s) (among (pool_members new.mesh.pool)) note.worst note.blocked in
         let R : State → Type 0 = λ s. P s (last_members [] pictures) in
-        let F : Criterion → Type 0 = λ c. IsFrameFor c walk.state (pool_members new.mesh.pool) note.worst note.blocked in
+        let F : Criterion → Type 0 =
+        λ c. IsFrameFor c walk.state (pool_members new.mesh.pool) note.worst note.blocked in
         let C : Criterion → Type 0 =
         λ c. IsChangeFor c walk.state (last_members [] pictures) (pool_members new.mesh.pool) note.splits note.merges in
         let by_budget = of-budget show engine in

@@ -1,5 +1,6 @@
 -- A frame that was written or cut short.
-use Rattle.std.proofs.Common.{◌≡◌, ℕ, ◌*◌, ◌≤◌, List, All, [], ◌∷◌, ◌++◌, refl, sym, ◌∙◌, ap, subst, length, codes, decimal}
+use Rattle.std.proofs.Common.{◌≡◌, ℕ, ◌*◌, ◌≤◌, List, All, [], ◌∷◌, ◌++◌, refl, sym, ◌∙◌, ap, subst, length, codes}
+use Rattle.std.proofs.Common.{decimal}
 use Rattle.mesh_defs.specs.State.{State, text_in}
 use Rattle.run_laws.specs.Picture.{triangles_of, mark_count}
 use Rattle.run_laws.specs.ReportText.{frame_line, blocked_text, marks_text}
@@ -21,14 +22,17 @@ use Rattle.run_engine.specs.NoteSeen.{picture_seen, IsNoted, note_marks, note_li
 -- the counts of a note are those of a mesh under a state
 record IsFrameCounted (state : State) (mesh : MeshState) (note : FrameNote) : Type 0 where
   pub triangle_count : note.triangles ≡ length (leaves_of state.grid.n (among (pool_members mesh.pool)))
-  pub vertex_count : note.vertices ≡ length (vertices_of state.grid.n (leaves_of state.grid.n (among (pool_members mesh.pool))))
+  pub vertex_count : note.vertices
+      ≡ length (vertices_of state.grid.n (leaves_of state.grid.n (among (pool_members mesh.pool))))
   pub inside_count : note.inside ≡ mark_count state Inside (leaves_of state.grid.n (among (pool_members mesh.pool)))
   pub cut_count : note.cut ≡ mark_count state Cut (leaves_of state.grid.n (among (pool_members mesh.pool)))
   pub outside_count : note.outside ≡ mark_count state Outside (leaves_of state.grid.n (among (pool_members mesh.pool)))
 
 -- the view of an engine may be written
-pub view-valid : (view : MeshView) {grid : HeightField} → view.wedges.now ≡ grid → All (λ a. level_of a ≤ 2 * grid.n) view.leaves.now
-    → view.numbers.now ≡ numbers_of grid.n view.leaves.now → 1 ≤ view.spacing → view.spacing ≤ GREATEST_SPACING → IsView view
+pub view-valid : (view : MeshView) {grid : HeightField} → view.wedges.now ≡ grid →
+    All (λ a. level_of a ≤ 2 * grid.n) view.leaves.now
+    → view.numbers.now ≡ numbers_of grid.n view.leaves.now → 1 ≤ view.spacing →
+    view.spacing ≤ GREATEST_SPACING → IsView view
 view-valid view {grid} same levels numbers low high = record {
   levels = subst (λ (g : HeightField). All (λ a. level_of a ≤ 2 * g.n) view.leaves.now) (sym same) levels;
   vertex_numbers = numbers ∙ ap (λ (g : HeightField). numbers_of g.n view.leaves.now) (sym same);
@@ -37,13 +41,18 @@ view-valid view {grid} same levels numbers low high = record {
 }
 
 -- the text that is written is that of the picture
-pub mesh-text : (engine : EngineState) (note : FrameNote) (view : MeshView) → view.wedges.now ≡ engine.state.grid → view.planes.now ≡ engine.state.view.planes
-    → view.spacing ≡ engine.state.view.spacing → view.leaves.now ≡ mesh_seen engine → view_text view ≡ text_in engine.state (triangles_of (picture_seen engine note))
+pub mesh-text : (engine : EngineState) (note : FrameNote) (view : MeshView) → view.wedges.now ≡ engine.state.grid →
+    view.planes.now ≡ engine.state.view.planes
+    → view.spacing ≡ engine.state.view.spacing → view.leaves.now ≡ mesh_seen engine →
+    view_text view ≡ text_in engine.state (triangles_of (picture_seen engine note))
 mesh-text engine note view grid planes spacing leaves =
     ap (λ (g : HeightField). mesh_text g.n g.heights view.spacing view.planes.now view.leaves.now) grid
-    ∙ (ap (λ (l : List ViewPlane). mesh_text engine.state.grid.n engine.state.grid.heights view.spacing l view.leaves.now) planes
-    ∙ (ap (λ (k : ℕ). mesh_text engine.state.grid.n engine.state.grid.heights k engine.state.view.planes view.leaves.now) spacing
-    ∙ ap (λ (l : List ℕ). mesh_text engine.state.grid.n engine.state.grid.heights engine.state.view.spacing engine.state.view.planes l) leaves))
+    ∙ (ap (λ (l : List ViewPlane).
+    mesh_text engine.state.grid.n engine.state.grid.heights view.spacing l view.leaves.now) planes
+    ∙ (ap (λ (k : ℕ).
+    mesh_text engine.state.grid.n engine.state.grid.heights k engine.state.view.planes view.leaves.now) spacing
+    ∙ ap (λ (l : List ℕ). mesh_text engine.state.grid.n engine.state.grid.heights engine.state.view.spacing
+    engine.state.view.planes l) leaves))
 
 -- the marks of a note are those of the mesh
 note-marks : (engine : EngineState) (note : FrameNote) (planes : List ViewPlane) → IsNoted engine note
@@ -67,7 +76,8 @@ note-text number engine note is =
     let leaves : List ℕ = mesh_seen engine in
     ap (λ (t : ℕ). line_with number note t note.vertices (note_marks planes note)) is.triangle_count
     ∙ (ap (λ (v : ℕ). line_with number note (length leaves) v (note_marks planes note)) is.vertex_count
-    ∙ ap (λ (m : List ℕ). line_with number note (length leaves) (length (vertices_of engine.state.grid.n leaves)) m) (note-marks engine note planes is))
+    ∙ ap (λ (m : List ℕ). line_with number note (length leaves) (length (vertices_of engine.state.grid.n leaves)) m)
+    (note-marks engine note planes is))
 
 -- the note of a frame has the counts of its mesh
 pub done-noted : (old new : EngineState) (note : FrameNote) → IsFrameDone old new note → IsNoted new note

@@ -22,23 +22,32 @@ use Rattle.run_engine.specs.NoteSeen.{picture_seen}
 use Rattle.run_engine.specs.ShowView.{strip_numbers}
 
 -- the text of an engine's mesh in the order of its strip is that of the picture
-pub strip-text : (engine : EngineState) (note : FrameNote) (view : MeshView) → view.wedges.now ≡ engine.state.grid → view.planes.now ≡ engine.state.view.planes
-    → view.spacing ≡ engine.state.view.spacing → view.leaves.now ≡ strip_of engine.state.grid.n (among (pool_members engine.mesh.pool))
+pub strip-text : (engine : EngineState) (note : FrameNote) (view : MeshView) → view.wedges.now ≡ engine.state.grid →
+    view.planes.now ≡ engine.state.view.planes
+    → view.spacing ≡ engine.state.view.spacing →
+    view.leaves.now ≡ strip_of engine.state.grid.n (among (pool_members engine.mesh.pool))
     → view_text view ≡ text_in engine.state (strip_triangles (picture_seen engine note))
 strip-text engine note view grid planes spacing leaves =
     ap (λ (g : HeightField). mesh_text g.n g.heights view.spacing view.planes.now view.leaves.now) grid
-    ∙ (ap (λ (l : List ViewPlane). mesh_text engine.state.grid.n engine.state.grid.heights view.spacing l view.leaves.now) planes
-    ∙ (ap (λ (k : ℕ). mesh_text engine.state.grid.n engine.state.grid.heights k engine.state.view.planes view.leaves.now) spacing
-    ∙ ap (λ (l : List ℕ). mesh_text engine.state.grid.n engine.state.grid.heights engine.state.view.spacing engine.state.view.planes l) leaves))
+    ∙ (ap (λ (l : List ViewPlane).
+    mesh_text engine.state.grid.n engine.state.grid.heights view.spacing l view.leaves.now) planes
+    ∙ (ap (λ (k : ℕ).
+    mesh_text engine.state.grid.n engine.state.grid.heights k engine.state.view.planes view.leaves.now) spacing
+    ∙ ap (λ (l : List ℕ). mesh_text engine.state.grid.n engine.state.grid.heights engine.state.view.spacing
+    engine.state.view.planes l) leaves))
 
 -- the line of a strip is that of the picture
-pub strip-line : (engine : EngineState) (note : FrameNote) (number : ℕ) (order : List ℕ) → order ≡ strip_of engine.state.grid.n (among (pool_members engine.mesh.pool))
-    → strip_numbers number (length order) (left_turns engine.state.grid.n order) (right_turns engine.state.grid.n order) ≡ strip_line number (picture_seen engine note)
+pub strip-line : (engine : EngineState) (note : FrameNote) (number : ℕ) (order : List ℕ) →
+    order ≡ strip_of engine.state.grid.n (among (pool_members engine.mesh.pool))
+    → strip_numbers number (length order) (left_turns engine.state.grid.n order) (right_turns engine.state.grid.n order)
+    ≡ strip_line number (picture_seen engine note)
 strip-line engine note number order is =
-    ap (λ (l : List ℕ). strip_numbers number (length l) (left_turns engine.state.grid.n l) (right_turns engine.state.grid.n l)) is
+    ap (λ (l : List ℕ). strip_numbers number (length l) (left_turns engine.state.grid.n l)
+    (right_turns engine.state.grid.n l)) is
 
 -- what a frame does that is shown in a known way
-pub shown-does : {T E : Type 0} (before now : Moment) (showing other : Showing) (number : ℕ) (picture : Picture) (answer : Result T E)
+pub shown-does : {T E : Type 0} (before now : Moment) (showing other : Showing) (number : ℕ)
+    (picture : Picture) (answer : Result T E)
     → showing ≡ other → Does before now (picture_acts (show_seen other) number picture) answer
     → Does before now (picture_acts (show_seen showing) number picture) answer
 shown-does before now showing other number picture answer is does =

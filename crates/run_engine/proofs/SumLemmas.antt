@@ -1,5 +1,8 @@
--- A generated run: its lines lie in their ranges, each leads one step along the walk, and the sums are those of the pictures.
-use Rattle.std.proofs.Common.{◌≡◌, ◌≢◌, ℕ, suc, ◌+◌, ◌^◌, ◌≤◌, ◌++◌, max, is_some, if◌then◌else◌, List, [], ◌∷◌, length, get_or, drop, drop-cons, drop_of_length-le, cond, Option, Some, None, refl, sym, ◌∙◌, ap, subst, arith, append-nil, length-append, slice_get}
+-- A generated run: its lines lie in their ranges, each leads one step along the walk, and the sums are those of the
+-- pictures.
+use Rattle.std.proofs.Common.{◌≡◌, ◌≢◌, ℕ, suc, ◌+◌, ◌^◌, ◌≤◌, ◌++◌, max, is_some, if◌then◌else◌, List, [], ◌∷◌, length}
+use Rattle.std.proofs.Common.{get_or, drop, drop-cons, drop_of_length-le, cond, Option, Some, None, refl, sym, ◌∙◌, ap}
+use Rattle.std.proofs.Common.{subst, arith, append-nil, length-append, slice_get}
 use Rattle.std.proofs.lemmas.List.Sums.{sum_by_push}
 use Rattle.std.proofs.lemmas.Option.{slice_get_within, get_or_from_slice_get}
 use Rattle.mesh_defs.specs.ClosedSet.{leaves_of, among}
@@ -32,7 +35,8 @@ use Rattle.run_engine.proofs.EngineLemmas.{followed-line, followed-frame, pictur
 
 -- sums of one picture more
 
-triangles-more : (ps : List Picture) (p : Picture) → all_triangles (ps ++ p ∷ []) ≡ all_triangles ps + length (triangles_of p)
+triangles-more : (ps : List Picture) (p : Picture) →
+    all_triangles (ps ++ p ∷ []) ≡ all_triangles ps + length (triangles_of p)
 triangles-more ps p = sum_by_push (λ (q : Picture). length (triangles_of q)) ps p
 
 worst-more : (ps : List Picture) (p : Picture) → worst_in (ps ++ p ∷ []) ≡ max (worst_in ps) p.worst
@@ -51,13 +55,20 @@ one-low : (blocked : Option Blocked) → one_blocked blocked ≤ 1
 one-low None = omega arith
 one-low (Some b) = omega arith
 
-blocked-more : (ps : List Picture) (p : Picture) → count_blocked (ps ++ p ∷ []) ≡ count_blocked ps + one_blocked p.blocked
+blocked-more : (ps : List Picture) (p : Picture) →
+    count_blocked (ps ++ p ∷ []) ≡ count_blocked ps + one_blocked p.blocked
 blocked-more ps p =
-    sum_by_push (λ (q : Picture). cond (is_some q.blocked) 1 0) ps p ∙ ap (λ (c : ℕ). count_blocked ps + c) (one-same p.blocked)
+    sum_by_push (λ (q : Picture). cond (is_some q.blocked) 1 0) ps p
+    ∙ ap (λ (c : ℕ). count_blocked ps + c) (one-same p.blocked)
 
 -- before the first frame
 pub no-sums : (sums : Sums) → sums.frames ≡ 0 → sums.triangles ≡ 0 → sums.worst ≡ 0 → sums.blocked ≡ 0 → IsSumOf [] sums
-no-sums sums frames triangles worst blocked = record { frames = frames; triangles = triangles; worst = worst; blocked = blocked }
+no-sums sums frames triangles worst blocked = record {
+  frames = frames;
+  triangles = triangles;
+  worst = worst;
+  blocked = blocked;
+}
 
 -- the lines
 
@@ -71,7 +82,8 @@ limits_for engine = record {
   budget = engine.most;
 }
 
-made-range : (n : ℕ) (engine : EngineState) (line : Line) → engine.state.grid.n ≡ n → engine.state.grid.maxval ≡ 65535 → IsMadeLine n line → LiesInRange (limits_for engine) line
+made-range : (n : ℕ) (engine : EngineState) (line : Line) → engine.state.grid.n ≡ n → engine.state.grid.maxval ≡ 65535 →
+    IsMadeLine n line → LiesInRange (limits_for engine) line
 made-range n engine Blank level heights is = absurd is
 made-range n engine (Camera x y z) level heights is = is
 made-range n engine (Set x y h) level heights is =
@@ -84,24 +96,31 @@ made-range n engine (Budget most) level heights is = absurd is
 made-range n engine (Raise a b c d e) level heights is = absurd is
 
 -- a generated line lies in its ranges
-pub made-ranges : (n : ℕ) (engine : EngineState) (line other : Line) → engine.state.grid.n ≡ n → engine.state.grid.maxval ≡ 65535 → line ≡ other → IsMadeLine n other
+pub made-ranges : (n : ℕ) (engine : EngineState) (line other : Line) → engine.state.grid.n ≡ n →
+    engine.state.grid.maxval ≡ 65535 → line ≡ other → IsMadeLine n other
     → (limits : Limits) × IsUnderLimits engine limits × LiesInRange limits line
 made-ranges n engine line other level heights same is =
-    let P : Line → Type 0 = λ l. IsMadeLine n l in
-    (limits_for engine, record { level = refl; heights = refl; in_force = refl; greatest = refl }, made-range n engine line level heights (subst P (sym same) is))
+    let P : Line → Type 0 = λ l. IsMadeLine n l in (
+      limits_for engine,
+      record { level = refl; heights = refl; in_force = refl; greatest = refl },
+      made-range n engine line level heights (subst P (sym same) is),
+    )
 
 -- the walk
 
-start-camera : (engine : EngineState) (n seed : ℕ) → engine.state ≡ (made_start n seed).state → IsCamera engine.state.view.camera
+start-camera : (engine : EngineState) (n seed : ℕ) → engine.state ≡ (made_start n seed).state →
+    IsCamera engine.state.view.camera
 start-camera engine n seed is =
     let P : State → Type 0 = λ s. IsCamera s.view.camera in
     subst P (sym is) (record { x_small = omega arith; y_small = omega arith; z_small = omega arith })
 
 -- it begins
 pub gone-begins : (n seed : ℕ) (grid : HeightField) (engine : EngineState) (sums : Sums) → grid ≡ made_grid n seed
-    → HasFollowed (start_walk made_budget (start_state grid made_spacing made_budget)) [] engine → IsSumOf [] sums → HasGone n seed 0 engine sums
+    → HasFollowed (start_walk made_budget (start_state grid made_spacing made_budget)) [] engine → IsSumOf [] sums →
+    HasGone n seed 0 engine sums
 gone-begins n seed grid engine sums made began none =
-    let S : HeightField → Type 0 = λ g. HasFollowed (start_walk made_budget (start_state g made_spacing made_budget)) [] engine in
+    let S : HeightField → Type 0 =
+    λ g. HasFollowed (start_walk made_budget (start_state g made_spacing made_budget)) [] engine in
     let followed : HasFollowed (made_start n seed) [] engine = subst S made began in
     record {
       walk = made_start n seed;
@@ -110,15 +129,23 @@ gone-begins n seed grid engine sums made began none =
       leads = refl;
       shown = tt;
       summed = none;
-      few = (let f = none.frames in let t = none.triangles in let b = none.blocked in let m = followed.made in let o = followed.gone in
-          record { frames = omega (arith, f); triangles = omega (arith, t); blocked = omega (arith, b); made = omega (arith, m); gone = omega (arith, o) });
+      few = (let f = none.frames in let t = none.triangles in let b = none.blocked in let m = followed.made in
+          let o = followed.gone in
+          record {
+            frames = omega (arith, f);
+            triangles = omega (arith, t);
+            blocked = omega (arith, b);
+            made = omega (arith, m);
+            gone = omega (arith, o);
+          });
       level = ap (λ (s : State). s.grid.n) followed.at_state ∙ made_grid-level n seed;
       heights = ap (λ (s : State). s.grid.maxval) followed.at_state ∙ made_grid-maxval n seed;
       camera = start-camera engine n seed followed.at_state;
     }
 
 -- it ends
-pub gone-ends : (n seed : ℕ) (engine : EngineState) (sums : Sums) → HasGone n seed LINES engine sums → SumsUp n seed sums engine
+pub gone-ends : (n seed : ℕ) (engine : EngineState) (sums : Sums) → HasGone n seed LINES engine sums →
+    SumsUp n seed sums engine
 gone-ends n seed engine sums here =
     let count = made_lines-count n seed in
     let few : length (made_lines n seed) ≤ LINES = omega (arith, count) in
@@ -134,20 +161,24 @@ gone-ends n seed engine sums here =
 
 module _ (n seed k : ℕ) (engine : EngineState) (sums : Sums) (here : HasGone n seed k engine sums) where
   -- a line leads on
-  leads-on : (line : Line) → slice_get (made_lines n seed) k ≡ Some line → walk_along (after_line line here.walk) (drop (k + 1) (made_lines n seed)) ≡ made_walk n seed
+  leads-on : (line : Line) → slice_get (made_lines n seed) k ≡ Some line →
+      walk_along (after_line line here.walk) (drop (k + 1) (made_lines n seed)) ≡ made_walk n seed
   leads-on line is =
       let lines : List Line = made_lines n seed in
       let at : get_or lines k line ≡ line = get_or_from_slice_get lines k line line is in
       let cut : drop k lines ≡ line ∷ drop (suc k) lines =
       drop-cons lines k line (slice_get_within lines k line is) ∙ ap (λ (v : Line). v ∷ drop (suc k) lines) at in
       let next : suc k ≡ k + 1 = omega arith in
-      ap (λ (i : ℕ). walk_along (after_line line here.walk) (drop i lines)) (sym next) ∙ (sym (ap (walk_along here.walk) cut) ∙ here.leads)
+      ap (λ (i : ℕ). walk_along (after_line line here.walk) (drop i lines)) (sym next)
+      ∙ (sym (ap (walk_along here.walk) cut) ∙ here.leads)
 
   module _ (new : EngineState) where
     -- so does a line that makes no frame
-    gone-carried : (line : Line) → slice_get (made_lines n seed) k ≡ Some line → line ≢ Frame → IsCarriedOut engine new line
+    gone-carried : (line : Line) → slice_get (made_lines n seed) k ≡ Some line → line ≢ Frame →
+        IsCarriedOut engine new line
         → ArePictures (as_sums n seed) [] (after_line line here.walk).frames here.pictures
-        → (state_after line engine.state).grid.n ≡ n → (state_after line engine.state).grid.maxval ≡ 65535 → HasGone n seed (k + 1) new sums
+        → (state_after line engine.state).grid.n ≡ n → (state_after line engine.state).grid.maxval ≡ 65535 →
+        HasGone n seed (k + 1) new sums
     gone-carried line is other done shown level heights =
         record {
           walk = after_line line here.walk;
@@ -156,9 +187,16 @@ module _ (n seed k : ℕ) (engine : EngineState) (sums : Sums) (here : HasGone n
           leads = leads-on line is;
           shown = shown;
           summed = here.summed;
-          few = (let f = here.few.frames in let t = here.few.triangles in let b = here.few.blocked in let m = here.few.made in let o = here.few.gone in
+          few = (let f = here.few.frames in let t = here.few.triangles in let b = here.few.blocked in
+              let m = here.few.made in let o = here.few.gone in
               let made = done.made in let gone = done.gone in let short = done.short in
-              record { frames = omega (arith, f); triangles = omega (arith, t); blocked = omega (arith, b); made = omega (arith, m, made); gone = omega (arith, o, gone, short) });
+              record {
+                frames = omega (arith, f);
+                triangles = omega (arith, t);
+                blocked = omega (arith, b);
+                made = omega (arith, m, made);
+                gone = omega (arith, o, gone, short);
+              });
           level = ap (λ (s : State). s.grid.n) done.next ∙ level;
           heights = ap (λ (s : State). s.grid.maxval) done.next ∙ heights;
           camera = done.near;
@@ -169,9 +207,11 @@ module _ (n seed k : ℕ) (engine : EngineState) (sums : Sums) (here : HasGone n
         let P : List State → Type 0 = λ l. ArePictures (as_sums n seed) [] l here.pictures in
         subst P (sym (append-nil here.walk.frames)) here.shown
 
-    gone-made : (line : Line) → slice_get (made_lines n seed) k ≡ Some line → line ≢ Frame → IsMadeLine n line → IsCarriedOut engine new line → HasGone n seed (k + 1) new sums
+    gone-made : (line : Line) → slice_get (made_lines n seed) k ≡ Some line → line ≢ Frame → IsMadeLine n line →
+        IsCarriedOut engine new line → HasGone n seed (k + 1) new sums
     gone-made Blank is other made done = absurd made
-    gone-made (Camera x y z) is other made done = gone-carried (Camera x y z) is other done still here.level here.heights
+    gone-made (Camera x y z) is other made done =
+        gone-carried (Camera x y z) is other done still here.level here.heights
     gone-made (Set x y h) is other made done = gone-carried (Set x y h) is other done still here.level here.heights
     gone-made Frame is other made done = absurd (other refl)
     gone-made (Plane a b c d) is other made done = absurd made
@@ -179,15 +219,18 @@ module _ (n seed k : ℕ) (engine : EngineState) (sums : Sums) (here : HasGone n
     gone-made (Budget most) is other made done = absurd made
     gone-made (Raise a b c d e) is other made done = absurd made
 
-    pub gone-other : (line at : Line) → slice_get (made_lines n seed) k ≡ Some line → line ≢ Frame → line ≡ at → IsMadeLine n at
+    pub gone-other : (line at : Line) → slice_get (made_lines n seed) k ≡ Some line → line ≢ Frame →
+        line ≡ at → IsMadeLine n at
         → IsCarriedOut engine new line → HasGone n seed (k + 1) new sums
     gone-other line at is other same made done =
         let P : Line → Type 0 = λ l. IsMadeLine n l in
         gone-made line is other (subst P (sym same) made) done
 
     -- and a frame line, with what the engine notes of its frame
-    pub gone-frame : (note : FrameNote) (more : Sums) → slice_get (made_lines n seed) k ≡ Some Frame → IsFrameDone engine new note
-        → more.frames ≡ sums.frames + 1 → more.triangles ≡ sums.triangles + note.triangles → more.triangles ≤ sums.triangles + 2 ^ 33
+    pub gone-frame : (note : FrameNote) (more : Sums) → slice_get (made_lines n seed) k ≡ Some Frame →
+        IsFrameDone engine new note
+        → more.frames ≡ sums.frames + 1 → more.triangles ≡ sums.triangles + note.triangles →
+        more.triangles ≤ sums.triangles + 2 ^ 33
         → more.worst ≡ max sums.worst note.worst → more.blocked ≡ sums.blocked + one_blocked note.blocked
         → HasGone n seed (k + 1) new more
     gone-frame note more is done frames triangles few worst blocked =
@@ -195,22 +238,33 @@ module _ (n seed k : ℕ) (engine : EngineState) (sums : Sums) (here : HasGone n
         let ps : List Picture = here.pictures in
         let shown = picture-shown here.walk ps engine new here.followed note done (as_sums n seed) refl in
         let count : length (triangles_of p) ≡ note.triangles =
-        ap (λ (s : State). length (leaves_of s.grid.n (among (pool_members new.mesh.pool)))) done.state ∙ sym done.triangles in
+        ap (λ (s : State). length (leaves_of s.grid.n (among (pool_members new.mesh.pool)))) done.state
+        ∙ sym done.triangles in
         record {
           walk = after_line Frame here.walk;
           pictures = ps ++ p ∷ [];
           followed = followed-frame here.walk ps engine new here.followed note done;
           leads = leads-on Frame is;
-          shown = ArePictures-append (as_sums n seed) [] here.walk.frames (here.walk.state ∷ []) ps (p ∷ []) here.shown (shown, tt);
+          shown = ArePictures-append (as_sums n seed) [] here.walk.frames (here.walk.state ∷ []) ps
+              (p ∷ []) here.shown (shown, tt);
           summed = (record {
             frames = (let a = here.summed.frames in let l = length-append ps (p ∷ []) in omega (arith, frames, a, l));
-            triangles = (let a = here.summed.triangles in let l = triangles-more ps p in omega (arith, triangles, a, l, count));
+            triangles =
+                (let a = here.summed.triangles in let l = triangles-more ps p in omega (arith, triangles, a, l, count));
             worst = (let a = here.summed.worst in worst ∙ (ap (λ (w : ℕ). max w note.worst) a ∙ sym (worst-more ps p)));
-            blocked = (let a = here.summed.blocked in blocked ∙ (ap (λ (c : ℕ). c + one_blocked note.blocked) a ∙ sym (blocked-more ps p)));
+            blocked = (let a = here.summed.blocked in
+                blocked ∙ (ap (λ (c : ℕ). c + one_blocked note.blocked) a ∙ sym (blocked-more ps p)));
           });
-          few = (let f = here.few.frames in let t = here.few.triangles in let b = here.few.blocked in let m = here.few.made in let o = here.few.gone in
+          few = (let f = here.few.frames in let t = here.few.triangles in let b = here.few.blocked in
+              let m = here.few.made in let o = here.few.gone in
               let made = done.frames in let gone = done.odometer in let one = one-low note.blocked in
-              record { frames = omega (arith, f, frames); triangles = omega (arith, t, few); blocked = omega (arith, b, blocked, one); made = omega (arith, m, made); gone = omega (arith, o, gone) });
+              record {
+                frames = omega (arith, f, frames);
+                triangles = omega (arith, t, few);
+                blocked = omega (arith, b, blocked, one);
+                made = omega (arith, m, made);
+                gone = omega (arith, o, gone);
+              });
           level = ap (λ (s : State). s.grid.n) done.state ∙ here.level;
           heights = ap (λ (s : State). s.grid.maxval) done.state ∙ here.heights;
           camera = (let R : State → Type 0 = λ s. IsCamera s.view.camera in subst R (sym done.state) here.camera);

@@ -14,7 +14,8 @@ use Rattle.run_words.specs.ShowView.{show_seen, IsShowing}
 use Rattle.run_engine.specs.ShowView.{is_strip}
 
 -- frames are shown so, and the engine has followed a walk whose frames showed these pictures
-pub record EngineHasFollowed (showing : Showing) (engine : EngineState) (show : Show) (walk : Walk) (pictures : List Picture) : Type 0 where
+pub record EngineHasFollowed (showing : Showing) (engine : EngineState) (show : Show) (walk : Walk)
+    (pictures : List Picture) : Type 0 where
   pub same_show : show_seen showing ≡ show
   pub followed : HasFollowed walk pictures engine
 
@@ -23,8 +24,9 @@ pub record IsUnderEngine (engine : EngineState) (limits : Limits) : Type 0 where
   pub under : IsUnderLimits engine limits
   pub made : limits.frames ≡ engine.frames
 
--- After so many lines: no more frames than may be; the camera in its bounds, and no farther than lines can bring it; a budget in
--- force for which there is room, also for a strip, where frames are shown as strips; and a prefix of an accepted length.
+-- After so many lines: no more frames than may be; the camera in its bounds, and no farther than lines can bring it; a
+-- budget in force for which there is room, also for a strip, where frames are shown as strips; and a prefix of an
+-- accepted length.
 pub record IsEngineReady (showing : Showing) (engine : EngineState) (places : List ℕ) (lines : ℕ) : Type 0 where
   pub shown : IsShowing showing
   pub few_frames : engine.frames ≤ MOST_FRAMES

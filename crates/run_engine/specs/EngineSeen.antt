@@ -29,8 +29,8 @@ pub record IsUnderLimits (engine : EngineState) (limits : Limits) : Type 0 where
   pub in_force : limits.planes ≡ length engine.state.view.planes
   pub greatest : limits.budget ≡ engine.most
 
--- A line that makes no frame was carried out: the state is the next one, the camera went the line's way, which is short, and
--- mesh, counts and greatest budget are as before.
+-- A line that makes no frame was carried out: the state is the next one, the camera went the line's way, which is
+-- short, and mesh, counts and greatest budget are as before.
 pub record IsCarriedOut (old new : EngineState) (line : Line) : Type 0 where
   pub next : new.state ≡ state_after line old.state
   pub greatest : new.most ≡ old.most

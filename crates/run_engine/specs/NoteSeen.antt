@@ -33,7 +33,8 @@ pub record IsNoted (engine : EngineState) (note : FrameNote) : Type 0 where
 abbrev pub note_marks : List ViewPlane → FrameNote → List ℕ
 note_marks [] note = []
 note_marks (_ ∷ _) note =
-    codes " inside " ++ decimal note.inside ++ codes " cut " ++ decimal note.cut ++ codes " outside " ++ decimal note.outside
+    codes " inside " ++ decimal note.inside ++ codes " cut " ++ decimal note.cut
+    ++ codes " outside " ++ decimal note.outside
 
 -- the line of the frame of this number, from its note
 abbrev pub note_line : ℕ → List ViewPlane → FrameNote → List ℕ

@@ -24,8 +24,8 @@ pub record IsSumOf (pictures : List Picture) (sums : Sums) : Type 0 where
   pub worst : sums.worst ≡ worst_in pictures
   pub blocked : sums.blocked ≡ count_blocked pictures
 
--- no more frames than lines were carried out, none of more triangles than a number of 32 bits counts; and the camera went at
--- most 2 ^ 34 with each line
+-- no more frames than lines were carried out, none of more triangles than a number of 32 bits counts; and the camera
+-- went at most 2 ^ 34 with each line
 pub record AreSumsSmall (k : ℕ) (engine : EngineState) (sums : Sums) : Type 0 where
   pub frames : sums.frames ≤ k
   pub triangles : sums.triangles ≤ k * 2 ^ 33
@@ -33,8 +33,8 @@ pub record AreSumsSmall (k : ℕ) (engine : EngineState) (sums : Sums) : Type 0 
   pub made : engine.frames ≤ k
   pub gone : engine.odometer ≤ k * 2 ^ 34
 
--- The engine has followed the first k lines of the generated script, whose frames lead to these sums, and the other lines lead to
--- the end of the walk.
+-- The engine has followed the first k lines of the generated script, whose frames lead to these sums, and the other
+-- lines lead to the end of the walk.
 pub record HasGone (n seed k : ℕ) (engine : EngineState) (sums : Sums) : Type 0 where
   pub walk : Walk
   pub pictures : List Picture

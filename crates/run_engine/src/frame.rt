@@ -63,5 +63,11 @@ fn write_frame<O: Outside>(
         (picture_acts (as_meshes prefix.now) engine.now.frames (picture_seen engine.now note.now)) result }
 {
     let line = frame_report(engine, note);
-    show_mesh(&engine.view(), prefix, engine.frames(), line.as_slice(), outside)
+    show_mesh(
+        &engine.view(),
+        prefix,
+        engine.frames(),
+        line.as_slice(),
+        outside,
+    )
 }

@@ -1,5 +1,6 @@
 -- The least and the greatest of a list.
-use Rattle.std.proofs.Common.{◌≡◌, ℕ, zero, suc, ◌<◌, ◌≤◌, List, [], ◌∷◌, length, slice_index_or, refl, ◌∙◌, arith, inl, inr}
+use Rattle.std.proofs.Common.{◌≡◌, ℕ, zero, suc, ◌<◌, ◌≤◌, List, [], ◌∷◌, length, slice_index_or, refl, ◌∙◌, arith, inl}
+use Rattle.std.proofs.Common.{inr}
 use Rattle.std.proofs.lemmas.Bool.{cases_lt}
 use Rattle.roam_lanes.specs.Extremes.{IsLeast, IsGreatest}
 use Rattle.mesh_defs.specs.BoundingBox.{least, greatest}
@@ -36,7 +37,8 @@ greatest-at [] k d below = absurd (omega (arith, below))
 greatest-at (x ∷ xs) zero d below = omega arith
 greatest-at (x ∷ xs) (suc k) d below = omega (arith, greatest-at xs k d (omega (arith, below)))
 
-greatest-some : (xs : List ℕ) → 0 < length xs → (k : ℕ) × (k < length xs) × ((d : ℕ) → slice_index_or xs k d ≡ greatest xs)
+greatest-some : (xs : List ℕ) → 0 < length xs →
+    (k : ℕ) × (k < length xs) × ((d : ℕ) → slice_index_or xs k d ≡ greatest xs)
 greatest-some [] some = absurd (omega (arith, some))
 greatest-some (x ∷ []) some = (zero, omega arith, λ d. omega arith)
 greatest-some (x ∷ (y ∷ ys)) some =

@@ -1,10 +1,14 @@
 -- A grid that is read from a shelf, piece by piece.
-use Rattle.std.proofs.Common.{arith, ◌+◌, length-append, Result, OnOk, IfOk, Bool, true, ◌≡◌, ◌≢◌, ℕ, List, [], ◌++◌, length, take, drop, Option, Some, Ok, Err, refl, sym, ◌∙◌, ap, append_assoc, append-nil, false, ◌∷◌}
+use Rattle.std.proofs.Common.{arith, ◌+◌, length-append, Result, OnOk, IfOk, Bool, true, ◌≡◌, ◌≢◌, ℕ, List, [], ◌++◌}
+use Rattle.std.proofs.Common.{length, take, drop, Option, Some, Ok, Err, refl, sym, ◌∙◌, ap, append_assoc, append-nil}
+use Rattle.std.proofs.Common.{false, ◌∷◌}
 use Rattle.mesh_defs.specs.HeightField.{HeightField}
 use Rattle.roam_edge.specs.Shelf.{NamedFile, bytes_of}
 use Rattle.roam_edge.specs.Told.{StaysTold}
 use Rattle.pgm_grid.specs.declared.fault.PgmFault.{PgmFault}
-use Rattle.pgm_grid.specs.declared.fault.PgmFault.TheVariants.{BadMagic, BadHeader, HeaderTooLong, BadMaxval, NotSquare, BadSide, Truncated, BadSample, AboveMaxval, Trailing, NoMemory, TooLong}
+use Rattle.pgm_grid.specs.declared.fault.PgmFault.TheVariants.{BadMagic, BadHeader, HeaderTooLong, BadMaxval, NotSquare}
+use Rattle.pgm_grid.specs.declared.fault.PgmFault.TheVariants.{BadSide, Truncated, BadSample, AboveMaxval, Trailing}
+use Rattle.pgm_grid.specs.declared.fault.PgmFault.TheVariants.{NoMemory, TooLong}
 use Rattle.std.proofs.lemmas.Result.{IfOk-at_ok, IfErr-at_err}
 use Rattle.pgm_grid.specs.Laws.{OthersAreAbsent, GridsHaveHeaders}
 use Rattle.pgm_header.specs.Reading.{header_of}
@@ -14,10 +18,12 @@ use Rattle.run_files.specs.declared.grid_file.GridStop.{GridStop}
 use Rattle.run_files.specs.declared.grid_file.GridStop.TheVariants as stop
 use Rattle.run_laws.specs.FileStop.{StopsReading}
 use Rattle.run_files.specs.GridStop.{stop_for}
-use Rattle.run_laws.proofs.FileLemmas.{IsOfFile, read-nothing, file-split, file-cut, read-more, same-unread, read-end, has-ended, stops-behind}
+use Rattle.run_laws.proofs.FileLemmas.{IsOfFile, read-nothing, file-split, file-cut, read-more, same-unread, read-end}
+use Rattle.run_laws.proofs.FileLemmas.{has-ended, stops-behind}
 
 -- The reader has taken some bytes, which were read of the named file.
-pub record IsReading (files : Option (List NamedFile)) (rest : Option (List ℕ)) (name : List ℕ) (reader : Progress) : Type 0 where
+pub record IsReading (files : Option (List NamedFile)) (rest : Option (List ℕ)) (name : List ℕ)
+    (reader : Progress) : Type 0 where
   pub bytes : List ℕ
   pub means : (more : List ℕ) → resume reader more ≡ grid_of (bytes ++ more)
   pub counted : taken reader ≡ length bytes
@@ -36,7 +42,8 @@ reading-begin files rest name reader means none chosen = record {
 }
 
 -- a piece was read and taken
-pub reading-more : (files : Option (List NamedFile)) (rest rest' : Option (List ℕ)) (name piece : List ℕ) (count : ℕ) (reader next : Progress)
+pub reading-more : (files : Option (List NamedFile)) (rest rest' : Option (List ℕ)) (name piece : List ℕ) (count : ℕ)
+    (reader next : Progress)
     → IsReading files rest name reader
     → ((unread : List ℕ) → rest ≡ Some unread → rest' ≡ Some (drop count unread))
     → ((unread : List ℕ) → rest ≡ Some unread → piece ≡ take count unread)
@@ -45,12 +52,14 @@ pub reading-more : (files : Option (List NamedFile)) (rest rest' : Option (List 
 reading-more files rest rest' name piece count reader next reading takes gives goes_on counted = record {
   bytes = reading.bytes ++ piece;
   counted = omega (arith, counted, reading.counted, length-append reading.bytes piece);
-  means = λ more. sym (goes_on more) ∙ reading.means (piece ++ more) ∙ ap grid_of (sym (append_assoc reading.bytes piece more));
+  means = λ more. sym (goes_on more) ∙ reading.means (piece ++ more)
+      ∙ ap grid_of (sym (append_assoc reading.bytes piece more));
   in_file = read-more files rest rest' name reading.bytes piece count reading.in_file takes gives;
 }
 
 -- a piece was read, and the reader refuses it
-pub reading-refused : (files : Option (List NamedFile)) (rest : Option (List ℕ)) (name piece : List ℕ) (count : ℕ) (reader : Progress) (fault : PgmFault)
+pub reading-refused : (files : Option (List NamedFile)) (rest : Option (List ℕ)) (name piece : List ℕ) (count : ℕ)
+    (reader : Progress) (fault : PgmFault)
     → IsReading files rest name reader
     → ((unread : List ℕ) → rest ≡ Some unread → piece ≡ take count unread)
     → ((more : List ℕ) → resume reader (piece ++ more) ≡ Err fault)
@@ -62,7 +71,8 @@ reading-refused files rest name piece count reader fault reading gives refusal a
     ∙ refusal (drop count here.0)
 
 -- a refusal other than out of memory is that of the reader
-pub stop_for-refused : (found fault : PgmFault) → stop_for found ≡ stop.Refused fault → (found ≡ fault) × (found ≢ NoMemory)
+pub stop_for-refused : (found fault : PgmFault) → stop_for found ≡ stop.Refused fault →
+    (found ≡ fault) × (found ≢ NoMemory)
 stop_for-refused BadMagic fault is = (cc, λ e. cc)
 stop_for-refused (BadHeader place) fault is = (cc, λ e. cc)
 stop_for-refused HeaderTooLong fault is = (cc, λ e. cc)
@@ -100,7 +110,8 @@ reading-unsettled files rest name reader others reading settled =
     IfErr-at_err (λ fault. fault ≢ NoMemory) e (others (reading.bytes ++ [])) refl
 
 -- the header of a grid ended with a piece
-pub reading-header : (files : Option (List NamedFile)) (rest rest' : Option (List ℕ)) (name piece : List ℕ) (count : ℕ) (reader : Progress)
+pub reading-header : (files : Option (List NamedFile)) (rest rest' : Option (List ℕ)) (name piece : List ℕ)
+    (count : ℕ) (reader : Progress)
     → IsReading files rest name reader
     → ((unread : List ℕ) → rest ≡ Some unread → rest' ≡ Some (drop count unread))
     → ((unread : List ℕ) → rest ≡ Some unread → piece ≡ take count unread)
@@ -119,15 +130,21 @@ reading-header files rest rest' name piece count reader reading takes gives ends
         is_text = header.has.is_text;
         short = header.has.short;
         accepts = header.has.accepts;
-        cut = whole ∙ ap (λ m. m ++ drop count here.0) header.has.cut ∙ append_assoc header.has.text header.rest (drop count here.0);
+        cut = whole ∙ ap (λ m. m ++ drop count here.0) header.has.cut
+            ∙ append_assoc header.has.text header.rest (drop count here.0);
         place = header.has.place;
       },
-      λ unread told. (header.rest, ap (λ m. header.rest ++ m) (same-unread (drop count here.0) unread (sym (takes here.0 here.1) ∙ told))),
+      λ unread told. (
+        header.rest,
+        ap (λ m. header.rest ++ m) (same-unread (drop count here.0) unread (sym (takes here.0 here.1) ∙ told)),
+      ),
     )
 
 -- a read failed: no refusal of what was read is settled
-pub reading-failed : (files : Option (List NamedFile)) (rest rest' : Option (List ℕ)) (ended' : Bool) (name : List ℕ) (reader : Progress)
-    → IsReading files rest name reader → ((fault : PgmFault) → StaysRefused reader fault → ⊥) → rest' ≡ rest → ended' ≡ false
+pub reading-failed : (files : Option (List NamedFile)) (rest rest' : Option (List ℕ)) (ended' : Bool)
+    (name : List ℕ) (reader : Progress)
+    → IsReading files rest name reader → ((fault : PgmFault) → StaysRefused reader fault → ⊥) →
+    rest' ≡ rest → ended' ≡ false
     → (all : List NamedFile) → files ≡ Some all → StopsReading IsUndecided (bytes_of all name) rest' ended'
 unfolding StaysRefused
 reading-failed files rest rest' ended' name reader reading unsettled kept not_ended =
@@ -158,11 +175,14 @@ on-ok : {A E : Type 0} (answer : Result A E) (P : Type 0) → ((value : A) → a
 on-ok (Ok value) P proof = proof value refl
 on-ok (Err fault) P proof = tt
 
-module _ (files : Option (List NamedFile)) (rest : Option (List ℕ)) (name : List ℕ) (reader : Progress) (reading : IsReading files rest name reader)
+module _ (files : Option (List NamedFile)) (rest : Option (List ℕ)) (name : List ℕ) (reader : Progress)
+    (reading : IsReading files rest name reader)
     (nothing : (unread : List ℕ) → rest ≡ Some unread → unread ≡ []) where
   -- a file that is read to its end begins with the header of its grid
-  pub grid-header : (answer : Result HeightField GridStop) → GridsHaveHeaders → IfOk answer (λ grid. resume reader [] ≡ Ok grid)
-      → (rest' : Option (List ℕ)) (count : ℕ) → count ≡ 0 → ((unread : List ℕ) → rest ≡ Some unread → rest' ≡ Some (drop count unread))
+  pub grid-header : (answer : Result HeightField GridStop) → GridsHaveHeaders →
+      IfOk answer (λ grid. resume reader [] ≡ Ok grid)
+      → (rest' : Option (List ℕ)) (count : ℕ) → count ≡ 0 →
+      ((unread : List ℕ) → rest ≡ Some unread → rest' ≡ Some (drop count unread))
       → OnOk answer ((all : List NamedFile) → files ≡ Some all → HasReadHeader (bytes_of all name) rest')
   grid-header answer headers value rest' count none takes = on-ok answer _ (λ grid is all told.
       let here = reading.in_file all told in
@@ -174,18 +194,23 @@ module _ (files : Option (List NamedFile)) (rest : Option (List ℕ)) (name : Li
         found.1,
         found.2,
         found.3,
-        λ unread is_left. (found.2, sym (append-nil found.2) ∙ ap (λ m. found.2 ++ m) (same-unread [] unread (sym left ∙ is_left))),
+        λ unread is_left.
+            (found.2, sym (append-nil found.2) ∙ ap (λ m. found.2 ++ m) (same-unread [] unread (sym left ∙ is_left))),
       ))
 
   -- a read that gave no byte leaves nothing
-  pub grid-ended : (ended : Bool) (rest' : Option (List ℕ)) (opens count : ℕ) (files' : Option (List NamedFile)) (answer : Result HeightField GridStop)
-      → files' ≡ files → count ≡ 0 → ended ≡ true → StaysTold rest rest' → ((unread : List ℕ) → rest ≡ Some unread → rest' ≡ Some (drop count unread))
+  pub grid-ended : (ended : Bool) (rest' : Option (List ℕ)) (opens count : ℕ) (files' : Option (List NamedFile))
+      (answer : Result HeightField GridStop)
+      → files' ≡ files → count ≡ 0 → ended ≡ true → StaysTold rest rest' →
+      ((unread : List ℕ) → rest ≡ Some unread → rest' ≡ Some (drop count unread))
       → OnOk answer (HasEnded (seen files' rest' opens ended))
   grid-ended ended rest' opens count files' answer same none at_end stays takes = on-ok answer _ (λ grid is.
-      has-ended files' rest rest' opens ended at_end stays (λ all told. (let here = reading.in_file all (sym same ∙ told) in (here.0, here.1)))
+      has-ended files' rest rest' opens ended at_end stays
+      (λ all told. (let here = reading.in_file all (sym same ∙ told) in (here.0, here.1)))
       (read-end rest rest' count none takes nothing))
 
 -- a new reader has settled nothing
-pub start-unsettled : (reader : Progress) → ((more : List ℕ) → resume reader more ≡ grid_of more) → (fault : PgmFault) → StaysRefused reader fault → ⊥
+pub start-unsettled : (reader : Progress) → ((more : List ℕ) → resume reader more ≡ grid_of more) → (fault : PgmFault) →
+    StaysRefused reader fault → ⊥
 unfolding StaysRefused
 start-unsettled reader means fault settled = nothing-undecided fault (λ more. sym (means more) ∙ settled more)

@@ -15,7 +15,8 @@ use Rattle.run_files.specs.declared.cert_file.CertStop.TheVariants.{BadLine}
 abbrev pub place_seen : CertStage → CertPlace
 place_seen stage = record { said = stage.reader.read; lines = stage.lines; begun = stage.part.items }
 
--- no line was refused, the lines are counted, and neither leaves and reasons are more than may be nor the bytes of a line
+-- no line was refused, the lines are counted, and neither leaves and reasons are more than may be nor the bytes of a
+-- line
 pub record IsStageCounted (stage : CertStage) : Type 0 where
   pub goes : stage.reader.refusal ≡ None
   pub counted : stage.lines ≡ line_count stage.reader.read
@@ -29,7 +30,8 @@ refuses line = BadLine line
 
 -- what taking bytes does, by its answer: a place was reached, or a line is refused, whatever follows
 abbrev pub TakesCert : {T : Type 0} → ℕ → List ℕ → CertStage → Result T CertStop → Type 0
-TakesCert n read stage answer = TakesLines (cert_line_in n) nothing_read (cert_in n) refuses read (place_seen stage) answer
+TakesCert n read stage answer =
+    TakesLines (cert_line_in n) nothing_read (cert_in n) refuses read (place_seen stage) answer
 
 -- what the end of a file comes to, by the answer
 abbrev pub EndsCert : ℕ → List ℕ → Result Certificate CertStop → Type 0

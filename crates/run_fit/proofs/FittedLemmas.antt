@@ -1,5 +1,6 @@
 -- A frame is the mesh of its target; and that mesh, written or cut short, ends the command.
-use Rattle.std.proofs.Common.{◌≡◌, false, ℕ, ◌+◌, ◌-◌, ◌^◌, ◌<◌, ◌≤◌, List, [], ◌∷◌, length, None, Some, inl, inr, refl, sym, ◌∙◌, ap, subst, arith, lit<}
+use Rattle.std.proofs.Common.{◌≡◌, false, ℕ, ◌+◌, ◌-◌, ◌^◌, ◌<◌, ◌≤◌, List, [], ◌∷◌, length, None, Some, inl, inr, refl}
+use Rattle.std.proofs.Common.{sym, ◌∙◌, ap, subst, arith, lit<}
 use Rattle.std.proofs.Math.Nat.{pow-le-pow_right}
 use Rattle.std.proofs.lemmas.Bool.{cases_lt}
 use Rattle.mesh_defs.specs.HeightField.{HeightField}
@@ -59,7 +60,8 @@ module _ (f : Fitted) (grid : HeightField) (low : grid.n ≤ 11) where
       omega (arith, near, none, worst, over)
 
   -- a mesh without an error is one of the least error
-  no-error : (budget : ℕ) → IsFramed f grid 0 budget → f.note.deviation ≤ 0 → IsBudgetMesh grid.n budget error f.fit.leaves
+  no-error : (budget : ℕ) → IsFramed f grid 0 budget → f.note.deviation ≤ 0 →
+      IsBudgetMesh grid.n budget error f.fit.leaves
   no-error budget is none =
       let worst = worst-is 0 budget is in
       let P : ℕ → Type 0 = λ k. IsLeastMesh grid.n k error f.fit.leaves in
@@ -70,7 +72,8 @@ module _ (f : Fitted) (grid : HeightField) (low : grid.n ≤ 11) where
       }
 
   -- so it is the mesh of its target
-  frame-fits : (target : Target) → IsFramed f grid (tolerance_for grid.n target) (budget_for target) → IsFitFor target grid f.fit.leaves
+  frame-fits : (target : Target) → IsFramed f grid (tolerance_for grid.n target) (budget_for target) →
+      IsFitFor target grid f.fit.leaves
   frame-fits (AtError thousandths) is =
       let tolerance : ℕ = tolerance_of grid.n thousandths in
       elim (cases_lt tolerance f.note.deviation) [
@@ -84,8 +87,10 @@ module _ (f : Fitted) (grid : HeightField) (low : grid.n ≤ 11) where
       ]
 
 -- of the grid that was read, at the tolerance and the budget of the target
-pub framed-fitted : (f : Fitted) (target : Target) (grid seen : HeightField) (tolerance budget : ℕ) → grid.n ≤ 11 → seen ≡ grid → f.wedges ≡ grid → f.fit.n ≡ grid.n
-    → tolerance ≡ tolerance_for grid.n target → budget ≡ budget_for target → IsFramed f seen tolerance budget → IsFittedTo f target grid
+pub framed-fitted : (f : Fitted) (target : Target) (grid seen : HeightField) (tolerance budget : ℕ) → grid.n ≤ 11 →
+    seen ≡ grid → f.wedges ≡ grid → f.fit.n ≡ grid.n
+    → tolerance ≡ tolerance_for grid.n target → budget ≡ budget_for target → IsFramed f seen tolerance budget →
+    IsFittedTo f target grid
 framed-fitted f target grid seen tolerance budget low same wedges level tolerance_is budget_is framed =
     let P : HeightField → Type 0 = λ g. IsFramed f g tolerance budget in
     let Q : ℕ → Type 0 = λ k. IsFramed f grid k budget in
@@ -101,20 +106,27 @@ framed-fitted f target grid seen tolerance budget low same wedges level toleranc
     }
 
 -- what is done with the mesh is what the outcome says
-acts-fitted : (w : Fitting) (f : Fitted) (target : Target) (grid : HeightField) → IsFittedTo f target grid → fitted_acts w f ≡ fit_acts w grid f.fit.leaves
+acts-fitted : (w : Fitting) (f : Fitted) (target : Target) (grid : HeightField) → IsFittedTo f target grid →
+    fitted_acts w f ≡ fit_acts w grid f.fit.leaves
 acts-fitted w f target grid is =
     let leaves : List ℕ = f.fit.leaves in
     let acts : HeightField → ℕ → ℕ → ℕ → List Act = λ field triangles vertices deviation.
-    WholeMesh w.prefix 1 (fit_text w.spacing field leaves) ∷ (ReportText (fit_numbers field.n triangles vertices deviation) ∷ []) in
+    WholeMesh w.prefix 1 (fit_text w.spacing field leaves)
+    ∷ (ReportText (fit_numbers field.n triangles vertices deviation) ∷ []) in
     ap (λ (field : HeightField). acts field f.note.triangles f.note.vertices f.note.deviation) is.same_grid
     ∙ (ap (λ (k : ℕ). acts grid k f.note.vertices f.note.deviation) is.triangles
     ∙ (ap (λ (k : ℕ). acts grid (length leaves) k f.note.deviation) is.vertices
     ∙ ap (λ (k : ℕ). acts grid (length leaves) (length (vertices_of grid.n leaves)) k) is.deviation))
 
 -- the mesh and its line end the command, written or cut short
-pub fitted-runs : (before middle now : Moment) (name : List ℕ) (w : Fitting) (grid : HeightField) (f : Fitted) (status : Status)
+pub fitted-runs : (before middle now : Moment) (name : List ℕ) (w : Fitting) (grid : HeightField)
+    (f : Fitted) (status : Status)
     → before.under_way ≡ false → ReadsGrid before middle name grid → IsFittedTo f w.target grid
     → EndsWith middle now (fitted_acts w f) Done status → Runs before now (Some (OnGrid name (Fit w))) status None
 fitted-runs before middle now name w grid f status idle read is ends =
     job-runs before middle now name (Fit w) grid (fitted_acts w f) status idle read refl refl
-    (λ files. (f.fit.leaves, is.fitted, ap (λ (acts : List Act). plain_outcome acts Done 1) (acts-fitted w f w.target grid is))) ends
+    (λ files. (
+      f.fit.leaves,
+      is.fitted,
+      ap (λ (acts : List Act). plain_outcome acts Done 1) (acts-fitted w f w.target grid is),
+    )) ends

@@ -31,13 +31,15 @@ pub record IsFittedTo (f : Fitted) (target : Target) (grid : HeightField) : Type
 -- ` deviation N over M error D`: N over 2 ^ n as a fraction and as a decimal
 abbrev pub deviation_text : (n deviation : ℕ) → List ℕ
 deviation_text n deviation =
-    codes " deviation " ++ decimal deviation ++ codes " over " ++ decimal (2 ^ n) ++ codes " error " ++ exact_decimal deviation n
+    codes " deviation " ++ decimal deviation ++ codes " over " ++ decimal (2 ^ n) ++ codes " error "
+    ++ exact_decimal deviation n
 
 -- the line of a mesh of the grid of side 2 ^ n with these numbers
 abbrev pub fit_numbers : (n triangles vertices deviation : ℕ) → List ℕ
 fit_numbers n triangles vertices deviation =
     codes "fit triangles " ++ decimal triangles ++ codes " vertices " ++ decimal vertices
-    ++ codes " deviation " ++ decimal deviation ++ codes " over " ++ decimal (2 ^ n) ++ codes " error " ++ exact_decimal deviation n ++ codes "\n"
+    ++ codes " deviation " ++ decimal deviation ++ codes " over " ++ decimal (2 ^ n) ++ codes " error "
+    ++ exact_decimal deviation n ++ codes "\n"
 
 -- the acts of the mesh: it, and then its line
 abbrev pub fitted_acts : Fitting → Fitted → List Act

@@ -43,11 +43,7 @@ pub fn run_fit<O: Outside>(alloc: Global, words: &FitWords<'_>, outside: &mut O)
 }
 
 /// Writes the mesh, and then its line. The line comes only after the mesh was finished.
-fn show<O: Outside>(
-    fitted: &Fitted,
-    words: &FitWords<'_>,
-    outside: &mut O,
-) -> Result<(), Failed>
+fn show<O: Outside>(fitted: &Fitted, words: &FitWords<'_>, outside: &mut O) -> Result<(), Failed>
     requires idle { (O.moment outside.old).under_way ≡ false }
     requires accepted { IsFitting words.now }
     requires level { fitted.now.fit.n ≡ fitted.now.wedges.n }

@@ -1,5 +1,6 @@
 -- A certificate of a fitted mesh and a mesh are judged: what the calls of a check come to.
-use Rattle.std.proofs.Common.{◌≡◌, ◌≢◌, ℕ, ◌+◌, ◌≤◌, inl, inr, List, [], Some, None, Ok, false, take, slice_get, refl, sym, ◌∙◌, ap, subst, arith}
+use Rattle.std.proofs.Common.{◌≡◌, ◌≢◌, ℕ, ◌+◌, ◌≤◌, inl, inr, List, [], Some, None, Ok, false, take, slice_get, refl}
+use Rattle.std.proofs.Common.{sym, ◌∙◌, ap, subst, arith}
 use Rattle.mesh_defs.specs.HeightField.{HeightField}
 use Rattle.roam_edge.specs.Shelf.{NamedFile, bytes_of}
 use Rattle.pgm_grid.specs.Progress.{grid_of}
@@ -17,10 +18,13 @@ use Rattle.run_laws.specs.Moment.{Moment}
 use Rattle.run_laws.specs.Leaving.{Runs, HasOpened, HasFailed, ReadsGrid, TellsLast}
 use Rattle.run_laws.proofs.ActLemmas.{stands-nothing}
 use Rattle.run_laws.proofs.GridLemmas.{file-fault, same-name}
-use Rattle.run_laws.proofs.RunLemmas.{read-failed, memory-spent, opens-then, fails-then, certified-runs, rejected-runs, tells-as}
+use Rattle.run_laws.proofs.RunLemmas.{read-failed, memory-spent, opens-then, fails-then, certified-runs, rejected-runs}
+use Rattle.run_laws.proofs.RunLemmas.{tells-as}
 use Rattle.run_fit_check.specs.declared.verdict_report.Judgement.{Judgement}
 use Rattle.run_fit_check.specs.declared.verdict_report.Judgement.TheVariants.{Certified, Rejected, BadLine, MeshDiffers}
-use Rattle.run_fit_check.specs.FitJudging.{fit_judged_text, fit_judged_status, mesh_opens, fit_judged_outcome, IsFitJudged, IsFaultlessFitFile, FitMeshHasRead, IsSoundFor, FailsBehind, FitJudgesNoMemory, FitJudgesFault}
+use Rattle.run_fit_check.specs.FitJudging.{fit_judged_text, fit_judged_status, mesh_opens, fit_judged_outcome}
+use Rattle.run_fit_check.specs.FitJudging.{IsFitJudged, IsFaultlessFitFile, FitMeshHasRead, IsSoundFor, FailsBehind}
+use Rattle.run_fit_check.specs.FitJudging.{FitJudgesNoMemory, FitJudgesFault}
 
 -- The triangles are those of a certificate without a fault, of so many that are off by so much.
 module _ (c : FitChecking) (grid : HeightField) (cert : FitCertificate) (count deviation : ℕ) (triangles : List ℕ)
@@ -58,7 +62,8 @@ module _ (c : FitChecking) (grid : HeightField) (cert : FitCertificate) (count d
   )
 
   -- a read of the file failed
-  pub fails-behind : (before now : Moment) → HasFailed before now 1 c.mesh (FitMeshHasRead (fit_text c.spacing grid triangles))
+  pub fails-behind : (before now : Moment) →
+      HasFailed before now 1 c.mesh (FitMeshHasRead (fit_text c.spacing grid triangles))
       → FailsBehind c grid cert before now
   fails-behind before now failed = (
     sound.0,
@@ -67,11 +72,13 @@ module _ (c : FitChecking) (grid : HeightField) (cert : FitCertificate) (count d
   )
 
 -- commands that check are the same
-same-check : (name other : List ℕ) (c check : FitChecking) → OnGrid name (CheckFit c) ≡ OnGrid other (CheckFit check) → c ≡ check
+same-check : (name other : List ℕ) (c check : FitChecking) →
+    OnGrid name (CheckFit c) ≡ OnGrid other (CheckFit check) → c ≡ check
 same-check name other c check e = cc
 
 -- and none is a check of a mesh by a camera
-not-view : (name other : List ℕ) (c : FitChecking) (check : Checking) → OnGrid name (CheckFit c) ≡ OnGrid other (Check check) → ⊥
+not-view : (name other : List ℕ) (c : FitChecking) (check : Checking) →
+    OnGrid name (CheckFit c) ≡ OnGrid other (Check check) → ⊥
 not-view name other c check e = cc
 
 -- the grid of one is that of the other
@@ -104,14 +111,17 @@ behind-memory before old new name c grid count opens low high found faultless = 
   );
 }
 
-module _ (before middle now : Moment) (name : List ℕ) (c : FitChecking) (grid : HeightField) (idle : before.under_way ≡ false)
+module _ (before middle now : Moment) (name : List ℕ) (c : FitChecking) (grid : HeightField)
+    (idle : before.under_way ≡ false)
     (read : ReadsGrid before middle name grid) where
   -- memory ran out behind the grid
-  pub check-memory : FitJudgesNoMemory c grid middle now → Runs before now (Some (OnGrid name (CheckFit c))) NoMemory None
+  pub check-memory : FitJudgesNoMemory c grid middle now →
+      Runs before now (Some (OnGrid name (CheckFit c))) NoMemory None
   check-memory (inl one) =
       let opened = opens-then before middle now 1 1 read.opened one in
       memory-spent before now name (CheckFit c) 2 idle opened
-      (behind-memory _ _ _ name c grid 2 opened.opens (omega arith) (omega arith) read.is_grid (λ three. absurd (omega (arith, three))))
+      (behind-memory _ _ _ name c grid 2 opened.opens (omega arith) (omega arith) read.is_grid
+      (λ three. absurd (omega (arith, three))))
   check-memory (inr (two, faultless)) =
       let opened = opens-then before middle now 1 2 read.opened two in
       memory-spent before now name (CheckFit c) 3 idle opened
@@ -141,21 +151,27 @@ module _ (before middle now : Moment) (name : List ℕ) (c : FitChecking) (grid 
         before_script = λ scripted. stands-nothing before.sinks;
         at_file = λ files told.
             let at = failed.stops files told in
-            file-fault _ _ now.shelf (OnGrid name (CheckFit c)) files 2 c.mesh [] _ at refl
-            (grid, read.is_grid files told, ((cert, triangles, is files (read.opened.only.files ∙ told), faultless, at.has_read), refl))
+            file-fault _ _ now.shelf (OnGrid name (CheckFit c)) files 2 c.mesh [] _ at refl (
+              grid,
+              read.is_grid files told,
+              ((cert, triangles, is files (read.opened.only.files ∙ told), faultless, at.has_read), refl),
+            )
             (stands-nothing before.sinks);
       })
 
-module _ (before middle last now : Moment) (name : List ℕ) (c : FitChecking) (grid : HeightField) (text : List ℕ) (meant status : Status)
+module _ (before middle last now : Moment) (name : List ℕ) (c : FitChecking) (grid : HeightField)
+    (text : List ℕ) (meant status : Status)
     (idle : before.under_way ≡ false) (read : ReadsGrid before middle name grid) where
   -- the line of a judgement ends a check
   pub check-runs : (judgement : Judgement) → HasOpened middle last (1 + mesh_opens judgement)
       → (fit_judged_status judgement ≡ Done → HasEnded last.shelf)
       → ((files : List NamedFile) → middle.shelf.files ≡ Some files → IsFitJudged c grid files judgement)
-      → text ≡ fit_judged_text grid.n judgement → meant ≡ fit_judged_status judgement → TellsLast last now text meant status
+      → text ≡ fit_judged_text grid.n judgement → meant ≡ fit_judged_status judgement →
+      TellsLast last now text meant status
       → Runs before now (Some (OnGrid name (CheckFit c))) status None
   check-runs (Certified triangles deviation) opened ended judged is_text is_end tells =
-      certified-runs before middle last now name (CheckFit c) grid 2 _ status idle read opened refl refl (ended refl) refl judged
+      certified-runs before middle last now name (CheckFit c) grid 2 _ status idle read opened refl refl
+      (ended refl) refl judged
       (tells-as is_text is_end tells)
   check-runs (Rejected why) opened ended judged is_text is_end tells =
       rejected-runs before middle last now name (CheckFit c) grid 1 _ status idle read opened refl

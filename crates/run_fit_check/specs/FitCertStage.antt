@@ -29,7 +29,8 @@ fit_refuses line = BadLine line
 
 -- what taking bytes does, by its answer: a place was reached, or a line is refused, whatever follows
 abbrev pub TakesFitCert : {T : Type 0} → ℕ → List ℕ → FitCertStage → Result T CertStop → Type 0
-TakesFitCert n read stage answer = TakesLines (fit_line_in n) nothing_fit_read (fit_cert_in n) fit_refuses read (fit_place_seen stage) answer
+TakesFitCert n read stage answer =
+    TakesLines (fit_line_in n) nothing_fit_read (fit_cert_in n) fit_refuses read (fit_place_seen stage) answer
 
 -- what the end of a file comes to, by the answer
 abbrev pub EndsFitCert : ℕ → List ℕ → Result FitCertificate CertStop → Type 0

@@ -1,6 +1,6 @@
 -- What a check of a fitted mesh by a certificate comes to, and where it stops.
--- Words: fit_judged_text, fit_judged_status, mesh_opens, fit_judged_outcome, IsFitJudged, IsFaultlessFitFile, IsSoundFor, FitMeshHasRead, NoMemoryBehind,
--- FailsBehind, FitJudgesNoMemory, FitJudgesFault.
+-- Words: fit_judged_text, fit_judged_status, mesh_opens, fit_judged_outcome, IsFitJudged, IsFaultlessFitFile,
+-- IsSoundFor, FitMeshHasRead, NoMemoryBehind, FailsBehind, FitJudgesNoMemory, FitJudgesFault.
 use Rattle.std.specs.Prelude.{◌≡◌, ℕ, ◌+◌, ◌⊎◌, List, length, Some, Ok}
 use Rattle.mesh_defs.specs.HeightField.{HeightField}
 use Rattle.roam_edge.specs.Shelf.{NamedFile, bytes_of}
@@ -44,12 +44,14 @@ mesh_opens (MeshDiffers place) = 1
 
 -- the outcome of a run that tells it: the grid and the certificate were opened for it, and the mesh or not
 abbrev pub fit_judged_outcome : ℕ → Judgement → Outcome
-fit_judged_outcome n judgement = text_outcome (fit_judged_text n judgement) (fit_judged_status judgement) (2 + mesh_opens judgement)
+fit_judged_outcome n judgement =
+    text_outcome (fit_judged_text n judgement) (fit_judged_status judgement) (2 + mesh_opens judgement)
 
 -- the judgement is right for the files
 abbrev pub IsFitJudged : FitChecking → HeightField → List NamedFile → Judgement → Type 0
 IsFitJudged c grid files judgement =
-    IsFitCheckOutcome c grid (fit_cert_in grid.n (bytes_of files c.certificate)) (bytes_of files c.mesh) (fit_judged_outcome grid.n judgement)
+    IsFitCheckOutcome c grid (fit_cert_in grid.n (bytes_of files c.certificate)) (bytes_of files c.mesh)
+    (fit_judged_outcome grid.n judgement)
 
 -- the file is that of a certificate without a fault
 abbrev pub IsFaultlessFitFile : FitChecking → HeightField → List NamedFile → Type 0
@@ -82,12 +84,15 @@ FailsBehind c grid cert before now =
 abbrev pub FitJudgesNoMemory : FitChecking → HeightField → Moment → Moment → Type 0
 FitJudgesNoMemory c grid before now =
     HasOpened before now 1
-    ⊎ (HasOpened before now 2 × ((files : List NamedFile) → before.shelf.files ≡ Some files → IsFaultlessFitFile c grid files))
+    ⊎ (HasOpened before now 2 × ((files : List NamedFile) → before.shelf.files ≡ Some files →
+    IsFaultlessFitFile c grid files))
 
 -- a read failed, at the certificate or, behind one without a fault, at the mesh
 abbrev pub FitJudgesFault : FitChecking → HeightField → Moment → Moment → Type 0
 FitJudgesFault c grid before now =
     HasFailed before now 1 c.certificate (FitCertHasRead grid.n)
     ⊎ ((cert : FitCertificate) × (triangles : List ℕ)
-    × ((files : List NamedFile) → before.shelf.files ≡ Some files → fit_cert_in grid.n (bytes_of files c.certificate) ≡ Ok cert)
-    × IsFitFaultless c grid cert triangles × HasFailed before now 2 c.mesh (FitMeshHasRead (fit_text c.spacing grid triangles)))
+    × ((files : List NamedFile) → before.shelf.files ≡ Some files →
+    fit_cert_in grid.n (bytes_of files c.certificate) ≡ Ok cert)
+    × IsFitFaultless c grid cert triangles
+    × HasFailed before now 2 c.mesh (FitMeshHasRead (fit_text c.spacing grid triangles)))

@@ -1,17 +1,20 @@
 -- Acts that stand, one after another, and acts that were cut short.
-use Rattle.std.proofs.Common.{◌≡◌, ℕ, true, List, [], ◌∷◌, ◌++◌, Option, Some, Result, Ok, Err, OnOk, OnErr, refl, sym, ◌∙◌, ap, subst, append_assoc, append-nil}
+use Rattle.std.proofs.Common.{◌≡◌, ℕ, true, List, [], ◌∷◌, ◌++◌, Option, Some, Result, Ok, Err, OnOk, OnErr, refl, sym}
+use Rattle.std.proofs.Common.{◌∙◌, ap, subst, append_assoc, append-nil}
 use Rattle.roam_edge.specs.MeshSink.{WrittenMesh}
 use Rattle.roam_edge.specs.Told.{IsPrefix}
 use Rattle.roam_edge.specs.Fault.{Rose}
 use Rattle.obj_write.specs.Written.{mesh_with, Grows, IsPartOfMesh}
-use Rattle.run_laws.specs.Act.{Act, WholeMesh, ReportText, Told, Stands, IsCutShort, StandsInPart, meshes_of, report_of, told}
+use Rattle.run_laws.specs.Act.{Act, WholeMesh, ReportText, Told, Stands, IsCutShort, StandsInPart, meshes_of, report_of}
+use Rattle.run_laws.specs.Act.{told}
 
 -- what two facts about an answer give
 pub both-ok : {T E P Q R : Type 0} (answer : Result T E) → (P → Q → R) → OnOk answer P → OnOk answer Q → OnOk answer R
 both-ok (Ok value) give one two = give one two
 both-ok (Err error) give one two = tt
 
-pub both-err : {T E P Q R : Type 0} (answer : Result T E) → (P → Q → R) → OnErr answer P → OnErr answer Q → OnErr answer R
+pub both-err : {T E P Q R : Type 0} (answer : Result T E) → (P → Q → R) → OnErr answer P →
+    OnErr answer Q → OnErr answer R
 both-err (Ok value) give one two = tt
 both-err (Err error) give one two = give one two
 
@@ -33,7 +36,8 @@ grows-append before middle now first second one two all is =
 
 pub meshes_of-append : (first second : List Act) → meshes_of (first ++ second) ≡ meshes_of first ++ meshes_of second
 meshes_of-append [] second = refl
-meshes_of-append (WholeMesh prefix number bytes ∷ first) second = ap (λ m. mesh_with prefix number bytes true ∷ m) (meshes_of-append first second)
+meshes_of-append (WholeMesh prefix number bytes ∷ first) second =
+    ap (λ m. mesh_with prefix number bytes true ∷ m) (meshes_of-append first second)
 meshes_of-append (ReportText bytes ∷ first) second = meshes_of-append first second
 
 pub report_of-append : (first second : List Act) → report_of (first ++ second) ≡ report_of first ++ report_of second
@@ -45,14 +49,21 @@ report_of-append (ReportText bytes ∷ first) second =
 -- no act was done
 pub stands-nothing : (before : Told) → Stands before before []
 stands-nothing before =
-    record { meshes_grow = grows-nothing before.meshes; report_grows = grows-nothing before.report; mesh_same = refl; report_same = refl }
+    record {
+      meshes_grow = grows-nothing before.meshes;
+      report_grows = grows-nothing before.report;
+      mesh_same = refl;
+      report_same = refl;
+    }
 
 -- acts were done, and then others
 pub stands-append : (before middle now : Told) (first second : List Act)
     → Stands before middle first → Stands middle now second → Stands before now (first ++ second)
 stands-append before middle now first second one two = record {
-  meshes_grow = rw (meshes_of-append first second) (grows-append before.meshes middle.meshes now.meshes (meshes_of first) (meshes_of second) one.meshes_grow two.meshes_grow);
-  report_grows = rw (report_of-append first second) (grows-append before.report middle.report now.report (report_of first) (report_of second) one.report_grows two.report_grows);
+  meshes_grow = rw (meshes_of-append first second) (grows-append before.meshes middle.meshes now.meshes
+      (meshes_of first) (meshes_of second) one.meshes_grow two.meshes_grow);
+  report_grows = rw (report_of-append first second) (grows-append before.report middle.report now.report
+      (report_of first) (report_of second) one.report_grows two.report_grows);
   mesh_same = two.mesh_same ∙ one.mesh_same;
   report_same = two.report_same ∙ one.report_same;
 }
@@ -69,12 +80,14 @@ part-append before middle now first done (WholeMesh prefix number bytes) one par
             ∙ ap (λ m. all ++ m) (sym (append_assoc (meshes_of first) (meshes_of done) cut.0)
             ∙ ap (λ m. m ++ cut.0) (sym (meshes_of-append first done)))),
       ),
-  rw (report_of-append first done) (grows-append before.report middle.report now.report (report_of first) (report_of done) one.report_grows part.1),
+  rw (report_of-append first done)
+      (grows-append before.report middle.report now.report (report_of first) (report_of done) one.report_grows part.1),
   rose-since before.mesh_faults middle.mesh_faults now.mesh_faults one.mesh_same part.2,
   part.3 ∙ one.report_same,
 )
 part-append before middle now first done (ReportText bytes) one part = (
-  rw (meshes_of-append first done) (grows-append before.meshes middle.meshes now.meshes (meshes_of first) (meshes_of done) one.meshes_grow part.0),
+  rw (meshes_of-append first done)
+      (grows-append before.meshes middle.meshes now.meshes (meshes_of first) (meshes_of done) one.meshes_grow part.0),
   λ all is.
       let cut = part.1 (all ++ report_of first) (one.report_grows all is) in (
         cut.0,
@@ -99,7 +112,8 @@ cut-append before middle now first second one cut = record {
 }
 
 -- acts were cut short, and more were owed behind them
-pub cut-longer : (before now : Told) (acts more : List Act) → IsCutShort before now acts → IsCutShort before now (acts ++ more)
+pub cut-longer : (before now : Told) (acts more : List Act) → IsCutShort before now acts →
+    IsCutShort before now (acts ++ more)
 cut-longer before now acts more cut = record {
   done = cut.done;
   next = cut.next;
@@ -109,9 +123,11 @@ cut-longer before now acts more cut = record {
 }
 
 -- a mesh was cut short, and nothing else was done
-pub cut-mesh : {k k' i : ℕ} (meshes meshes' : Option (List WrittenMesh)) (report : Option (List ℕ)) (prefix : List ℕ) (number : ℕ)
+pub cut-mesh : {k k' i : ℕ} (meshes meshes' : Option (List WrittenMesh)) (report : Option (List ℕ))
+    (prefix : List ℕ) (number : ℕ)
     (bytes : List ℕ) (owed : List Act)
-    → ((all : List WrittenMesh) → meshes ≡ Some all → (part : List WrittenMesh) × IsPartOfMesh prefix number bytes part × (meshes' ≡ Some (all ++ part)))
+    → ((all : List WrittenMesh) → meshes ≡ Some all →
+    (part : List WrittenMesh) × IsPartOfMesh prefix number bytes part × (meshes' ≡ Some (all ++ part)))
     → Rose k k' → IsCutShort (told meshes report k i) (told meshes' report k' i) (WholeMesh prefix number bytes ∷ owed)
 cut-mesh meshes meshes' report prefix number bytes owed part rose = record {
   done = [];
@@ -122,11 +138,13 @@ cut-mesh meshes meshes' report prefix number bytes owed part rose = record {
 }
 
 -- a mesh was written whole, and then a line was cut short
-pub cut-line : {k k' i i' : ℕ} (meshes meshes' : Option (List WrittenMesh)) (report report' : Option (List ℕ)) (prefix : List ℕ)
+pub cut-line : {k k' i i' : ℕ} (meshes meshes' : Option (List WrittenMesh))
+    (report report' : Option (List ℕ)) (prefix : List ℕ)
     (number : ℕ) (bytes line : List ℕ)
     → Grows meshes meshes' (mesh_with prefix number bytes true ∷ []) → k' ≡ k
     → ((all : List ℕ) → report ≡ Some all → (front : List ℕ) × IsPrefix front line × (report' ≡ Some (all ++ front)))
-    → Rose i i' → IsCutShort (told meshes report k i) (told meshes' report' k' i') (WholeMesh prefix number bytes ∷ (ReportText line ∷ []))
+    → Rose i i' → IsCutShort (told meshes report k i) (told meshes' report' k' i')
+    (WholeMesh prefix number bytes ∷ (ReportText line ∷ []))
 cut-line meshes meshes' report report' prefix number bytes line whole same part rose = record {
   done = WholeMesh prefix number bytes ∷ [];
   next = ReportText line;
@@ -136,7 +154,8 @@ cut-line meshes meshes' report report' prefix number bytes line whole same part 
 }
 
 -- a line was cut short, and nothing else was done
-pub cut-only-line : {k i i' : ℕ} (meshes : Option (List WrittenMesh)) (report report' : Option (List ℕ)) (line : List ℕ) (owed : List Act)
+pub cut-only-line : {k i i' : ℕ} (meshes : Option (List WrittenMesh)) (report report' : Option (List ℕ))
+    (line : List ℕ) (owed : List Act)
     → ((all : List ℕ) → report ≡ Some all → (front : List ℕ) × IsPrefix front line × (report' ≡ Some (all ++ front)))
     → Rose i i' → IsCutShort (told meshes report k i) (told meshes report' k i') (ReportText line ∷ owed)
 cut-only-line meshes report report' line owed part rose = record {

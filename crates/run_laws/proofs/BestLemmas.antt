@@ -1,5 +1,6 @@
 -- The headlines follow from what stands after each status.
-use Rattle.std.proofs.Common.{◌≡◌, ◌≢◌, ℕ, zero, suc, ◌≤◌, IsTrue, IsSome, List, [], ◌++◌, Option, Some, Result, Ok, refl, sym, ◌∙◌, ap, subst, append_assoc, append-nil}
+use Rattle.std.proofs.Common.{◌≡◌, ◌≢◌, ℕ, zero, suc, ◌≤◌, IsTrue, IsSome, List, [], ◌++◌, Option, Some, Result, Ok}
+use Rattle.std.proofs.Common.{refl, sym, ◌∙◌, ap, subst, append_assoc, append-nil}
 use Rattle.std.proofs.lemmas.Option.{same_Some, none-some}
 use Rattle.mesh_defs.specs.HeightField.{HeightField}
 use Rattle.mesh_defs.specs.State.{State, start_state}
@@ -13,14 +14,17 @@ use Rattle.pgm_grid.specs.declared.fault.PgmFault.{PgmFault}
 use Rattle.pgm_grid.specs.Progress.{grid_of}
 use Rattle.pgm_grid.specs.Laws.{TextsAreRead}
 use Rattle.run_laws.specs.declared.status.Status.{Status}
-use Rattle.run_laws.specs.declared.status.Status.TheVariants.{Done, NoMemory, Usage, GridRefused, ScriptRefused, ReadFault, WriteFault, Rejected}
+use Rattle.run_laws.specs.declared.status.Status.TheVariants.{Done, NoMemory, Usage, GridRefused, ScriptRefused}
+use Rattle.run_laws.specs.declared.status.Status.TheVariants.{ReadFault, WriteFault, Rejected}
 use Rattle.run_laws.specs.Walk.{Walk, start_walk, walk_of}
 use Rattle.word_laws.specs.Words.{Scripted, Checking, Frames, Check, Command, OnGrid, prefix_of}
 use Rattle.run_laws.specs.CertFile.{cert_in}
 use Rattle.run_laws.specs.Act.{Act, Told, Stands, report_of}
 use Rattle.run_laws.specs.Picture.{Picture, ArePictures}
-use Rattle.run_laws.specs.Outcome.{Outcome, shown_acts, script_walk, IsFramesOutcome, IsCheckOutcome, IsGridOutcome, IsWordsOutcome, IsOutcome}
-use Rattle.run_laws.specs.Promise.{Seen, is_complete, ends_script, EndsRight, ScriptHasRead, FileReadFault, LeavesAtReadFault, LeavesAtNoMemory}
+use Rattle.run_laws.specs.Outcome.{Outcome, shown_acts, script_walk, IsFramesOutcome, IsCheckOutcome, IsGridOutcome}
+use Rattle.run_laws.specs.Outcome.{IsWordsOutcome, IsOutcome}
+use Rattle.run_laws.specs.Promise.{Seen, is_complete, ends_script, EndsRight, ScriptHasRead, FileReadFault}
+use Rattle.run_laws.specs.Promise.{LeavesAtReadFault, LeavesAtNoMemory}
 use Rattle.run_laws.specs.Headline.{IsRunOf, KeepsGoodMeshes, IsCertifiedMesh}
 use Rattle.run_laws.specs.Laws.{AreStates, BudgetsAreTwo}
 use Rattle.run_laws.proofs.WalkLemmas.{walk_of-append, walk_of-grows}
@@ -36,8 +40,10 @@ same-command xs ys e = cc
 same-grid : (answer : Result HeightField PgmFault) (g h : HeightField) → answer ≡ Ok g → answer ≡ Ok h → g ≡ h
 same-grid answer g h one two = cc
 
-module _ (best : FramesAreBest) (two : BudgetsAreTwo) (read_texts : TextsAreRead) (words : List (List ℕ)) (files : List NamedFile) (s : Scripted) (grid : HeightField)
-    (run : IsRunOf words files (Frames s) grid) (shown : IsSome (prefix_of s.show)) (before now : Told) (old new : Seen) (all : List WrittenMesh)
+module _ (best : FramesAreBest) (two : BudgetsAreTwo) (read_texts : TextsAreRead) (words : List (List ℕ))
+    (files : List NamedFile) (s : Scripted) (grid : HeightField)
+    (run : IsRunOf words files (Frames s) grid) (shown : IsSome (prefix_of s.show)) (before now : Told) (old new : Seen)
+    (all : List WrittenMesh)
     (told : old.files ≡ Some files) (there : before.meshes ≡ Some all) where
   abbrev script : List ℕ
   script = bytes_of files s.script
@@ -52,7 +58,8 @@ module _ (best : FramesAreBest) (two : BudgetsAreTwo) (read_texts : TextsAreRead
   low = command-budget words run.grid_name (Frames s) run.is_command
 
   -- the outcome of the words is that of the script
-  script-outcome : (end : Outcome) → IsOutcome words files end → IsFramesOutcome s.show 2 (script_walk s grid script) end
+  script-outcome : (end : Outcome) → IsOutcome words files end →
+      IsFramesOutcome s.show 2 (script_walk s grid script) end
   unfolding IsOutcome
   script-outcome end is =
       let P : Option Command → Type 0 = λ c. IsWordsOutcome c files end in
@@ -60,7 +67,8 @@ module _ (best : FramesAreBest) (two : BudgetsAreTwo) (read_texts : TextsAreRead
       subst Q read-grid (subst P run.is_command is)
 
   -- frames that are the first of the script's
-  first : (status : Status) → (IsTrue (ends_script status) → ⊥) → (firsts more : List State) (ps : List Picture) → (script_walk s grid script).frames ≡ firsts ++ more
+  first : (status : Status) → (IsTrue (ends_script status) → ⊥) → (firsts more : List State) (ps : List Picture) →
+      (script_walk s grid script).frames ≡ firsts ++ more
       → ArePictures s.show [] firsts ps → Stands before now (shown_acts s.show 1 ps) → Keeps status
   first status unfinished firsts more ps cut pictures stands =
       let P : List State → Type 0 = λ l. AreStates grid.n l in
@@ -69,22 +77,27 @@ module _ (best : FramesAreBest) (two : BudgetsAreTwo) (read_texts : TextsAreRead
 
   nothing : (status : Status) → (IsTrue (ends_script status) → ⊥) → Stands before now [] → Keeps status
   nothing status unfinished stands =
-      nothing-keeps best two s grid script shown low before now all there status unfinished (stands.meshes_grow all there ∙ ap Some (append-nil all))
+      nothing-keeps best two s grid script shown low before now all there status unfinished
+      (stands.meshes_grow all there ∙ ap Some (append-nil all))
 
   -- what the whole lines do that were read
-  from-read : (status : Status) → (IsTrue (ends_script status) → ⊥) → (read unread : List ℕ) (acts : List Act) → script ≡ read ++ unread
+  from-read : (status : Status) → (IsTrue (ends_script status) → ⊥) →
+      (read unread : List ℕ) (acts : List Act) → script ≡ read ++ unread
       → ScriptHasRead s grid read acts → Stands before now acts → Keeps status
   from-read status unfinished read unread acts cut has stands =
       let start : Walk = start_walk s.budget (start_state grid s.spacing s.budget) in
       let here : Walk = script_walk s grid has.lines in
       let grown = walk_of-grows here (has.begun ++ unread) in
-      let whole : script ≡ has.lines ++ (has.begun ++ unread) = cut ∙ (ap (λ (l : List ℕ). l ++ unread) has.cut ∙ append_assoc has.lines has.begun unread) in
+      let whole : script ≡ has.lines ++ (has.begun ++ unread) =
+      cut ∙ (ap (λ (l : List ℕ). l ++ unread) has.cut ∙ append_assoc has.lines has.begun unread) in
       let P : List Act → Type 0 = λ l. Stands before now l in
       first status unfinished here.frames grown.0 has.pictures
-      (ap (λ (l : List ℕ). (walk_of start l).frames) whole ∙ (ap (λ (w : Walk). w.frames) (walk_of-append start has.lines (has.begun ++ unread) has.whole) ∙ grown.1))
+      (ap (λ (l : List ℕ). (walk_of start l).frames) whole
+      ∙ (ap (λ (w : Walk). w.frames) (walk_of-append start has.lines (has.begun ++ unread) has.whole) ∙ grown.1))
       has.shown (subst P has.done stands)
 
-  at-file : (status : Status) → (IsTrue (ends_script status) → ⊥) → (k : ℕ) → FileReadFault before now new (OnGrid run.grid_name (Frames s)) files k → Keeps status
+  at-file : (status : Status) → (IsTrue (ends_script status) → ⊥) → (k : ℕ) →
+      FileReadFault before now new (OnGrid run.grid_name (Frames s)) files k → Keeps status
   at-file status unfinished zero fault =
       let P : List Act → Type 0 = λ l. Stands before now l in
       nothing status unfinished (subst P fault.has_read.1 fault.stands)
@@ -96,19 +109,24 @@ module _ (best : FramesAreBest) (two : BudgetsAreTwo) (read_texts : TextsAreRead
       (subst P (same-grid (grid_of (bytes_of files run.grid_name)) has.0 grid has.1 read-grid) has.2) fault.stands
   at-file status unfinished (suc (suc k)) fault = absurd (none-some fault.name fault.named)
 
-  from-read-fault : (status : Status) → (IsTrue (ends_script status) → ⊥) → LeavesAtReadFault before now old new words → Keeps status
+  from-read-fault : (status : Status) → (IsTrue (ends_script status) → ⊥) →
+      LeavesAtReadFault before now old new words → Keeps status
   from-read-fault status unfinished leaves =
       let P : Command → Type 0 = λ c. FileReadFault before now new c files leaves.leaves.file in
       at-file status unfinished leaves.leaves.file
-      (subst P (same-command leaves.command (OnGrid run.grid_name (Frames s)) (sym leaves.is_command ∙ run.is_command)) (leaves.leaves.at_file files told))
+      (subst P (same-command leaves.command (OnGrid run.grid_name (Frames s)) (sym leaves.is_command ∙ run.is_command))
+      (leaves.leaves.at_file files told))
 
-  complete : (status : Status) → IsTrue (is_complete status) → status ≢ NoMemory → status ≢ ReadFault → EndsRight before now old new words files status → Keeps status
+  complete : (status : Status) → IsTrue (is_complete status) → status ≢ NoMemory → status ≢ ReadFault →
+      EndsRight before now old new words files status → Keeps status
   complete status done m r ends =
       let e = ends.ends m r in
-      complete-keeps best two s grid script shown low before now all there status e.0 (script-outcome e.0 e.1) (e.2.complete done).0
+      complete-keeps best two s grid script shown low before now all there status e.0
+      (script-outcome e.0 e.1) (e.2.complete done).0
 
   -- whatever the status, the meshes are good
-  pub run-keeps : (status : Status) → EndsRight before now old new words files status → (status ≡ ReadFault → LeavesAtReadFault before now old new words)
+  pub run-keeps : (status : Status) → EndsRight before now old new words files status →
+      (status ≡ ReadFault → LeavesAtReadFault before now old new words)
       → (status ≡ NoMemory → LeavesAtNoMemory before now old new words) → Keeps status
   run-keeps Done ends read memory = complete Done refl (λ e. cc) (λ e. cc) ends
   run-keeps NoMemory ends read memory = nothing NoMemory (λ e. cc) (memory refl).leaves.stands
@@ -119,14 +137,18 @@ module _ (best : FramesAreBest) (two : BudgetsAreTwo) (read_texts : TextsAreRead
   run-keeps ReadFault ends read memory = from-read-fault ReadFault (λ e. cc) (read refl)
   run-keeps WriteFault ends read memory =
       let e = ends.ends (λ f. cc) (λ f. cc) in
-      cut-keeps best two s grid script shown low before now all there WriteFault (λ f. cc) e.0 (script-outcome e.0 e.1) (e.2.cut_short refl)
+      cut-keeps best two s grid script shown low before now all there WriteFault (λ f. cc) e.0
+      (script-outcome e.0 e.1) (e.2.cut_short refl)
 
 -- the mesh of a check that is done
 
-module _ (falling : (n : ℕ) (heights : List ℕ) (view : View) → IsFalling n (priority_of n heights view)) (read_texts : TextsAreRead) (words : List (List ℕ)) (files : List NamedFile)
-    (c : Checking) (grid : HeightField) (is : IsRunOf words files (Check c) grid) (before now : Told) (old new : Seen) where
+module _ (falling : (n : ℕ) (heights : List ℕ) (view : View) → IsFalling n (priority_of n heights view))
+    (read_texts : TextsAreRead) (words : List (List ℕ)) (files : List NamedFile)
+    (c : Checking) (grid : HeightField) (is : IsRunOf words files (Check c) grid)
+    (before now : Told) (old new : Seen) where
   -- the outcome of the words is that of the check
-  check-outcome : (end : Outcome) → IsOutcome words files end → IsCheckOutcome c grid (cert_in grid.n (bytes_of files c.certificate)) (bytes_of files c.mesh) end
+  check-outcome : (end : Outcome) → IsOutcome words files end →
+      IsCheckOutcome c grid (cert_in grid.n (bytes_of files c.certificate)) (bytes_of files c.mesh) end
   unfolding IsOutcome
   check-outcome end of =
       let P : Option Command → Type 0 = λ o. IsWordsOutcome o files end in
@@ -138,11 +160,13 @@ module _ (falling : (n : ℕ) (heights : List ℕ) (view : View) → IsFalling n
       → (line : List ℕ) × Grows before.report now.report line × IsCertifiedMesh c grid (bytes_of files c.mesh) line
   line-stands end stands certifies = (
     certifies.0,
-    λ all told. stands.report_grows all told ∙ ap (λ (l : List ℕ). Some (all ++ l)) (ap (λ (o : Outcome). report_of o.acts) certifies.2 ∙ append-nil certifies.0),
+    λ all told. stands.report_grows all told ∙ ap (λ (l : List ℕ). Some (all ++ l))
+        (ap (λ (o : Outcome). report_of o.acts) certifies.2 ∙ append-nil certifies.0),
     certifies.1,
   )
 
-  done-certified : (status : Status) → IsTrue (is_complete status) → EndsRight before now old new words files status → status ≢ NoMemory → status ≢ ReadFault → status ≡ Done
+  done-certified : (status : Status) → IsTrue (is_complete status) → EndsRight before now old new words files status →
+      status ≢ NoMemory → status ≢ ReadFault → status ≡ Done
       → (line : List ℕ) × Grows before.report now.report line × IsCertifiedMesh c grid (bytes_of files c.mesh) line
   done-certified status complete ends m r done =
       let e = ends.ends m r in

@@ -1,5 +1,7 @@
--- What making and checking a certificate come to: there is an outcome, of a check one alone, and a mesh that is certified is optimal.
-use Rattle.std.proofs.Common.{◌≡◌, ℕ, ◌≤◌, List, [], Result, Ok, Err, length, refl, sym, ◌∙◌, ap, subst, inl, inr, arith}
+-- What making and checking a certificate come to: there is an outcome, of a check one alone, and a mesh that is
+-- certified is optimal.
+use Rattle.std.proofs.Common.{◌≡◌, ℕ, ◌≤◌, List, [], Result, Ok, Err, length, refl, sym, ◌∙◌, ap, subst, inl, inr}
+use Rattle.std.proofs.Common.{arith}
 use Rattle.mesh_defs.specs.HeightField.{HeightField}
 use Rattle.mesh_defs.specs.ClosedSet.{among, leaves_of}
 use Rattle.mesh_defs.specs.Priority.{priority_of}
@@ -36,12 +38,15 @@ pub compared-text : (mesh text line : List ℕ) (end : Outcome) → IsCompared m
 compared-text mesh text line end (inl same) = (line, Done, 3, same.1)
 compared-text mesh text line end (inr differs) = (rejection (MeshDiffers differs.0), Rejected, 3, differs.2)
 
-verdict-text : (state : State) (cert : Certificate) (mesh : List ℕ) (is : Verdict) (end : Outcome) → IsVerdictOutcome state cert mesh is end → IsOneText end
-verdict-text state cert mesh (verdict.Certified triangles worst) end of = compared-text mesh (text_in state cert.leaves) (certified_line cert.camera triangles worst) end of
+verdict-text : (state : State) (cert : Certificate) (mesh : List ℕ) (is : Verdict) (end : Outcome) →
+    IsVerdictOutcome state cert mesh is end → IsOneText end
+verdict-text state cert mesh (verdict.Certified triangles worst) end of =
+    compared-text mesh (text_in state cert.leaves) (certified_line cert.camera triangles worst) end of
 verdict-text state cert mesh (verdict.Rejected why) end of = (rejection why, Rejected, 2, of)
 
 -- what a check comes to is one line
-pub check-text : (c : Checking) (grid : HeightField) (r : Result Certificate ℕ) (mesh : List ℕ) (end : Outcome) → IsCheckOutcome c grid r mesh end → IsOneText end
+pub check-text : (c : Checking) (grid : HeightField) (r : Result Certificate ℕ) (mesh : List ℕ) (end : Outcome) →
+    IsCheckOutcome c grid r mesh end → IsOneText end
 check-text c grid (Ok cert) mesh end is = verdict-text (checks_at c grid cert.camera) cert mesh is.0 end is.2
 check-text c grid (Err line) mesh end is = (rejection (BadLine line), Rejected, 2, is)
 
@@ -51,12 +56,14 @@ make-text m grid end is = (cert_text is.0, Done, 1, is.2)
 
 -- a check has one outcome
 
-pub compared-unique : (mesh text line : List ℕ) (end other : Outcome) → IsCompared mesh text line end → IsCompared mesh text line other → end ≡ other
+pub compared-unique : (mesh text line : List ℕ) (end other : Outcome) → IsCompared mesh text line end →
+    IsCompared mesh text line other → end ≡ other
 compared-unique mesh text line end other (inl f) (inl g) = f.1 ∙ sym g.1
 compared-unique mesh text line end other (inl f) (inr g) = absurd (difference-same mesh text g.0 g.1 f.0)
 compared-unique mesh text line end other (inr f) (inl g) = absurd (difference-same mesh text f.0 f.1 g.0)
 compared-unique mesh text line end other (inr f) (inr g) =
-    f.2 ∙ (ap (λ (at : ℕ). text_outcome (rejection (MeshDiffers at)) Rejected 3) (difference-unique mesh text f.0 g.0 f.1 g.1) ∙ sym g.2)
+    f.2 ∙ (ap (λ (at : ℕ). text_outcome (rejection (MeshDiffers at)) Rejected 3)
+    (difference-unique mesh text f.0 g.0 f.1 g.1) ∙ sym g.2)
 
 verdict-unique : (state : State) (cert : Certificate) (mesh : List ℕ) (is : Verdict) (end other : Outcome)
     → IsVerdictOutcome state cert mesh is end → IsVerdictOutcome state cert mesh is other → end ≡ other
@@ -81,11 +88,14 @@ compared-exists mesh text line = elim (same-or-different mesh text) [
   | inr one ↦ (text_outcome (rejection (MeshDiffers one.0)) Rejected 3, inr (one.0, one.1, refl))
 ]
 
-verdict-exists : (state : State) (cert : Certificate) (mesh : List ℕ) (is : Verdict) → (end : Outcome) × IsVerdictOutcome state cert mesh is end
-verdict-exists state cert mesh (verdict.Certified triangles worst) = compared-exists mesh (text_in state cert.leaves) (certified_line cert.camera triangles worst)
+verdict-exists : (state : State) (cert : Certificate) (mesh : List ℕ) (is : Verdict) →
+    (end : Outcome) × IsVerdictOutcome state cert mesh is end
+verdict-exists state cert mesh (verdict.Certified triangles worst) =
+    compared-exists mesh (text_in state cert.leaves) (certified_line cert.camera triangles worst)
 verdict-exists state cert mesh (verdict.Rejected why) = (text_outcome (rejection why) Rejected 2, refl)
 
-pub check-exists : (c : Checking) (grid : HeightField) (r : Result Certificate ℕ) (mesh : List ℕ) → (end : Outcome) × IsCheckOutcome c grid r mesh end
+pub check-exists : (c : Checking) (grid : HeightField) (r : Result Certificate ℕ) (mesh : List ℕ) →
+    (end : Outcome) × IsCheckOutcome c grid r mesh end
 check-exists c grid (Ok cert) mesh =
     let state : State = checks_at c grid cert.camera in
     let v = verdict_of grid.n c.budget (priority_in state) cert.leaves cert.reasons in
@@ -95,20 +105,25 @@ check-exists c grid (Err line) mesh = (text_outcome (rejection (BadLine line)) R
 
 -- a certificate can be made
 abbrev pub CertificatesExist : Type 0
-CertificatesExist = (m : Making) (grid : HeightField) → (1 ≤ grid.n) × (grid.n ≤ 11) → 2 ≤ m.budget → (cert : Certificate) × IsMade m grid cert
+CertificatesExist =
+    (m : Making) (grid : HeightField) → (1 ≤ grid.n) × (grid.n ≤ 11) → 2 ≤ m.budget →
+    (cert : Certificate) × IsMade m grid cert
 
-pub certificates-exist : ((n : ℕ) (heights : List ℕ) (view : View) → IsFalling n (priority_of n heights view)) → BudgetFramesAreBest → FramesExist → CertificatesExist
+pub certificates-exist : ((n : ℕ) (heights : List ℕ) (view : View) → IsFalling n (priority_of n heights view)) →
+    BudgetFramesAreBest → FramesExist → CertificatesExist
 certificates-exist falling best frames m grid range low =
     let state : State = makes_at m grid in
     let frame = frames state [] (no-members grid.n range) low in
     let leaves : List ℕ = leaves_of grid.n (among frame.0) in
     let is = best state frame.0 frame.1 frame.2 low frame.6 in
-    let of = sound_of grid.n m.budget (priority_in state) leaves (falling grid.n grid.heights state.view) (optimal-best grid.n m.budget (priority_in state) leaves is) in (
+    let of = sound_of grid.n m.budget (priority_in state) leaves (falling grid.n grid.heights state.view)
+    (optimal-best grid.n m.budget (priority_in state) leaves is) in (
       record { camera = m.camera; leaves = leaves; reasons = of.0 },
       record { camera = refl; best = is; sound = of.1; few = omega (arith, of.2, low) },
     )
 
-pub make-exists : CertificatesExist → (m : Making) (grid : HeightField) → (1 ≤ grid.n) × (grid.n ≤ 11) → 2 ≤ m.budget → (end : Outcome) × IsMakeOutcome m grid end
+pub make-exists : CertificatesExist → (m : Making) (grid : HeightField) → (1 ≤ grid.n) × (grid.n ≤ 11) → 2 ≤ m.budget →
+    (end : Outcome) × IsMakeOutcome m grid end
 make-exists made m grid range low =
     let cert = made m grid range low in
     (text_outcome (cert_text cert.0) Done 1, (cert.0, cert.1, refl))
@@ -120,21 +135,26 @@ module _ (c : Checking) (grid : HeightField) (cert : Certificate) (mesh : List �
   state = checks_at c grid cert.camera
 
   sound-verdict : (is : Verdict) (end : Outcome) → IsFaultless c grid cert → mesh ≡ text_in state cert.leaves
-      → IsVerdict grid.n c.budget (priority_in state) cert.leaves cert.reasons is → IsVerdictOutcome state cert mesh is end → end.status ≡ Done
+      → IsVerdict grid.n c.budget (priority_in state) cert.leaves cert.reasons is →
+      IsVerdictOutcome state cert mesh is end → end.status ≡ Done
   sound-verdict (verdict.Certified triangles worst) end sound same v (inl f) = ap (λ (o : Outcome). o.status) f.1
-  sound-verdict (verdict.Certified triangles worst) end sound same v (inr f) = absurd (difference-same mesh (text_in state cert.leaves) f.0 f.1 same)
+  sound-verdict (verdict.Certified triangles worst) end sound same v (inr f) =
+      absurd (difference-same mesh (text_in state cert.leaves) f.0 f.1 same)
   sound-verdict (verdict.Rejected why) end sound same v of =
-      absurd (differ (verdict_unique grid.n c.budget (priority_in state) cert.leaves cert.reasons (verdict.Rejected why) (verdict.Certified _ _) v (sound, refl, refl)))
+      absurd (differ (verdict_unique grid.n c.budget (priority_in state) cert.leaves cert.reasons (verdict.Rejected why)
+      (verdict.Certified _ _) v (sound, refl, refl)))
     where
       differ : {triangles worst : ℕ} → verdict.Rejected why ≡ verdict.Certified triangles worst → ⊥
       differ e = cc
 
-  pub check-done : (end : Outcome) → IsFaultless c grid cert → mesh ≡ text_in state cert.leaves → IsCheckOutcome c grid (Ok cert) mesh end → end.status ≡ Done
+  pub check-done : (end : Outcome) → IsFaultless c grid cert → mesh ≡ text_in state cert.leaves →
+      IsCheckOutcome c grid (Ok cert) mesh end → end.status ≡ Done
   check-done end sound same is = sound-verdict is.0 end sound same is.1 is.2
 
 -- the mesh of a check that is done
 
-pub not-done : (end : Outcome) (bytes : List ℕ) (files : ℕ) → end ≡ text_outcome bytes Rejected files → end.status ≡ Done → ⊥
+pub not-done : (end : Outcome) (bytes : List ℕ) (files : ℕ) →
+    end ≡ text_outcome bytes Rejected files → end.status ≡ Done → ⊥
 not-done end bytes files is done = differ (sym (ap (λ (o : Outcome). o.status) is) ∙ done)
   where
     differ : Rejected ≡ Done → ⊥
@@ -144,19 +164,24 @@ not-done end bytes files is done = differ (sym (ap (λ (o : Outcome). o.status) 
 abbrev pub Certifies : Checking → HeightField → List ℕ → Outcome → Type 0
 Certifies c grid mesh end = (line : List ℕ) × IsCertifiedMesh c grid mesh line × (end ≡ text_outcome line Done 3)
 
-module _ (falling : (n : ℕ) (heights : List ℕ) (view : View) → IsFalling n (priority_of n heights view)) (c : Checking) (grid : HeightField) (mesh : List ℕ) (end : Outcome)
+module _ (falling : (n : ℕ) (heights : List ℕ) (view : View) → IsFalling n (priority_of n heights view)) (c : Checking)
+    (grid : HeightField) (mesh : List ℕ) (end : Outcome)
     (done : end.status ≡ Done) where
-  compared-certifies : (cert : Certificate) (line : List ℕ) → IsCertifiedMesh c grid (text_in (checks_at c grid cert.camera) cert.leaves) line
+  compared-certifies : (cert : Certificate) (line : List ℕ) →
+      IsCertifiedMesh c grid (text_in (checks_at c grid cert.camera) cert.leaves) line
       → IsCompared mesh (text_in (checks_at c grid cert.camera) cert.leaves) line end → Certifies c grid mesh end
-  compared-certifies cert line certified (inl f) = (line, subst (λ (l : List ℕ). IsCertifiedMesh c grid l line) (sym f.0) certified, f.1)
+  compared-certifies cert line certified (inl f) =
+      (line, subst (λ (l : List ℕ). IsCertifiedMesh c grid l line) (sym f.0) certified, f.1)
   compared-certifies cert line certified (inr f) = absurd (not-done end (rejection (MeshDiffers f.0)) 3 f.2 done)
 
-  verdict-certifies : (cert : Certificate) (is : Verdict) → IsVerdict grid.n c.budget (priority_in (checks_at c grid cert.camera)) cert.leaves cert.reasons is
+  verdict-certifies : (cert : Certificate) (is : Verdict) →
+      IsVerdict grid.n c.budget (priority_in (checks_at c grid cert.camera)) cert.leaves cert.reasons is
       → IsVerdictOutcome (checks_at c grid cert.camera) cert mesh is end → Certifies c grid mesh end
   verdict-certifies cert (verdict.Certified triangles worst) v of =
       let state : State = checks_at c grid cert.camera in
       let best : IsOptimal grid.n c.budget (priority_in state) cert.leaves =
-      optimal-sound grid.n c.budget (priority_in state) cert.leaves cert.reasons (falling grid.n grid.heights state.view) v.0 in
+      optimal-sound grid.n c.budget (priority_in state) cert.leaves cert.reasons
+      (falling grid.n grid.heights state.view) v.0 in
       compared-certifies cert (certified_line cert.camera triangles worst)
       (record {
         camera = cert.camera;
@@ -165,7 +190,8 @@ module _ (falling : (n : ℕ) (heights : List ℕ) (view : View) → IsFalling n
         conforming = best.conforming;
         within = best.within;
         optimal = best.optimal;
-        told = ap (λ (k : ℕ). certified_line cert.camera k worst) v.1 ∙ ap (λ (k : ℕ). certified_line cert.camera (length cert.leaves) k) v.2;
+        told = ap (λ (k : ℕ). certified_line cert.camera k worst) v.1
+            ∙ ap (λ (k : ℕ). certified_line cert.camera (length cert.leaves) k) v.2;
       }) of
   verdict-certifies cert (verdict.Rejected why) v of = absurd (not-done end (rejection why) 2 of done)
 

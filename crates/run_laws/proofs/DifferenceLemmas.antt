@@ -1,5 +1,6 @@
 -- The first place at which two texts differ: there is one, unless they are the same, and one alone.
-use Rattle.std.proofs.Common.{◌≡◌, ℕ, zero, suc, ◌<◌, ◌⊎◌, List, [], ◌∷◌, take, Some, None, refl, ap, subst, inl, inr, arith}
+use Rattle.std.proofs.Common.{◌≡◌, ℕ, zero, suc, ◌<◌, ◌⊎◌, List, [], ◌∷◌, take, Some, None, refl, ap, subst, inl, inr}
+use Rattle.std.proofs.Common.{arith}
 use Rattle.std.specs.List.{slice_get}
 use Rattle.std.proofs.lemmas.Bool.Decides.{leb_tells, eqb_tells}
 use Rattle.run_laws.specs.Certify.{IsFirstDifference}
@@ -29,11 +30,13 @@ entry-take (suc k) (suc j) (x ∷ xs) (y ∷ ys) before same =
     entry-take k j xs ys (omega (arith, before)) (tails x y (take k xs) (take k ys) same)
 
 -- of two first differences none is the earlier one
-not-earlier : (these those : List ℕ) (at other : ℕ) → IsFirstDifference these those at → IsFirstDifference these those other → at < other → ⊥
+not-earlier : (these those : List ℕ) (at other : ℕ) → IsFirstDifference these those at →
+    IsFirstDifference these those other → at < other → ⊥
 not-earlier these those at other one two less = one.differ (entry-take other at these those less two.same)
 
 -- there is one alone
-pub difference-unique : (these those : List ℕ) (at other : ℕ) → IsFirstDifference these those at → IsFirstDifference these those other → at ≡ other
+pub difference-unique : (these those : List ℕ) (at other : ℕ) → IsFirstDifference these those at →
+    IsFirstDifference these those other → at ≡ other
 difference-unique these those at other one two = elim (leb_tells at other) [
   | inl low ↦ elim (leb_tells other at) [
     | inl high ↦ omega (arith, low.1, high.1)
@@ -47,7 +50,8 @@ pub difference-same : (these those : List ℕ) (at : ℕ) → IsFirstDifference 
 difference-same these those at one same = one.differ (ap (λ (l : List ℕ). slice_get l at) same)
 
 -- an entry that both have moves the place by one
-difference-behind : (x : ℕ) (xs ys : List ℕ) (at : ℕ) → IsFirstDifference xs ys at → IsFirstDifference (x ∷ xs) (x ∷ ys) (suc at)
+difference-behind : (x : ℕ) (xs ys : List ℕ) (at : ℕ) → IsFirstDifference xs ys at →
+    IsFirstDifference (x ∷ xs) (x ∷ ys) (suc at)
 difference-behind x xs ys at one = record { same = ap (λ (l : List ℕ). x ∷ l) one.same; differ = one.differ }
 
 -- two texts are the same, or there is one
@@ -69,6 +73,10 @@ same-or-different (x ∷ xs) (y ∷ ys) = elim (eqb_tells x y) [
     entry : Some x ≡ Some y → x ≡ y
     entry e = cc
 
-    both : x ≡ y → (xs ≡ ys) ⊎ ((at : ℕ) × IsFirstDifference xs ys at) → (x ∷ xs ≡ y ∷ ys) ⊎ ((at : ℕ) × IsFirstDifference (x ∷ xs) (y ∷ ys) at)
+    both : x ≡ y → (xs ≡ ys) ⊎ ((at : ℕ) × IsFirstDifference xs ys at) →
+        (x ∷ xs ≡ y ∷ ys) ⊎ ((at : ℕ) × IsFirstDifference (x ∷ xs) (y ∷ ys) at)
     both equal (inl same) = inl cc
-    both equal (inr one) = inr (suc one.0, subst (λ (k : ℕ). IsFirstDifference (x ∷ xs) (k ∷ ys) (suc one.0)) equal (difference-behind x xs ys one.0 one.1))
+    both equal (inr one) = inr (
+      suc one.0,
+      subst (λ (k : ℕ). IsFirstDifference (x ∷ xs) (k ∷ ys) (suc one.0)) equal (difference-behind x xs ys one.0 one.1),
+    )

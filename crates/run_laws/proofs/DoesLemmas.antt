@@ -1,5 +1,6 @@
 -- What calls do to the outside of a run, and one call after another.
-use Rattle.std.proofs.Common.{◌≡◌, ℕ, Bool, true, false, ◌||◌, nat_lt, IsTrue, List, [], ◌∷◌, ◌++◌, Option, Some, Result, Ok, Err, OnOk, OnErr, refl, sym, ◌∙◌, ap, subst, inl, inr, arith}
+use Rattle.std.proofs.Common.{◌≡◌, ℕ, Bool, true, false, ◌||◌, nat_lt, IsTrue, List, [], ◌∷◌, ◌++◌, Option, Some}
+use Rattle.std.proofs.Common.{Result, Ok, Err, OnOk, OnErr, refl, sym, ◌∙◌, ap, subst, inl, inr, arith}
 use Rattle.roam_edge.specs.Fault.{HasCause, Rose, IsInTime, late_after}
 use Rattle.roam_edge.specs.MeshSink.{WrittenMesh}
 use Rattle.roam_edge.specs.Sink.{Appends}
@@ -11,7 +12,8 @@ use Rattle.run_laws.specs.Cause.{NoFault, WriteFaults, WritesHaveCause}
 use Rattle.run_laws.specs.Promise.{is_complete}
 use Rattle.run_laws.specs.Moment.{Moment, OnlyWrites, Does}
 use Rattle.run_laws.specs.Leaving.{EndsWith}
-use Rattle.run_laws.proofs.ActLemmas.{grows-nothing, stands-append, cut-append, cut-longer, cut-mesh, cut-only-line, stands-text}
+use Rattle.run_laws.proofs.ActLemmas.{grows-nothing, stands-append, cut-append, cut-longer, cut-mesh, cut-only-line}
+use Rattle.run_laws.proofs.ActLemmas.{stands-text}
 use Rattle.run_laws.proofs.GridLemmas.{not-complete}
 
 -- a call of an object that had not failed comes in time
@@ -45,7 +47,8 @@ does-text before now text (Ok value) shelf meshes faults under_way late bytes ca
   };
   done = record {
     meshes_grow = λ all is. meshes ∙ grows-nothing before.sinks.meshes all is;
-    report_grows = (stands-text {k = 0} before.sinks.meshes before.sinks.report now.sinks.report text bytes.ok cause.ok).report_grows;
+    report_grows = (stands-text {k =
+        0} before.sinks.meshes before.sinks.report now.sinks.report text bytes.ok cause.ok).report_grows;
     mesh_same = faults;
     report_same = cause.ok;
   };
@@ -57,7 +60,10 @@ does-text before now text (Err error) shelf meshes faults under_way late bytes c
     shelf_faults = shelf.faults;
     shelf_late = shelf.late;
     idle = tt;
-    faults = record { ok = tt; err = record { meshes_later = omega (arith, faults); report_later = cause.later; cause = inr cause.failed } };
+    faults = record {
+      ok = tt;
+      err = record { meshes_later = omega (arith, faults); report_later = cause.later; cause = inr cause.failed };
+    };
     meshes_in_time = λ not_late none. late ∙ not_late;
     report_in_time = in_time;
   };
@@ -72,9 +78,11 @@ does-text before now text (Err error) shelf meshes faults under_way late bytes c
 }
 
 -- a mesh was written, or a part of it
-pub does-mesh : {T E : Type 0} (before now : Moment) (prefix : List ℕ) (number : ℕ) (bytes : List ℕ) (answer : Result T E)
+pub does-mesh : {T E : Type 0} (before now : Moment) (prefix : List ℕ) (number : ℕ)
+    (bytes : List ℕ) (answer : Result T E)
     → SameShelf before now → before.under_way ≡ false
-    → now.sinks.report ≡ before.sinks.report → now.sinks.report_faults ≡ before.sinks.report_faults → now.report_late ≡ before.report_late
+    → now.sinks.report ≡ before.sinks.report → now.sinks.report_faults ≡ before.sinks.report_faults →
+    now.report_late ≡ before.report_late
     → OnOk answer (Grows before.sinks.meshes now.sinks.meshes (mesh_with prefix number bytes true ∷ []))
     → OnOk answer (now.under_way ≡ false)
     → OnErr answer ((all : List WrittenMesh) → before.sinks.meshes ≡ Some all
@@ -82,51 +90,58 @@ pub does-mesh : {T E : Type 0} (before now : Moment) (prefix : List ℕ) (number
     → HasCause before.sinks.mesh_faults now.sinks.mesh_faults answer
     → IsInTime before.mesh_late before.sinks.mesh_faults now.mesh_late
     → Does before now (WholeMesh prefix number bytes ∷ []) answer
-does-mesh before now prefix number bytes (Ok value) shelf idle report faults late grown idle_now part cause in_time = record {
-  only = record {
-    shelf = shelf.shelf;
-    shelf_faults = shelf.faults;
-    shelf_late = shelf.late;
-    idle = idle_now ∙ sym idle;
-    faults = record { ok = record { meshes_same = cause.ok; report_same = faults }; err = tt };
-    meshes_in_time = in_time;
-    report_in_time = λ not_late none. late ∙ not_late;
-  };
-  done = record {
-    meshes_grow = grown;
-    report_grows = λ all is. report ∙ grows-nothing before.sinks.report all is;
-    mesh_same = cause.ok;
-    report_same = faults;
-  };
-  cut_short = tt;
-}
-does-mesh before now prefix number bytes (Err error) shelf idle report faults late grown idle_now part cause in_time = record {
-  only = record {
-    shelf = shelf.shelf;
-    shelf_faults = shelf.faults;
-    shelf_late = shelf.late;
-    idle = tt;
-    faults = record { ok = tt; err = record { meshes_later = cause.later; report_later = omega (arith, faults); cause = inl cause.failed } };
-    meshes_in_time = in_time;
-    report_in_time = λ not_late none. late ∙ not_late;
-  };
-  done = tt;
-  cut_short = record {
-    done = [];
-    next = WholeMesh prefix number bytes;
-    owed = [];
-    in_order = refl;
-    standing = (part, (λ all is. report ∙ grows-nothing before.sinks.report all is), cause.failed, faults);
-  };
-}
+does-mesh before now prefix number bytes (Ok value) shelf idle report faults late grown idle_now part cause in_time =
+    record {
+      only = record {
+        shelf = shelf.shelf;
+        shelf_faults = shelf.faults;
+        shelf_late = shelf.late;
+        idle = idle_now ∙ sym idle;
+        faults = record { ok = record { meshes_same = cause.ok; report_same = faults }; err = tt };
+        meshes_in_time = in_time;
+        report_in_time = λ not_late none. late ∙ not_late;
+      };
+      done = record {
+        meshes_grow = grown;
+        report_grows = λ all is. report ∙ grows-nothing before.sinks.report all is;
+        mesh_same = cause.ok;
+        report_same = faults;
+      };
+      cut_short = tt;
+    }
+does-mesh before now prefix number bytes (Err error) shelf idle report faults late grown idle_now part cause in_time =
+    record {
+      only = record {
+        shelf = shelf.shelf;
+        shelf_faults = shelf.faults;
+        shelf_late = shelf.late;
+        idle = tt;
+        faults = record {
+          ok = tt;
+          err = record { meshes_later = cause.later; report_later = omega (arith, faults); cause = inl cause.failed };
+        };
+        meshes_in_time = in_time;
+        report_in_time = λ not_late none. late ∙ not_late;
+      };
+      done = tt;
+      cut_short = record {
+        done = [];
+        next = WholeMesh prefix number bytes;
+        owed = [];
+        in_order = refl;
+        standing = (part, (λ all is. report ∙ grows-nothing before.sinks.report all is), cause.failed, faults);
+      };
+    }
 
 -- faults of one call behind another that did not fail
-causes-then : {U G : Type 0} (before middle now : Told) (answer : Result U G) → NoFault before.mesh_faults middle.mesh_faults before.report_faults middle.report_faults
+causes-then : {U G : Type 0} (before middle now : Told) (answer : Result U G) →
+    NoFault before.mesh_faults middle.mesh_faults before.report_faults middle.report_faults
     → WritesHaveCause middle.mesh_faults now.mesh_faults middle.report_faults now.report_faults answer
     → WritesHaveCause before.mesh_faults now.mesh_faults before.report_faults now.report_faults answer
 causes-then before middle now answer none cause =
     subst (λ (k : ℕ). WritesHaveCause k now.mesh_faults before.report_faults now.report_faults answer) none.meshes_same
-    (subst (λ (k : ℕ). WritesHaveCause middle.mesh_faults now.mesh_faults k now.report_faults answer) none.report_same cause)
+    (subst (λ (k : ℕ). WritesHaveCause middle.mesh_faults now.mesh_faults k now.report_faults answer)
+    none.report_same cause)
 
 -- only the sinks were called, and then only they were again
 pub only-then : {T E U G : Type 0} (before middle now : Moment) (one : T) (answer : Result U G)
@@ -137,8 +152,10 @@ only-then before middle now one answer did does = record {
   shelf_late = does.shelf_late ∙ did.shelf_late;
   idle = on-ok answer (λ same. same ∙ did.idle) does.idle;
   faults = causes-then before.sinks middle.sinks now.sinks answer did.faults.ok does.faults;
-  meshes_in_time = λ not_late none. does.meshes_in_time (did.meshes_in_time not_late none) (did.faults.ok.meshes_same ∙ none);
-  report_in_time = λ not_late none. does.report_in_time (did.report_in_time not_late none) (did.faults.ok.report_same ∙ none);
+  meshes_in_time =
+      λ not_late none. does.meshes_in_time (did.meshes_in_time not_late none) (did.faults.ok.meshes_same ∙ none);
+  report_in_time =
+      λ not_late none. does.report_in_time (did.report_in_time not_late none) (did.faults.ok.report_same ∙ none);
 }
   where
     on-ok : {U G P Q : Type 0} (answer : Result U G) → (P → Q) → OnOk answer P → OnOk answer Q
@@ -146,8 +163,10 @@ only-then before middle now one answer did does = record {
     on-ok (Err error) give one = tt
 
 -- acts were done, and then others, or a part of them
-pub does-then : {T E U G : Type 0} (before middle now : Moment) (first second : List Act) (one : T) (answer : Result U G)
-    → Does {T = T} {E = E} before middle first (Ok one) → Does middle now second answer → Does before now (first ++ second) answer
+pub does-then : {T E U G : Type 0} (before middle now : Moment) (first second : List Act)
+    (one : T) (answer : Result U G)
+    → Does {T = T} {E = E} before middle first (Ok one) → Does middle now second answer →
+    Does before now (first ++ second) answer
 does-then before middle now first second one (Ok value) did does = record {
   only = only-then before middle now one (Ok value) did.only does.only;
   done = stands-append before.sinks middle.sinks now.sinks first second did.done does.done;
@@ -182,16 +201,23 @@ pub does-same : {T E : Type 0} (before now : Moment) (acts other : List Act) (an
 does-same before now acts other answer same does = subst (λ (l : List Act). Does before now l answer) same does
 
 -- the last acts of a run were done
-pub ends-done : {T E : Type 0} (before now : Moment) (acts : List Act) (meant : Status) (one : T) → IsTrue (is_complete meant)
+pub ends-done : {T E : Type 0} (before now : Moment) (acts : List Act) (meant : Status) (one : T) →
+    IsTrue (is_complete meant)
     → Does {T = T} {E = E} before now acts (Ok one) → EndsWith before now acts meant meant
 ends-done before now acts meant one complete did = record {
   shelf = did.only.shelf;
   shelf_faults = did.only.shelf_faults;
   shelf_late = did.only.shelf_late;
   ends = inl refl;
-  does = λ files. record { complete = λ e. (did.done, refl); cut_short = λ e. absurd (not-complete meant WriteFault refl complete e) };
+  does = λ files. record {
+    complete = λ e. (did.done, refl);
+    cut_short = λ e. absurd (not-complete meant WriteFault refl complete e);
+  };
   idle = λ not. did.only.idle;
-  writes = record { write = λ e. absurd (not-complete meant WriteFault refl complete e); not_write = λ not. did.only.faults.ok };
+  writes = record {
+    write = λ e. absurd (not-complete meant WriteFault refl complete e);
+    not_write = λ not. did.only.faults.ok;
+  };
   meshes_in_time = did.only.meshes_in_time;
   report_in_time = did.only.report_in_time;
 }

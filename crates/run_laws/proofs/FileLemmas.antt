@@ -1,5 +1,6 @@
 -- A file that is read from a shelf, piece by piece: what was read of it, and what is unread, also where a read fails.
-use Rattle.std.proofs.Common.{◌≡◌, ℕ, ◌≤◌, Bool, true, false, List, [], ◌++◌, length, take, drop, Option, Some, None, is_some, refl, sym, ◌∙◌, ap, append_assoc, append-nil}
+use Rattle.std.proofs.Common.{◌≡◌, ℕ, ◌≤◌, Bool, true, false, List, [], ◌++◌, length, take, drop, Option, Some, None}
+use Rattle.std.proofs.Common.{is_some, refl, sym, ◌∙◌, ap, append_assoc, append-nil}
 use Rattle.std.proofs.Math.Seq.{take-append_seam}
 use Rattle.std.proofs.lemmas.List.{take-append-drop, length-take-le}
 use Rattle.roam_edge.specs.Shelf.{NamedFile, bytes_of}
@@ -19,7 +20,8 @@ read-nothing files rest name chosen all is = (bytes_of all name, chosen all is, 
 
 -- a read puts the first unread bytes in front of the buffer
 pub piece-read : (rest : Option (List ℕ)) (count : ℕ) (new old : List ℕ)
-    → ((unread : List ℕ) → rest ≡ Some unread → count ≤ length unread) → ((unread : List ℕ) → rest ≡ Some unread → new ≡ take count unread ++ drop count old)
+    → ((unread : List ℕ) → rest ≡ Some unread → count ≤ length unread) →
+    ((unread : List ℕ) → rest ≡ Some unread → new ≡ take count unread ++ drop count old)
     → (unread : List ℕ) → rest ≡ Some unread → take count new ≡ take count unread
 piece-read rest count new old within gives unread is =
     ap (take count) (gives unread is)
@@ -27,25 +29,35 @@ piece-read rest count new old within gives unread is =
     ∙ take-append_seam (take count unread) (drop count old)
 
 -- the file is what was read, and then this piece and what is left behind it
-pub file-split : (file bytes piece unread : List ℕ) (count : ℕ) → file ≡ bytes ++ unread → piece ≡ take count unread → file ≡ bytes ++ (piece ++ drop count unread)
+pub file-split : (file bytes piece unread : List ℕ) (count : ℕ) → file ≡ bytes ++ unread → piece ≡ take count unread →
+    file ≡ bytes ++ (piece ++ drop count unread)
 file-split file bytes piece unread count cut gives =
     cut ∙ ap (λ m. bytes ++ m) (sym (take-append-drop count unread) ∙ ap (λ m. m ++ drop count unread) (sym gives))
 
 -- the same, with the piece among what was read
-pub file-cut : (file bytes piece unread : List ℕ) (count : ℕ) → file ≡ bytes ++ unread → piece ≡ take count unread → file ≡ (bytes ++ piece) ++ drop count unread
-file-cut file bytes piece unread count cut gives = file-split file bytes piece unread count cut gives ∙ sym (append_assoc bytes piece (drop count unread))
+pub file-cut : (file bytes piece unread : List ℕ) (count : ℕ) → file ≡ bytes ++ unread → piece ≡ take count unread →
+    file ≡ (bytes ++ piece) ++ drop count unread
+file-cut file bytes piece unread count cut gives =
+    file-split file bytes piece unread count cut gives ∙ sym (append_assoc bytes piece (drop count unread))
 
 -- a piece more was read
-pub read-more : (files : Option (List NamedFile)) (rest rest' : Option (List ℕ)) (name bytes piece : List ℕ) (count : ℕ) → IsOfFile files rest name bytes
-    → ((unread : List ℕ) → rest ≡ Some unread → rest' ≡ Some (drop count unread)) → ((unread : List ℕ) → rest ≡ Some unread → piece ≡ take count unread)
+pub read-more : (files : Option (List NamedFile)) (rest rest' : Option (List ℕ)) (name bytes piece : List ℕ)
+    (count : ℕ) → IsOfFile files rest name bytes
+    → ((unread : List ℕ) → rest ≡ Some unread → rest' ≡ Some (drop count unread)) →
+    ((unread : List ℕ) → rest ≡ Some unread → piece ≡ take count unread)
     → IsOfFile files rest' name (bytes ++ piece)
 read-more files rest rest' name bytes piece count has takes gives all is =
-    let here = has all is in
-    (drop count here.0, takes here.0 here.1, file-cut (bytes_of all name) bytes piece here.0 count here.2 (gives here.0 here.1))
+    let here = has all is in (
+      drop count here.0,
+      takes here.0 here.1,
+      file-cut (bytes_of all name) bytes piece here.0 count here.2 (gives here.0 here.1),
+    )
 
 -- a file of which nothing is unread is what was read
-pub read-all : (files : Option (List NamedFile)) (rest : Option (List ℕ)) (name bytes : List ℕ) → IsOfFile files rest name bytes
-    → ((unread : List ℕ) → rest ≡ Some unread → unread ≡ []) → (all : List NamedFile) → files ≡ Some all → bytes_of all name ≡ bytes
+pub read-all : (files : Option (List NamedFile)) (rest : Option (List ℕ)) (name bytes : List ℕ) →
+    IsOfFile files rest name bytes
+    → ((unread : List ℕ) → rest ≡ Some unread → unread ≡ []) → (all : List NamedFile) → files ≡ Some all →
+    bytes_of all name ≡ bytes
 read-all files rest name bytes has nothing all is =
     let here = has all is in
     here.2 ∙ (ap (λ m. bytes ++ m) (nothing here.0 here.1) ∙ append-nil bytes)
@@ -62,18 +74,22 @@ not_at_end ended open_file at_end = no (sym open_file ∙ at_end)
     no e = cc
 
 -- a read that gives no byte leaves nothing
-pub read-end : (rest rest' : Option (List ℕ)) (count : ℕ) → count ≡ 0 → ((unread : List ℕ) → rest ≡ Some unread → rest' ≡ Some (drop count unread))
+pub read-end : (rest rest' : Option (List ℕ)) (count : ℕ) → count ≡ 0 →
+    ((unread : List ℕ) → rest ≡ Some unread → rest' ≡ Some (drop count unread))
     → ((unread : List ℕ) → rest ≡ Some unread → unread ≡ []) → (unread : List ℕ) → rest ≡ Some unread → rest' ≡ Some []
-read-end rest rest' count none takes empty unread is = takes unread is ∙ ap (λ k. Some (drop k unread)) none ∙ ap Some (empty unread is)
+read-end rest rest' count none takes empty unread is =
+    takes unread is ∙ ap (λ k. Some (drop k unread)) none ∙ ap Some (empty unread is)
 
 -- where nothing is left of what was told, nothing that is told is unread
-nothing-told : (rest rest' : Option (List ℕ)) → StaysTold rest rest' → ((unread : List ℕ) → rest ≡ Some unread → rest' ≡ Some [])
+nothing-told : (rest rest' : Option (List ℕ)) → StaysTold rest rest' →
+    ((unread : List ℕ) → rest ≡ Some unread → rest' ≡ Some [])
     → (unread : List ℕ) → rest' ≡ Some unread → unread ≡ []
 nothing-told None rest' stays left unread is = absurd (let f : true ≡ false = sym (ap is_some is) ∙ stays in cc)
 nothing-told (Some bytes) rest' stays left unread is = same-unread unread [] (sym is ∙ left bytes refl)
 
 -- the end of a file was read
-pub has-ended : (files : Option (List NamedFile)) (rest rest' : Option (List ℕ)) (opens : ℕ) (ended : Bool) → ended ≡ true → StaysTold rest rest'
+pub has-ended : (files : Option (List NamedFile)) (rest rest' : Option (List ℕ)) (opens : ℕ) (ended : Bool) →
+    ended ≡ true → StaysTold rest rest'
     → ((all : List NamedFile) → files ≡ Some all → (unread : List ℕ) × (rest ≡ Some unread))
     → ((unread : List ℕ) → rest ≡ Some unread → rest' ≡ Some []) → HasEnded (seen files rest' opens ended)
 has-ended files rest rest' opens ended at_end stays told left = record {
@@ -83,7 +99,8 @@ has-ended files rest rest' opens ended at_end stays told left = record {
 }
 
 -- nothing was read of a file that could not be opened
-pub stops-unopened : (holds : List ℕ → Type 0) (file : List ℕ) (rest : Option (List ℕ)) (ended : Bool) → ended ≡ true → holds [] → StopsReading holds file rest ended
+pub stops-unopened : (holds : List ℕ → Type 0) (file : List ℕ) (rest : Option (List ℕ)) (ended : Bool) → ended ≡ true →
+    holds [] → StopsReading holds file rest ended
 stops-unopened holds file rest ended at_end has_read = record {
   read = [];
   unread = file;
@@ -94,7 +111,8 @@ stops-unopened holds file rest ended at_end has_read = record {
 }
 
 -- a read failed of a file of which these bytes were read before
-pub stops-behind : (holds : List ℕ → Type 0) (files : Option (List NamedFile)) (rest rest' : Option (List ℕ)) (ended : Bool) (name bytes : List ℕ)
+pub stops-behind : (holds : List ℕ → Type 0) (files : Option (List NamedFile)) (rest rest' : Option (List ℕ))
+    (ended : Bool) (name bytes : List ℕ)
     → IsOfFile files rest name bytes → rest' ≡ rest → ended ≡ false → holds bytes
     → (all : List NamedFile) → files ≡ Some all → StopsReading holds (bytes_of all name) rest' ended
 stops-behind holds files rest rest' ended name bytes in_file kept open_file has_read all told =

@@ -1,6 +1,7 @@
--- What making and checking a certificate of a fitted mesh come to: there is an outcome, of a check one alone, and a mesh that is
--- certified is a best one.
-use Rattle.std.proofs.Common.{◌≡◌, ◌≢◌, ℕ, List, ◌++◌, Option, Some, Result, Ok, Err, IsTrue, refl, sym, ◌∙◌, ap, ap₂, subst, inl, inr, append-nil}
+-- What making and checking a certificate of a fitted mesh come to: there is an outcome, of a check one alone, and a
+-- mesh that is certified is a best one.
+use Rattle.std.proofs.Common.{◌≡◌, ◌≢◌, ℕ, List, ◌++◌, Option, Some, Result, Ok, Err, IsTrue, refl, sym, ◌∙◌, ap, ap₂}
+use Rattle.std.proofs.Common.{subst, inl, inr, append-nil}
 use Rattle.mesh_defs.specs.HeightField.{HeightField}
 use Rattle.roam_edge.specs.Shelf.{NamedFile, bytes_of}
 use Rattle.pgm_grid.specs.declared.fault.PgmFault.{PgmFault}
@@ -24,7 +25,8 @@ use Rattle.run_laws.specs.Certify.{IsFitFaultless}
 use Rattle.run_laws.specs.Fit.{goal_of, IsFitFor, fit_text}
 use Rattle.run_laws.specs.Act.{Told, Stands, report_of}
 use Rattle.run_laws.specs.ReportText.{certified_fit_line, fit_rejection, rejection}
-use Rattle.run_laws.specs.Outcome.{Outcome, text_outcome, IsFitMakeOutcome, IsCompared, IsFitVerdictOutcome, IsFitCheckOutcome, IsGridOutcome, IsWordsOutcome, IsOutcome}
+use Rattle.run_laws.specs.Outcome.{Outcome, text_outcome, IsFitMakeOutcome, IsCompared, IsFitVerdictOutcome}
+use Rattle.run_laws.specs.Outcome.{IsFitCheckOutcome, IsGridOutcome, IsWordsOutcome, IsOutcome}
 use Rattle.run_laws.specs.Promise.{Seen, is_complete, EndsRight}
 use Rattle.run_laws.specs.Headline.{IsRunOf, IsCertifiedFit}
 use Rattle.run_laws.proofs.DifferenceLemmas.{difference-same}
@@ -40,7 +42,8 @@ verdict-text c grid triangles mesh (verdict.Certified count deviation) end of =
 verdict-text c grid triangles mesh (verdict.Rejected why) end of = (fit_rejection why, Rejected, 2, of)
 
 -- what a check comes to is one line
-pub fit_check-text : (c : FitChecking) (grid : HeightField) (r : Result FitCertificate ℕ) (mesh : List ℕ) (end : Outcome)
+pub fit_check-text : (c : FitChecking) (grid : HeightField) (r : Result FitCertificate ℕ)
+    (mesh : List ℕ) (end : Outcome)
     → IsFitCheckOutcome c grid r mesh end → IsOneText end
 fit_check-text c grid (Ok cert) mesh end is = verdict-text c grid is.1 mesh is.0 end is.3
 fit_check-text c grid (Err line) mesh end is = (rejection (BadLine line), Rejected, 2, is)
@@ -51,8 +54,10 @@ fit_make-text m grid end is = (fit_cert_text is.0, Done, 1, is.2)
 
 -- a check has one outcome
 
-verdict-unique : (c : FitChecking) (grid : HeightField) (cert : FitCertificate) (triangles others mesh : List ℕ) (is : Verdict) (end other : Outcome)
-    → IsVerdictOf grid.n grid.heights (goal_of grid.n c.target) cert is triangles → IsVerdictOf grid.n grid.heights (goal_of grid.n c.target) cert is others
+verdict-unique : (c : FitChecking) (grid : HeightField) (cert : FitCertificate) (triangles others mesh : List ℕ)
+    (is : Verdict) (end other : Outcome)
+    → IsVerdictOf grid.n grid.heights (goal_of grid.n c.target) cert is triangles →
+    IsVerdictOf grid.n grid.heights (goal_of grid.n c.target) cert is others
     → IsFitVerdictOutcome c grid triangles mesh is end → IsFitVerdictOutcome c grid others mesh is other → end ≡ other
 verdict-unique c grid cert triangles others mesh (verdict.Certified count deviation) end other v w f g =
     let same = mesh_one grid.n grid.heights (goal_of grid.n c.target) cert others triangles w.0 v.0 in
@@ -61,11 +66,13 @@ verdict-unique c grid cert triangles others mesh (verdict.Certified count deviat
     (subst (λ (l : List ℕ). IsCompared mesh (fit_text c.spacing grid l) line other) same g)
 verdict-unique c grid cert triangles others mesh (verdict.Rejected why) end other v w f g = f ∙ sym g
 
-pub fit_check-unique : (c : FitChecking) (grid : HeightField) (r : Result FitCertificate ℕ) (mesh : List ℕ) (end other : Outcome)
+pub fit_check-unique : (c : FitChecking) (grid : HeightField) (r : Result FitCertificate ℕ)
+    (mesh : List ℕ) (end other : Outcome)
     → IsFitCheckOutcome c grid r mesh end → IsFitCheckOutcome c grid r mesh other → end ≡ other
 fit_check-unique c grid (Ok cert) mesh end other f g =
     let goal : Goal = goal_of grid.n c.target in
-    let P : Verdict → Type 0 = λ v. IsVerdictOf grid.n grid.heights goal cert v g.1 × IsFitVerdictOutcome c grid g.1 mesh v other in
+    let P : Verdict → Type 0 =
+    λ v. IsVerdictOf grid.n grid.heights goal cert v g.1 × IsFitVerdictOutcome c grid g.1 mesh v other in
     let same = verdict_one grid.n grid.heights goal cert g.0 f.0 (verdict-is grid.n grid.heights goal cert g.0 g.1 g.2)
     (verdict-is grid.n grid.heights goal cert f.0 f.1 f.2) in
     let as_that = subst P same (g.2, g.3) in
@@ -74,12 +81,14 @@ fit_check-unique c grid (Err line) mesh end other f g = f ∙ sym g
 
 -- and it has one
 
-verdict-exists : (c : FitChecking) (grid : HeightField) (triangles mesh : List ℕ) (is : Verdict) → (end : Outcome) × IsFitVerdictOutcome c grid triangles mesh is end
+verdict-exists : (c : FitChecking) (grid : HeightField) (triangles mesh : List ℕ) (is : Verdict) →
+    (end : Outcome) × IsFitVerdictOutcome c grid triangles mesh is end
 verdict-exists c grid triangles mesh (verdict.Certified count deviation) =
     compared-exists mesh (fit_text c.spacing grid triangles) (certified_fit_line grid.n count deviation)
 verdict-exists c grid triangles mesh (verdict.Rejected why) = (text_outcome (fit_rejection why) Rejected 2, refl)
 
-pub fit_check-exists : (c : FitChecking) (grid : HeightField) (r : Result FitCertificate ℕ) (mesh : List ℕ) → (end : Outcome) × IsFitCheckOutcome c grid r mesh end
+pub fit_check-exists : (c : FitChecking) (grid : HeightField) (r : Result FitCertificate ℕ) (mesh : List ℕ) →
+    (end : Outcome) × IsFitCheckOutcome c grid r mesh end
 fit_check-exists c grid (Ok cert) mesh =
     let v = verdict_found grid.n grid.heights (goal_of grid.n c.target) cert in
     let e = verdict-exists c grid v.1 mesh v.0 in
@@ -92,7 +101,8 @@ possible : (n : ℕ) (target : Target) → TakesTwo target → IsPossible (goal_
 possible n (AtError thousandths) two = tt
 possible n (InBudget budget) two = two
 
-pub fit_make-exists : (m : FitMaking) (grid : HeightField) → TakesTwo m.target → (end : Outcome) × IsFitMakeOutcome m grid end
+pub fit_make-exists : (m : FitMaking) (grid : HeightField) → TakesTwo m.target →
+    (end : Outcome) × IsFitMakeOutcome m grid end
 fit_make-exists m grid two =
     let found = sound_found grid.n grid.heights (goal_of grid.n m.target) (possible grid.n m.target two) in
     (text_outcome (fit_cert_text found.0) Done 1, (found.0, (found.1, found.2), refl))
@@ -103,14 +113,18 @@ module _ (c : FitChecking) (grid : HeightField) (cert : FitCertificate) (triangl
   abbrev goal : Goal
   goal = goal_of grid.n c.target
 
-  sound-verdict : (is : Verdict) (others : List ℕ) (end : Outcome) → IsFitFaultless c grid cert triangles → mesh ≡ fit_text c.spacing grid triangles
-      → IsVerdictOf grid.n grid.heights goal cert is others → IsFitVerdictOutcome c grid others mesh is end → end.status ≡ Done
+  sound-verdict : (is : Verdict) (others : List ℕ) (end : Outcome) → IsFitFaultless c grid cert triangles →
+      mesh ≡ fit_text c.spacing grid triangles
+      → IsVerdictOf grid.n grid.heights goal cert is others →
+      IsFitVerdictOutcome c grid others mesh is end → end.status ≡ Done
   sound-verdict (verdict.Certified count deviation) others end sound same v (inl f) = ap (λ (o : Outcome). o.status) f.1
   sound-verdict (verdict.Certified count deviation) others end sound same v (inr f) =
       let one = mesh_one grid.n grid.heights goal cert triangles others sound v.0 in
-      absurd (difference-same mesh (fit_text c.spacing grid others) f.0 f.1 (same ∙ ap (λ (l : List ℕ). fit_text c.spacing grid l) one))
+      absurd (difference-same mesh (fit_text c.spacing grid others) f.0 f.1
+      (same ∙ ap (λ (l : List ℕ). fit_text c.spacing grid l) one))
   sound-verdict (verdict.Rejected why) others end sound same v of =
-      absurd (differ (verdict_one grid.n grid.heights goal cert (verdict.Rejected why) (verdict.Certified _ _) v (triangles, sound, refl, refl)))
+      absurd (differ (verdict_one grid.n grid.heights goal cert (verdict.Rejected why) (verdict.Certified _ _) v
+      (triangles, sound, refl, refl)))
     where
       differ : {count deviation : ℕ} → verdict.Rejected why ≡ verdict.Certified count deviation → ⊥
       differ e = cc
@@ -134,10 +148,12 @@ Certifies c grid mesh end = (line : List ℕ) × IsCertifiedFit c grid mesh line
 module _ (c : FitChecking) (grid : HeightField) (mesh : List ℕ) (end : Outcome) (done : end.status ≡ Done) where
   compared-certifies : (triangles line : List ℕ) → IsCertifiedFit c grid (fit_text c.spacing grid triangles) line
       → IsCompared mesh (fit_text c.spacing grid triangles) line end → Certifies c grid mesh end
-  compared-certifies triangles line certified (inl f) = (line, subst (λ (l : List ℕ). IsCertifiedFit c grid l line) (sym f.0) certified, f.1)
+  compared-certifies triangles line certified (inl f) =
+      (line, subst (λ (l : List ℕ). IsCertifiedFit c grid l line) (sym f.0) certified, f.1)
   compared-certifies triangles line certified (inr f) = absurd (not-done end (rejection (MeshDiffers f.0)) 3 f.2 done)
 
-  verdict-certifies : (cert : FitCertificate) (triangles : List ℕ) (is : Verdict) → IsVerdictOf grid.n grid.heights (goal_of grid.n c.target) cert is triangles
+  verdict-certifies : (cert : FitCertificate) (triangles : List ℕ) (is : Verdict) →
+      IsVerdictOf grid.n grid.heights (goal_of grid.n c.target) cert is triangles
       → IsFitVerdictOutcome c grid triangles mesh is end → Certifies c grid mesh end
   verdict-certifies cert triangles (verdict.Certified count deviation) v of =
       let fit : IsFitFor c.target grid triangles = sound-fits c.target grid cert triangles v.0 in
@@ -151,16 +167,19 @@ module _ (c : FitChecking) (grid : HeightField) (mesh : List ℕ) (end : Outcome
       }) of
   verdict-certifies cert triangles (verdict.Rejected why) v of = absurd (not-done end (fit_rejection why) 2 of done)
 
-  pub fit_check-certifies : (r : Result FitCertificate ℕ) → IsFitCheckOutcome c grid r mesh end → Certifies c grid mesh end
+  pub fit_check-certifies : (r : Result FitCertificate ℕ) → IsFitCheckOutcome c grid r mesh end →
+      Certifies c grid mesh end
   fit_check-certifies (Ok cert) is = verdict-certifies cert is.1 is.0 is.2 is.3
   fit_check-certifies (Err line) is = absurd (not-done end (rejection (BadLine line)) 2 is done)
 
 -- where it is done, the report got its line
 
-module _ (read_texts : TextsAreRead) (words : List (List ℕ)) (files : List NamedFile) (c : FitChecking) (grid : HeightField) (is : IsRunOf words files (CheckFit c) grid)
+module _ (read_texts : TextsAreRead) (words : List (List ℕ)) (files : List NamedFile) (c : FitChecking)
+    (grid : HeightField) (is : IsRunOf words files (CheckFit c) grid)
     (before now : Told) (old new : Seen) where
   -- the outcome of the words is that of the check
-  check-outcome : (end : Outcome) → IsOutcome words files end → IsFitCheckOutcome c grid (fit_cert_in grid.n (bytes_of files c.certificate)) (bytes_of files c.mesh) end
+  check-outcome : (end : Outcome) → IsOutcome words files end →
+      IsFitCheckOutcome c grid (fit_cert_in grid.n (bytes_of files c.certificate)) (bytes_of files c.mesh) end
   unfolding IsOutcome
   check-outcome end of =
       let P : Option Command → Type 0 = λ o. IsWordsOutcome o files end in
@@ -172,11 +191,13 @@ module _ (read_texts : TextsAreRead) (words : List (List ℕ)) (files : List Nam
       → (line : List ℕ) × Grows before.report now.report line × IsCertifiedFit c grid (bytes_of files c.mesh) line
   line-stands end stands certifies = (
     certifies.0,
-    λ all told. stands.report_grows all told ∙ ap (λ (l : List ℕ). Some (all ++ l)) (ap (λ (o : Outcome). report_of o.acts) certifies.2 ∙ append-nil certifies.0),
+    λ all told. stands.report_grows all told ∙ ap (λ (l : List ℕ). Some (all ++ l))
+        (ap (λ (o : Outcome). report_of o.acts) certifies.2 ∙ append-nil certifies.0),
     certifies.1,
   )
 
-  done-certified : (status : Status) → IsTrue (is_complete status) → EndsRight before now old new words files status → status ≢ NoMemory → status ≢ ReadFault → status ≡ Done
+  done-certified : (status : Status) → IsTrue (is_complete status) → EndsRight before now old new words files status →
+      status ≢ NoMemory → status ≢ ReadFault → status ≡ Done
       → (line : List ℕ) × Grows before.report now.report line × IsCertifiedFit c grid (bytes_of files c.mesh) line
   done-certified status complete ends m r done =
       let e = ends.ends m r in

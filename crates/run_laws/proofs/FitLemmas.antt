@@ -28,9 +28,11 @@ tolerance-exact n thousandths error =
 -- one mesh
 
 -- the triangles of a target, depth first, are one list
-pub fitted-one : (target : Target) (grid : HeightField) (triangles others : List ℕ) → IsFitted target grid triangles → IsFitted target grid others → triangles ≡ others
+pub fitted-one : (target : Target) (grid : HeightField) (triangles others : List ℕ) → IsFitted target grid triangles →
+    IsFitted target grid others → triangles ≡ others
 fitted-one (AtError thousandths) grid triangles others p q =
-    least-one grid.n (tolerance_of grid.n thousandths) (error_of grid.n grid.heights) triangles others p.fit q.fit p.in_order q.in_order
+    least-one grid.n (tolerance_of grid.n thousandths)
+    (error_of grid.n grid.heights) triangles others p.fit q.fit p.in_order q.in_order
 fitted-one (InBudget budget) grid triangles others p q =
     budget-one grid.n budget (error_of grid.n grid.heights) triangles others p.fit q.fit p.in_order q.in_order
 
@@ -40,7 +42,8 @@ TakesTwo (AtError thousandths) = Unit {0}
 TakesTwo (InBudget budget) = 2 ≤ budget
 
 -- then there is one
-pub fitted-exists : (target : Target) (grid : HeightField) → TakesTwo target → (triangles : List ℕ) × IsFitted target grid triangles
+pub fitted-exists : (target : Target) (grid : HeightField) → TakesTwo target →
+    (triangles : List ℕ) × IsFitted target grid triangles
 fitted-exists (AtError thousandths) grid two =
     let n : ℕ = grid.n in
     let tolerance : ℕ = tolerance_of n thousandths in
@@ -57,9 +60,11 @@ fitted-exists (InBudget budget) grid two =
     (leaves_of n found.0, record { fit = found.2; in_order = leaves-order n found.0 found.1 })
 
 -- so a fit has one outcome
-pub fit-unique : (f : Fitting) (grid : HeightField) (end other : Outcome) → IsFitOutcome f grid end → IsFitOutcome f grid other → end ≡ other
+pub fit-unique : (f : Fitting) (grid : HeightField) (end other : Outcome) → IsFitOutcome f grid end →
+    IsFitOutcome f grid other → end ≡ other
 fit-unique f grid end other p q =
-    p.2 ∙ ap (λ (triangles : List ℕ). plain_outcome (fit_acts f grid triangles) Done 1) (fitted-one f.target grid p.0 q.0 p.1 q.1) ∙ sym q.2
+    p.2 ∙ ap (λ (triangles : List ℕ). plain_outcome (fit_acts f grid triangles) Done 1)
+    (fitted-one f.target grid p.0 q.0 p.1 q.1) ∙ sym q.2
 
 pub fit-exists : (f : Fitting) (grid : HeightField) → TakesTwo f.target → (end : Outcome) × IsFitOutcome f grid end
 fit-exists f grid two =
@@ -69,15 +74,18 @@ fit-exists f grid two =
 -- a best one
 
 fewest-for : (thousandths : ℕ) (grid : HeightField) (triangles : List ℕ)
-    → IsLeastMesh grid.n (tolerance_of grid.n thousandths) (error_of grid.n grid.heights) triangles → IsFewestFor thousandths grid triangles
+    → IsLeastMesh grid.n (tolerance_of grid.n thousandths) (error_of grid.n grid.heights) triangles →
+    IsFewestFor thousandths grid triangles
 fewest-for thousandths grid triangles least =
     let n : ℕ = grid.n in
     let P : ℕ → Type 0 = λ k. k ≤ tolerance_of n thousandths in
     record {
       conforming = least.conforming;
-      near = (tolerance-exact n thousandths (deviation_of n grid.heights triangles)).0 (subst P (worst-deviation n grid.heights triangles) least.within);
+      near = (tolerance-exact n thousandths (deviation_of n grid.heights triangles)).0
+          (subst P (worst-deviation n grid.heights triangles) least.within);
       fewest = λ others conforming near. least.fewest others conforming
-          (subst P (sym (worst-deviation n grid.heights others)) ((tolerance-exact n thousandths (deviation_of n grid.heights others)).1 near));
+          (subst P (sym (worst-deviation n grid.heights others))
+          ((tolerance-exact n thousandths (deviation_of n grid.heights others)).1 near));
     }
 
 closest-for : (budget : ℕ) (grid : HeightField) (triangles : List ℕ)
@@ -97,6 +105,7 @@ closest-for budget grid triangles best =
     }
 
 -- a mesh that is fitted is one, in the words of distances from the surface
-pub fit-best : (target : Target) (grid : HeightField) (triangles : List ℕ) → IsFitFor target grid triangles → IsBestFit target grid triangles
+pub fit-best : (target : Target) (grid : HeightField) (triangles : List ℕ) → IsFitFor target grid triangles →
+    IsBestFit target grid triangles
 fit-best (AtError thousandths) grid triangles fit = fewest-for thousandths grid triangles fit
 fit-best (InBudget budget) grid triangles fit = closest-for budget grid triangles fit

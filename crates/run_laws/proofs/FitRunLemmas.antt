@@ -1,6 +1,7 @@
 -- The headline of a fit follows from what stands after each status.
 use Rattle.std.proofs.lemmas.List.Elements.{All-nil, All-cons}
-use Rattle.std.proofs.Common.{◌≡◌, ◌≢◌, ℕ, ◌≤◌, true, false, IsTrue, List, [], ◌∷◌, ◌++◌, length, Option, Some, Result, inl, inr, refl, sym, ◌∙◌, ap, subst, append-nil, arith}
+use Rattle.std.proofs.Common.{◌≡◌, ◌≢◌, ℕ, ◌≤◌, true, false, IsTrue, List, [], ◌∷◌, ◌++◌, length, Option, Some, Result}
+use Rattle.std.proofs.Common.{inl, inr, refl, sym, ◌∙◌, ap, subst, append-nil, arith}
 use Rattle.std.specs.List.{All}
 use Rattle.mesh_defs.specs.HeightField.{HeightField}
 use Rattle.roam_edge.specs.MeshSink.{WrittenMesh}
@@ -9,7 +10,8 @@ use Rattle.pgm_grid.specs.declared.fault.PgmFault.{PgmFault}
 use Rattle.pgm_grid.specs.Laws.{TextsAreRead}
 use Rattle.obj_write.specs.Written.{mesh_with}
 use Rattle.run_laws.specs.declared.status.Status.{Status}
-use Rattle.run_laws.specs.declared.status.Status.TheVariants.{Done, NoMemory, Usage, GridRefused, ScriptRefused, ReadFault, WriteFault, Rejected}
+use Rattle.run_laws.specs.declared.status.Status.TheVariants.{Done, NoMemory, Usage, GridRefused, ScriptRefused}
+use Rattle.run_laws.specs.declared.status.Status.TheVariants.{ReadFault, WriteFault, Rejected}
 use Rattle.word_laws.specs.Words.{Fitting, Fit, Command, OnGrid, has_script}
 use Rattle.run_laws.specs.Fit.{fit_text}
 use Rattle.run_laws.specs.ReportText.{fit_line}
@@ -26,7 +28,8 @@ use Rattle.run_laws.proofs.FitLemmas.{fit-best}
 no-script : (name : List ℕ) (f : Fitting) → IsTrue (has_script (OnGrid name (Fit f))) → ⊥
 no-script name f is = cc
 
-module _ (read_texts : TextsAreRead) (words : List (List ℕ)) (files : List NamedFile) (f : Fitting) (grid : HeightField) (run : IsRunOf words files (Fit f) grid)
+module _ (read_texts : TextsAreRead) (words : List (List ℕ)) (files : List NamedFile) (f : Fitting) (grid : HeightField)
+    (run : IsRunOf words files (Fit f) grid)
     (before now : Told) (old new : Seen) (all : List WrittenMesh) (there : before.meshes ≡ Some all) where
   abbrev Keeps : Status → Type 0
   Keeps status = KeepsFitMesh f grid before now all status
@@ -71,12 +74,14 @@ module _ (read_texts : TextsAreRead) (words : List (List ℕ)) (files : List Nam
           triangles,
           fit,
           refl,
-          λ report told. stood.report_grows report told ∙ ap (λ (l : List ℕ). Some (report ++ l)) (append-nil (fit_line grid triangles)),
+          λ report told. stood.report_grows report told
+              ∙ ap (λ (l : List ℕ). Some (report ++ l)) (append-nil (fit_line grid triangles)),
         );
       }
 
   -- the mesh was cut short
-  in-mesh : (status : Status) → status ≢ Done → (bytes : List ℕ) → StandsInMesh before now [] f.prefix 1 bytes → Keeps status
+  in-mesh : (status : Status) → status ≢ Done → (bytes : List ℕ) →
+      StandsInMesh before now [] f.prefix 1 bytes → Keeps status
   in-mesh status undone bytes part =
       let came = part.mesh all there in
       record {
@@ -88,19 +93,32 @@ module _ (read_texts : TextsAreRead) (words : List (List ℕ)) (files : List Nam
       }
 
   -- or its line
-  cut : (status : Status) → status ≢ Done → (end : Outcome) → IsFitOutcome f grid end → IsCutShort before now end.acts → Keeps status
+  cut : (status : Status) → status ≢ Done → (end : Outcome) → IsFitOutcome f grid end →
+      IsCutShort before now end.acts → Keeps status
   cut status undone end is short =
       let triangles : List ℕ = is.0 in
       let bytes : List ℕ = fit_text f.spacing grid triangles in
       let at = subst (λ (o : Outcome). IsCutShort before now o.acts) is.2 short in
-      elim (mesh_cut before now [] f.prefix 1 bytes (fit_line grid triangles) at.done at.next at.owed at.in_order at.standing) [
-        | inl none ↦ record { added = []; behind = none.meshes all there; one = omega arith; fits = All-nil Fits; done = λ e. absurd (undone e) }
+      elim (mesh_cut before now [] f.prefix 1 bytes
+      (fit_line grid triangles) at.done at.next at.owed at.in_order at.standing) [
+        | inl none ↦ record {
+          added = [];
+          behind = none.meshes all there;
+          one = omega arith;
+          fits = All-nil Fits;
+          done = λ e. absurd (undone e);
+        }
         | inr (inl part) ↦ in-mesh status undone bytes part
         | inr (inr text) ↦ record {
           added = mesh_with f.prefix 1 bytes true ∷ [];
           behind = text.meshes all there;
           one = omega arith;
-          fits = one-fits _ (λ finished. record { triangles = triangles; best = fit-best f.target grid triangles is.1.fit; fit = is.1.fit; is_mesh = refl });
+          fits = one-fits _ (λ finished. record {
+            triangles = triangles;
+            best = fit-best f.target grid triangles is.1.fit;
+            fit = is.1.fit;
+            is_mesh = refl;
+          });
           done = λ e. absurd (undone e);
         }
       ]
@@ -110,15 +128,18 @@ module _ (read_texts : TextsAreRead) (words : List (List ℕ)) (files : List Nam
   at-read-fault status undone leaves =
       let same = same-command leaves.command (OnGrid run.grid_name (Fit f)) (sym leaves.is_command ∙ run.is_command) in
       nothing status undone
-      (leaves.leaves.before_script (λ is. absurd (no-script run.grid_name f (subst (λ (c : Command). IsTrue (has_script c)) same is))))
+      (leaves.leaves.before_script (λ is.
+      absurd (no-script run.grid_name f (subst (λ (c : Command). IsTrue (has_script c)) same is))))
 
-  complete : (status : Status) → IsTrue (is_complete status) → status ≢ NoMemory → status ≢ ReadFault → EndsRight before now old new words files status → Keeps status
+  complete : (status : Status) → IsTrue (is_complete status) → status ≢ NoMemory → status ≢ ReadFault →
+      EndsRight before now old new words files status → Keeps status
   complete status done m r ends =
       let e = ends.ends m r in
       whole status e.0 (fit-outcome e.0 e.1) (e.2.complete done).0
 
   -- whatever the status, the mesh is a best one if it is finished
-  pub fit-keeps : (status : Status) → EndsRight before now old new words files status → (status ≡ ReadFault → LeavesAtReadFault before now old new words)
+  pub fit-keeps : (status : Status) → EndsRight before now old new words files status →
+      (status ≡ ReadFault → LeavesAtReadFault before now old new words)
       → (status ≡ NoMemory → LeavesAtNoMemory before now old new words) → Keeps status
   fit-keeps Done ends read memory = complete Done refl (λ e. cc) (λ e. cc) ends
   fit-keeps NoMemory ends read memory = nothing NoMemory (λ e. cc) (memory refl).leaves.stands

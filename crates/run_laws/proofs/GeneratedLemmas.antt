@@ -1,5 +1,7 @@
 -- Generated runs whose budget has room for all finest triangles: nothing blocks.
-use Rattle.std.proofs.Common.{◌≡◌, ℕ, ◌+◌, ◌*◌, ◌^◌, ◌≤◌, max, Bool, true, false, if◌then◌else◌, IsTrue, is_some, List, [], ◌∷◌, ◌++◌, All, Option, None, Some, IsNone, refl, sym, ◌∙◌, ap, subst, arith, lit<, append_assoc}
+use Rattle.std.proofs.Common.{◌≡◌, ℕ, ◌+◌, ◌*◌, ◌^◌, ◌≤◌, max, Bool, true, false, if◌then◌else◌, IsTrue, is_some, List}
+use Rattle.std.proofs.Common.{[], ◌∷◌, ◌++◌, All, Option, None, Some, IsNone, refl, sym, ◌∙◌, ap, subst, arith, lit<}
+use Rattle.std.proofs.Common.{append_assoc}
 use Rattle.std.specs.Prelude.{◌==◌, ◌%◌, length, codes, decimal}
 use Rattle.std.specs.List.{AllByRecursion, flat_map, range_with_len}
 use Rattle.std.proofs.Math.Pow.{pow_mono}
@@ -19,7 +21,8 @@ use Rattle.word_laws.specs.Words.{as_sums, Command}
 use Rattle.run_laws.specs.Act.{Act, ReportText}
 use Rattle.run_laws.specs.Picture.{Picture, ArePictures, IsCertified}
 use Rattle.run_laws.specs.ReportText.{all_triangles, worst_in, count_blocked, sums_line, try_line}
-use Rattle.run_laws.specs.Outcome.{Outcome, shown_acts, stop_acts, stop_status, engine_end, made_budget, made_spacing, made_walk, IsFramesOutcome, IsWordsOutcome, IsOutcome}
+use Rattle.run_laws.specs.Outcome.{Outcome, shown_acts, stop_acts, stop_status, engine_end, made_budget, made_spacing}
+use Rattle.run_laws.specs.Outcome.{made_walk, IsFramesOutcome, IsWordsOutcome, IsOutcome}
 use Rattle.run_laws.specs.Laws.{PicturesAreCertified}
 use Rattle.run_laws.specs.GeneratedLaws.{HasRoomForAll, unblocked_end, LowLevelsAreUnblocked}
 use Rattle.run_laws.proofs.OutcomeLemmas.{made_grid-level}
@@ -27,7 +30,8 @@ use Rattle.run_laws.proofs.WalkLemmas.{along-stop}
 
 -- The generated lines set no budget.
 
-room-append : (xs ys : List State) → AllByRecursion HasRoomForAll xs → AllByRecursion HasRoomForAll ys → AllByRecursion HasRoomForAll (xs ++ ys)
+room-append : (xs ys : List State) → AllByRecursion HasRoomForAll xs → AllByRecursion HasRoomForAll ys →
+    AllByRecursion HasRoomForAll (xs ++ ys)
 room-append [] ys f g = g
 room-append (x ∷ xs) ys f g = (f.0, room-append xs ys f.1 g)
 
@@ -41,43 +45,67 @@ record KeepsRoom (walk : Walk) : Type 0 where
 
 line-room : (walk : Walk) (line : Line) → SetsNoBudget line → KeepsRoom walk → KeepsRoom (after_line line walk)
 line-room walk Blank none keeps = record { here = keeps.here; frames = room-append walk.frames [] keeps.frames tt }
-line-room walk (Camera i j k) none keeps = record { here = keeps.here; frames = room-append walk.frames [] keeps.frames tt }
-line-room walk (Set x y h) none keeps = record { here = keeps.here; frames = room-append walk.frames [] keeps.frames tt }
-line-room walk Frame none keeps = record { here = keeps.here; frames = room-append walk.frames (walk.state ∷ []) keeps.frames (keeps.here, tt) }
-line-room walk (Plane i j k l) none keeps = record { here = keeps.here; frames = room-append walk.frames [] keeps.frames tt }
+line-room walk (Camera i j k) none keeps = record {
+  here = keeps.here;
+  frames = room-append walk.frames [] keeps.frames tt;
+}
+line-room walk (Set x y h) none keeps = record {
+  here = keeps.here;
+  frames = room-append walk.frames [] keeps.frames tt;
+}
+line-room walk Frame none keeps = record {
+  here = keeps.here;
+  frames = room-append walk.frames (walk.state ∷ []) keeps.frames (keeps.here, tt);
+}
+line-room walk (Plane i j k l) none keeps = record {
+  here = keeps.here;
+  frames = room-append walk.frames [] keeps.frames tt;
+}
 line-room walk NoPlanes none keeps = record { here = keeps.here; frames = room-append walk.frames [] keeps.frames tt }
 line-room walk (Budget most) none keeps = absurd (none most refl)
-line-room walk (Raise i j k l dz) none keeps = record { here = keeps.here; frames = room-append walk.frames [] keeps.frames tt }
+line-room walk (Raise i j k l dz) none keeps = record {
+  here = keeps.here;
+  frames = room-append walk.frames [] keeps.frames tt;
+}
 
-along-room : (walk : Walk) (lines : List Line) → AllByRecursion SetsNoBudget lines → KeepsRoom walk → KeepsRoom (walk_along walk lines)
+along-room : (walk : Walk) (lines : List Line) → AllByRecursion SetsNoBudget lines → KeepsRoom walk →
+    KeepsRoom (walk_along walk lines)
 along-room walk [] none keeps = keeps
-along-room walk (line ∷ lines) none keeps = along-room (after_line line walk) lines none.1 (line-room walk line none.0 keeps)
+along-room walk (line ∷ lines) none keeps =
+    along-room (after_line line walk) lines none.1 (line-room walk line none.0 keeps)
 
-none-append : (xs ys : List Line) → AllByRecursion SetsNoBudget xs → AllByRecursion SetsNoBudget ys → AllByRecursion SetsNoBudget (xs ++ ys)
+none-append : (xs ys : List Line) → AllByRecursion SetsNoBudget xs → AllByRecursion SetsNoBudget ys →
+    AllByRecursion SetsNoBudget (xs ++ ys)
 none-append [] ys f g = g
 none-append (x ∷ xs) ys f g = (f.0, none-append xs ys f.1 g)
 
 -- the lines of a generated frame, whether one sets a height or not
 none-frame : (n seed f : ℕ) (tenth : Bool)
-    → AllByRecursion SetsNoBudget ((camera_line n f ∷ []) ++ (if tenth then edit_line n seed f ∷ [] else []) ++ Frame ∷ [])
+    → AllByRecursion SetsNoBudget ((camera_line n f ∷ [])
+    ++ (if tenth then edit_line n seed f ∷ [] else []) ++ Frame ∷ [])
 none-frame n seed f true = ((λ most e. cc), ((λ most e. cc), ((λ most e. cc), tt)))
 none-frame n seed f false = ((λ most e. cc), ((λ most e. cc), tt))
 
 none-frames : (n seed : ℕ) (fs : List ℕ) → AllByRecursion SetsNoBudget (flat_map (frame_lines n seed) fs)
 none-frames n seed [] = tt
 none-frames n seed (f ∷ fs) =
-    none-append (frame_lines n seed f) (flat_map (frame_lines n seed) fs) (none-frame n seed f (f % 10 == 0)) (none-frames n seed fs)
+    none-append (frame_lines n seed f) (flat_map (frame_lines n seed) fs)
+    (none-frame n seed f (f % 10 == 0)) (none-frames n seed fs)
 
 made-room : (n seed : ℕ) → 2 * 4 ^ n ≤ made_budget → AllByRecursion HasRoomForAll (made_walk n seed).frames
 unfolding made_lines
 made-room n seed fits =
     let P : ℕ → Type 0 = λ k. 2 * 4 ^ k ≤ made_budget in
     (along-room (start_walk made_budget (start_state (made_grid n seed) made_spacing made_budget)) (made_lines n seed)
-    (none-frames n seed (range_with_len 1 50)) (record { here = subst P (sym (made_grid-level n seed)) fits; frames = tt })).frames
+    (none-frames n seed (range_with_len 1 50)) (record {
+      here = subst P (sym (made_grid-level n seed)) fits;
+      frames = tt;
+    })).frames
 
 -- Where there is room, nothing blocks.
 
-frame-unblocked : (n budget : ℕ) (priority : ℕ → ℕ) (has : ℕ → Bool) (worst : ℕ) (blocked : Option Blocked) → 2 * 4 ^ n ≤ budget
+frame-unblocked : (n budget : ℕ) (priority : ℕ → ℕ) (has : ℕ → Bool) (worst : ℕ) (blocked : Option Blocked) →
+    2 * 4 ^ n ≤ budget
     → IsFrame n budget priority has worst blocked → blocked ≡ None
 frame-unblocked n budget priority has worst None fits f = refl
 frame-unblocked n budget priority has worst (Some b) fits f =
@@ -90,7 +118,8 @@ frame-unblocked n budget priority has worst (Some b) fits f =
 abbrev IsUnblocked : Picture → Type 0
 IsUnblocked picture = picture.blocked ≡ None
 
-pictures-unblocked : (n seed : ℕ) (before : List ℕ) (states : List State) (ps : List Picture) → AllByRecursion HasRoomForAll states
+pictures-unblocked : (n seed : ℕ) (before : List ℕ) (states : List State) (ps : List Picture) →
+    AllByRecursion HasRoomForAll states
     → ArePictures (as_sums n seed) before states ps → AllByRecursion IsUnblocked ps
 pictures-unblocked n seed before [] [] room are = tt
 pictures-unblocked n seed before [] (p ∷ ps) room are = absurd are
@@ -123,7 +152,8 @@ gathered a b c d e f g h i j k l m = simp append_assoc
 -- what a line of sums begins with
 abbrev sums_begun : (n seed frames triangles : ℕ) → List ℕ
 sums_begun n seed frames triangles =
-    codes "try " ++ decimal n ++ codes " " ++ decimal seed ++ codes " frames " ++ decimal frames ++ codes " triangles " ++ decimal triangles
+    codes "try " ++ decimal n ++ codes " " ++ decimal seed ++ codes " frames " ++ decimal frames
+    ++ codes " triangles " ++ decimal triangles
 
 abbrev sums_end : List ℕ
 sums_end = codes " worst " ++ decimal 0 ++ codes " blocked " ++ decimal 0 ++ codes "\n"
@@ -131,9 +161,11 @@ sums_end = codes " worst " ++ decimal 0 ++ codes " blocked " ++ decimal 0 ++ cod
 sums_end-is : sums_end ≡ unblocked_end
 sums_end-is = ap (λ d. codes " worst " ++ d ++ codes " blocked " ++ d ++ codes "\n") (decimal_digit 0 (lit< tt))
 
-line-end : (n seed frames triangles : ℕ) → sums_line n seed frames triangles 0 0 ≡ sums_begun n seed frames triangles ++ unblocked_end
+line-end : (n seed frames triangles : ℕ) →
+    sums_line n seed frames triangles 0 0 ≡ sums_begun n seed frames triangles ++ unblocked_end
 line-end n seed frames triangles =
-    gathered (codes "try ") (decimal n) (codes " ") (decimal seed) (codes " frames ") (decimal frames) (codes " triangles ")
+    gathered (codes "try ") (decimal n) (codes " ") (decimal seed) (codes " frames ")
+    (decimal frames) (codes " triangles ")
     (decimal triangles) (codes " worst ") (decimal 0) (codes " blocked ") (decimal 0) (codes "\n")
     ∙ ap (λ l. sums_begun n seed frames triangles ++ l) sums_end-is
 
@@ -166,8 +198,10 @@ low-unblocked certified words files n seed end is low outcome =
     let engine : end.engine ≡ Some (engine_end walk ps) = ap (λ (o : Outcome). o.engine) shown.2 in
     let some : IsTrue (is_some end.engine) = rw engine refl in
     let all : AllByRecursion IsCertified ps =
-    recursion_from_All IsCertified ps (subst (λ (o : Outcome). All IsCertified o.pictures) shown.2 (certified words files end some outcome)) in
-    let none : AllByRecursion IsUnblocked ps = pictures-unblocked n seed [] walk.frames ps (made-room n seed (room-for n low)) shown.1 in
+    recursion_from_All IsCertified ps
+    (subst (λ (o : Outcome). All IsCertified o.pictures) shown.2 (certified words files end some outcome)) in
+    let none : AllByRecursion IsUnblocked ps =
+    pictures-unblocked n seed [] walk.frames ps (made-room n seed (room-for n low)) shown.1 in
     let stop : walk.stop ≡ None =
     along-stop (start_walk made_budget (start_state (made_grid n seed) made_spacing made_budget)) (made_lines n seed) in
     let line : List ℕ = try_line n seed ps in (

@@ -1,5 +1,6 @@
 -- How a command on a grid ends: at its grid, at its line of facts, and at its script.
-use Rattle.std.proofs.Common.{◌≡◌, ◌≢◌, ℕ, ◌+◌, ◌^◌, ◌≤◌, false, true, IsTrue, List, [], ◌++◌, slice_get, Option, None, Some, Result, Ok, Err, refl, sym, ◌∙◌, ap, subst, arith}
+use Rattle.std.proofs.Common.{◌≡◌, ◌≢◌, ℕ, ◌+◌, ◌^◌, ◌≤◌, false, true, IsTrue, List, [], ◌++◌, slice_get, Option, None}
+use Rattle.std.proofs.Common.{Some, Result, Ok, Err, refl, sym, ◌∙◌, ap, subst, arith}
 use Rattle.std.proofs.Math.Nat.{min-eq_left}
 use Rattle.mesh_defs.specs.HeightField.{HeightField}
 use Rattle.mesh_defs.specs.State.{start_state}
@@ -12,12 +13,14 @@ use Rattle.pgm_grid.specs.Progress.{grid_of}
 use Rattle.run_laws.specs.declared.status.Status.{Status}
 use Rattle.run_laws.specs.declared.status.Status.TheVariants as ends
 use Rattle.run_laws.specs.Walk.{Walk, start_walk}
-use Rattle.word_laws.specs.Words.{Show, Scripted, Job, Frames, Facts, Command, OnGrid, Make, Check, Fit, MakeFit, CheckFit, names_of}
+use Rattle.word_laws.specs.Words.{Show, Scripted, Job, Frames, Facts, Command, OnGrid, Make, Check, Fit, MakeFit}
+use Rattle.word_laws.specs.Words.{CheckFit, names_of}
 use Rattle.run_laws.specs.Picture.{Picture}
 use Rattle.run_laws.specs.Act.{Act, Told, told, Stands}
 use Rattle.run_laws.specs.ReportText.{info_line, grid_refusal}
 use Rattle.run_laws.specs.Outcome.{Outcome, EngineEnd, text_outcome, shown_acts, IsGridOutcome}
-use Rattle.run_laws.specs.Promise.{Seen, HasRead, FileReadFault, CommandReadFault, HasReadHeader, most_open_job, CommandNoMemory, IsUndecided, is_complete}
+use Rattle.run_laws.specs.Promise.{Seen, HasRead, FileReadFault, CommandReadFault, HasReadHeader, most_open_job}
+use Rattle.run_laws.specs.Promise.{CommandNoMemory, IsUndecided, is_complete}
 use Rattle.run_laws.proofs.ActLemmas.{stands-nothing, cut-only-line}
 use Rattle.run_laws.proofs.StepLemmas.{come-read}
 use Rattle.run_laws.specs.Maker.{TellsFrames, Begins, DoesAs, Leaves, EndsScript, ScriptHasCome}
@@ -32,47 +35,66 @@ pub next_count-one : (before now : ℕ) → before ≤ 2 ^ 63 → now ≡ next_c
 next_count-one before now low is = next-one before now (omega (arith, low)) is
 
 -- and by two where one more follows
-pub next_count-two : (before middle now : ℕ) → before ≤ 2 ^ 63 → middle ≡ next_count before → now ≡ next_count middle → now ≡ before + 2
+pub next_count-two : (before middle now : ℕ) → before ≤ 2 ^ 63 → middle ≡ next_count before →
+    now ≡ next_count middle → now ≡ before + 2
 next_count-two before middle now low is more =
     let one = next_count-one before middle low is in
     let two : now ≡ middle + 1 = more ∙ min-eq_left (omega (arith, low, one)) in
     omega (arith, one, two)
 
 -- the last text of a run was cut short
-pub text-cut : {k i i' : ℕ} (meshes : Option (List WrittenMesh)) (report report' : Option (List ℕ)) (text : List ℕ) (status : Status) (files : ℕ)
+pub text-cut : {k i i' : ℕ} (meshes : Option (List WrittenMesh)) (report report' : Option (List ℕ)) (text : List ℕ)
+    (status : Status) (files : ℕ)
     → ((all : List ℕ) → report ≡ Some all → (front : List ℕ) × IsPrefix front text × (report' ≡ Some (all ++ front)))
-    → Rose i i' → DoesAs (told meshes report k i) (told meshes report' k i') (text_outcome text status files) ends.WriteFault
+    → Rose i i' →
+    DoesAs (told meshes report k i) (told meshes report' k i') (text_outcome text status files) ends.WriteFault
 text-cut meshes report report' text status files part rose =
     record { complete = λ e. cc; cut_short = λ e. cut-only-line meshes report report' text [] part rose }
 
 -- a command ends as the outcome says that what its grid is read as leads to
-pub ends-as : (before now : Told) (old new : Seen) (name : List ℕ) (job : Job) (files : List NamedFile) (answer : Result HeightField PgmFault) (end : Outcome) (status : Status)
+pub ends-as : (before now : Told) (old new : Seen) (name : List ℕ) (job : Job) (files : List NamedFile)
+    (answer : Result HeightField PgmFault) (end : Outcome) (status : Status)
     → grid_of (bytes_of files name) ≡ answer → IsGridOutcome job answer files end → new.opens ≡ old.opens + end.opened
     → DoesAs before now end status → (engine : Option EngineEnd) → (IsTrue (is_complete status) → engine ≡ end.engine)
     → CommandEnds before now old new (OnGrid name job) files status engine
 ends-as before now old new name job files answer end status found is opened does engine left =
     let P : Result HeightField PgmFault → Type 0 = λ a. IsGridOutcome job a files end in
-    record { ends = λ m r. (end, subst P (sym found) is, record { opened = opened; complete = does.complete; cut_short = does.cut_short }, left) }
+    record {
+      ends = λ m r. (
+        end,
+        subst P (sym found) is,
+        record { opened = opened; complete = does.complete; cut_short = does.cut_short },
+        left,
+      );
+    }
 
 -- the refusal of its grid ends a command
-pub refused-ends : (before now : Told) (old new : Seen) (name : List ℕ) (job : Job) (files : List NamedFile) (fault : PgmFault) (text : List ℕ) (status : Status)
+pub refused-ends : (before now : Told) (old new : Seen) (name : List ℕ) (job : Job) (files : List NamedFile)
+    (fault : PgmFault) (text : List ℕ) (status : Status)
     → grid_of (bytes_of files name) ≡ Err fault → text ≡ grid_refusal fault → new.opens ≡ old.opens + 1
-    → DoesAs before now (text_outcome text ends.GridRefused 1) status → CommandEnds before now old new (OnGrid name job) files status None
+    → DoesAs before now (text_outcome text ends.GridRefused 1) status →
+    CommandEnds before now old new (OnGrid name job) files status None
 refused-ends before now old new name job files fault text status found is opened does =
     let P : List ℕ → Type 0 = λ t. DoesAs before now (text_outcome t ends.GridRefused 1) status in
-    ends-as before now old new name job files (Err fault) (text_outcome (grid_refusal fault) ends.GridRefused 1) status found refl opened (subst P is does) None (λ e. refl)
+    ends-as before now old new name job files (Err fault) (text_outcome (grid_refusal fault) ends.GridRefused 1) status
+    found refl opened (subst P is does) None (λ e. refl)
 
 -- the line of facts ends a command
-pub facts-end : (before now : Told) (old new : Seen) (name : List ℕ) (files : List NamedFile) (grid : HeightField) (text : List ℕ) (status : Status)
+pub facts-end : (before now : Told) (old new : Seen) (name : List ℕ) (files : List NamedFile) (grid : HeightField)
+    (text : List ℕ) (status : Status)
     → grid_of (bytes_of files name) ≡ Ok grid → text ≡ info_line grid → new.opens ≡ old.opens + 1
-    → DoesAs before now (text_outcome text ends.Done 1) status → CommandEnds before now old new (OnGrid name Facts) files status None
+    → DoesAs before now (text_outcome text ends.Done 1) status →
+    CommandEnds before now old new (OnGrid name Facts) files status None
 facts-end before now old new name files grid text status found is opened does =
     let P : List ℕ → Type 0 = λ t. DoesAs before now (text_outcome t ends.Done 1) status in
-    ends-as before now old new name Facts files (Ok grid) (text_outcome (info_line grid) ends.Done 1) status found refl opened (subst P is does) None (λ e. refl)
+    ends-as before now old new name Facts files (Ok grid)
+    (text_outcome (info_line grid) ends.Done 1) status found refl opened (subst P is does) None (λ e. refl)
 
 -- a read of a command's file failed
-pub file-fault : (before now : Told) (new : Seen) (command : Command) (files : List NamedFile) (k : ℕ) (name : List ℕ) (acts : List Act) (holds : List ℕ → Type 0)
-    (at : StopsReading holds (bytes_of files name) new.rest new.ended) → slice_get (names_of command) k ≡ Some name → HasRead command files k at.read acts
+pub file-fault : (before now : Told) (new : Seen) (command : Command) (files : List NamedFile) (k : ℕ) (name : List ℕ)
+    (acts : List Act) (holds : List ℕ → Type 0)
+    (at : StopsReading holds (bytes_of files name) new.rest new.ended) → slice_get (names_of command) k ≡ Some name →
+    HasRead command files k at.read acts
     → Stands before now acts → FileReadFault before now new command files k
 file-fault before now new command files k name acts holds at named has_read stands = record {
   name = name;
@@ -89,7 +111,8 @@ file-fault before now new command files k name acts holds at named has_read stan
 
 -- a read of its grid failed
 pub grid-fault : (before : Told) (old new : Seen) (name : List ℕ) (job : Job) → new.opens ≡ old.opens + 1
-    → ((files : List NamedFile) → old.files ≡ Some files → StopsReading IsUndecided (bytes_of files name) new.rest new.ended)
+    → ((files : List NamedFile) → old.files ≡ Some files →
+    StopsReading IsUndecided (bytes_of files name) new.rest new.ended)
     → CommandReadFault before before old new (OnGrid name job)
 grid-fault before old new name job opened stops = record {
   file = 0;
@@ -97,7 +120,8 @@ grid-fault before old new name job opened stops = record {
   before_script = λ first. stands-nothing before;
   at_file = λ files told_files.
       let at = stops files told_files in
-      file-fault before before new (OnGrid name job) files 0 name [] IsUndecided at refl (at.has_read, refl) (stands-nothing before);
+      file-fault before before new (OnGrid name job) files 0 name [] IsUndecided at refl (at.has_read, refl)
+      (stands-nothing before);
 }
 
 -- commands on grids are the same
@@ -144,7 +168,8 @@ module _ (s : Scripted) (grid : HeightField) where
   first_walk = start_walk s.budget (start_state grid s.spacing s.budget)
 
   -- what makes the frames follows it
-  pub first-begins : 2 ≤ s.budget → 1 ≤ grid.n → grid.n ≤ 11 → (follows : Show → Walk → List Picture → Type 0) → follows s.show first_walk [] → TellsFrames s.show → Begins s.show follows first_walk
+  pub first-begins : 2 ≤ s.budget → 1 ≤ grid.n → grid.n ≤ 11 → (follows : Show → Walk → List Picture → Type 0) →
+      follows s.show first_walk [] → TellsFrames s.show → Begins s.show follows first_walk
   first-begins low n_low n_high follows followed alone = record {
     starts = record { keeps = record { level = refl; low = low; frames = tt }; n_low = n_low; n_high = n_high };
     goes = refl;
@@ -156,21 +181,24 @@ module _ (s : Scripted) (grid : HeightField) where
 
   module _ (before now : Told) (old new : Seen) (name : List ℕ) (opened : new.opens ≡ old.opens + 2) where
     -- the script ended
-    pub script-ends : (files : List NamedFile) (status : Status) (follows : Show → Walk → List Picture → Type 0) (left : Option EngineEnd) → grid_of (bytes_of files name) ≡ Ok grid
+    pub script-ends : (files : List NamedFile) (status : Status) (follows : Show → Walk → List Picture →
+        Type 0) (left : Option EngineEnd) → grid_of (bytes_of files name) ≡ Ok grid
         → ((end : Outcome) → IsTrue (is_complete status) → Leaves s.show follows end → left ≡ end.engine)
         → (status ≢ ends.ReadFault → EndsScript before now s.show follows first_walk (bytes_of files s.script) status)
         → CommandEnds before now old new (OnGrid name (Frames s)) files status left
     script-ends files status follows left found leaves does = record {
       ends = λ memory fault.
           let did = does fault in
-          let two : new.opens ≡ old.opens + did.0.opened = opened ∙ ap (λ (end : Outcome). old.opens + end.opened) (sym did.1.2) in
+          let two : new.opens ≡ old.opens + did.0.opened =
+          opened ∙ ap (λ (end : Outcome). old.opens + end.opened) (sym did.1.2) in
           (ends-as before now old new name (Frames s) files (Ok grid) did.0 status found did.1 two did.2 left
           (λ complete. leaves did.0 complete (did.3 complete))).ends memory fault;
     }
 
     -- a read of the script failed
     pub script-fault : ((files : List NamedFile) → old.files ≡ Some files → grid_of (bytes_of files name) ≡ Ok grid)
-        → ((files : List NamedFile) → old.files ≡ Some files → StopsReading (ScriptHasCome before now s.show first_walk) (bytes_of files s.script) new.rest new.ended)
+        → ((files : List NamedFile) → old.files ≡ Some files →
+        StopsReading (ScriptHasCome before now s.show first_walk) (bytes_of files s.script) new.rest new.ended)
         → CommandReadFault before now old new (OnGrid name (Frames s))
     script-fault found stops = record {
       file = 1;
@@ -180,8 +208,12 @@ module _ (s : Scripted) (grid : HeightField) where
           let at = stops files told_files in
           let here = at.has_read.0 in
           let come = at.has_read.1 in
-          file-fault before now new (OnGrid name (Frames s)) files 1 s.script (shown_acts s.show 1 here.pictures) _ at refl
-          (grid, found files told_files, come-read before now s.show first_walk at.read here come s grid refl (λ bytes. refl)) come.stands;
+          file-fault before now new (OnGrid name (Frames s)) files 1 s.script
+          (shown_acts s.show 1 here.pictures) _ at refl (
+            grid,
+            found files told_files,
+            come-read before now s.show first_walk at.read here come s grid refl (λ bytes. refl),
+          ) come.stands;
     }
       where
         apart : ◌≡◌ {A = ℕ} 1 0 → ⊥

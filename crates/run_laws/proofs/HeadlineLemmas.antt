@@ -1,5 +1,6 @@
 -- The headline follows from what stands: each finished mesh is that of a frame line, in order, and is good.
-use Rattle.std.proofs.Common.{◌≡◌, ℕ, suc, ◌+◌, ◌≤◌, Bool, true, IsTrue, List, [], ◌∷◌, ◌++◌, length, Option, Some, None, IsSome, refl, sym, ◌∙◌, ap, subst, inl, inr, append-nil}
+use Rattle.std.proofs.Common.{◌≡◌, ℕ, suc, ◌+◌, ◌≤◌, Bool, true, IsTrue, List, [], ◌∷◌, ◌++◌, length, Option, Some}
+use Rattle.std.proofs.Common.{None, IsSome, refl, sym, ◌∙◌, ap, subst, inl, inr, append-nil}
 use Rattle.std.specs.List.{AllByRecursion}
 use Rattle.std.proofs.lemmas.List.Elements.{All-from_recursion}
 use Rattle.mesh_defs.specs.ClosedSet.{IsClosed, among, leaves_of}
@@ -14,7 +15,8 @@ use Rattle.roam_edge.specs.MeshSink.{WrittenMesh}
 use Rattle.obj_write.specs.Written.{mesh_with, IsPartOfMesh}
 use Rattle.run_laws.specs.declared.status.Status.{Status}
 use Rattle.run_laws.specs.Walk.{Refusal}
-use Rattle.word_laws.specs.Words.{Criterion, OfBudget, OfTolerance, TriangleOrder, DepthFirst, AlongStrip, Output, Meshes, Measures, Sums, Show, Scripted, prefix_of}
+use Rattle.word_laws.specs.Words.{Criterion, OfBudget, OfTolerance, TriangleOrder, DepthFirst, AlongStrip, Output}
+use Rattle.word_laws.specs.Words.{Meshes, Measures, Sums, Show, Scripted, prefix_of}
 use Rattle.run_laws.specs.Act.{Act, WholeMesh, ReportText, meshes_of, Told, Stands, StandsInPart, IsCutShort}
 use Rattle.run_laws.specs.Picture.{Picture, shown_triangles, IsLeastFrame, IsFrameFor, IsPicture, ArePictures}
 use Rattle.run_laws.specs.Outcome.{Outcome, picture_acts, shown_acts, sum_acts, stop_acts, script_walk, IsFramesOutcome}
@@ -36,11 +38,13 @@ pub record FramesAreBest : Type 0 where
   pub of_tolerance : LeastFramesAreLeast
 
 -- the mesh of a frame is good
-good-mesh : FramesAreBest → (criterion : Criterion) (state : State) (members : List ℕ) (worst : ℕ) (blocked : Option Blocked)
+good-mesh : FramesAreBest →
+    (criterion : Criterion) (state : State) (members : List ℕ) (worst : ℕ) (blocked : Option Blocked)
     → 2 ≤ state.budget → IsFrameFor criterion state members worst blocked
     → IsGoodMesh criterion state (leaves_of state.grid.n (among members))
 good-mesh best OfBudget state members worst blocked low frame = best.of_budget state members worst blocked low frame
-good-mesh best (OfTolerance tolerance) state members worst blocked low frame = best.of_tolerance tolerance state members worst blocked frame
+good-mesh best (OfTolerance tolerance) state members worst blocked low frame =
+    best.of_tolerance tolerance state members worst blocked frame
 
 -- its set is closed
 frame-closed : (criterion : Criterion) (state : State) (members : List ℕ) (worst : ℕ) (blocked : Option Blocked)
@@ -49,9 +53,11 @@ frame-closed OfBudget state members worst blocked frame = frame.closure.closure.
 frame-closed (OfTolerance tolerance) state members worst blocked frame = frame.closure.closed
 
 -- so the text of a picture is good, in each order of its triangles
-good-text : FramesAreBest → (criterion : Criterion) (order : TriangleOrder) (output : Output) (before : List ℕ) (state : State)
+good-text : FramesAreBest →
+    (criterion : Criterion) (order : TriangleOrder) (output : Output) (before : List ℕ) (state : State)
     (p : Picture) → 2 ≤ state.budget → IsPicture (show_of criterion order output) before state p
-    → IsGoodText (show_of criterion order output) state (text_in p.state (shown_triangles (show_of criterion order output) p))
+    → IsGoodText (show_of criterion order output) state
+    (text_in p.state (shown_triangles (show_of criterion order output) p))
 good-text best criterion DepthFirst output before state p low f = (
   leaves_of state.grid.n (among p.members),
   good-mesh best criterion state p.members p.worst p.blocked low f.frame,
@@ -72,58 +78,73 @@ good-text best criterion AlongStrip output before state p low f =
       ap (λ (s : State). text_in s (strip_of s.grid.n has)) f.of_state,
     )
 
-no-measures : (criterion : Criterion) (order : TriangleOrder) → IsSome (prefix_of (show_of criterion order Measures)) → ⊥
+no-measures : (criterion : Criterion) (order : TriangleOrder) →
+    IsSome (prefix_of (show_of criterion order Measures)) → ⊥
 no-measures criterion order is = cc
 
-no-sums : (criterion : Criterion) (order : TriangleOrder) (n seed : ℕ) → IsSome (prefix_of (show_of criterion order (Sums n seed))) → ⊥
+no-sums : (criterion : Criterion) (order : TriangleOrder) (n seed : ℕ) →
+    IsSome (prefix_of (show_of criterion order (Sums n seed))) → ⊥
 no-sums criterion order n seed is = cc
 
 -- a picture adds a good mesh
-one-good : FramesAreBest → (show : Show) (k : ℕ) (before : List ℕ) (state : State) (states : List State) (p : Picture) (acts : List Act) → IsSome (prefix_of show)
+one-good : FramesAreBest →
+    (show : Show) (k : ℕ) (before : List ℕ) (state : State) (states : List State) (p : Picture) (acts : List Act) →
+    IsSome (prefix_of show)
     → 2 ≤ state.budget → IsPicture show before state p → AreGoodFrames show (k + 1) states (meshes_of acts)
     → AreGoodFrames show k (state ∷ states) (meshes_of (picture_acts show k p ++ acts))
-one-good best show k before state states p acts some low f rest = by_parts show.criterion show.order show.output some f rest
+one-good best show k before state states p acts some low f rest =
+    by_parts show.criterion show.order show.output some f rest
   where
-    by_parts : (criterion : Criterion) (order : TriangleOrder) (output : Output) → IsSome (prefix_of (show_of criterion order output))
+    by_parts : (criterion : Criterion) (order : TriangleOrder) (output : Output) →
+        IsSome (prefix_of (show_of criterion order output))
         → IsPicture (show_of criterion order output) before state p
         → AreGoodFrames (show_of criterion order output) (k + 1) states (meshes_of acts)
         → AreGoodFrames (show_of criterion order output) k (state ∷ states)
         (meshes_of (picture_acts (show_of criterion order output) k p ++ acts))
     by_parts criterion order (Meshes prefix) some f rest = (
-      (λ finished. record { named = refl; numbered = refl; text = good-text best criterion order (Meshes prefix) before state p low f }),
+      (λ finished. record {
+        named = refl;
+        numbered = refl;
+        text = good-text best criterion order (Meshes prefix) before state p low f;
+      }),
       rest,
     )
     by_parts criterion order Measures some f rest = absurd (no-measures criterion order some)
     by_parts criterion order (Sums n seed) some f rest = absurd (no-sums criterion order n seed some)
 
 -- the meshes of frames are good
-good-meshes : FramesAreBest → (show : Show) (k n : ℕ) (before : List ℕ) (states : List State) (ps : List Picture) → IsSome (prefix_of show) → AreStates n states
+good-meshes : FramesAreBest → (show : Show) (k n : ℕ) (before : List ℕ) (states : List State) (ps : List Picture) →
+    IsSome (prefix_of show) → AreStates n states
     → ArePictures show before states ps → AreGoodFrames show k states (meshes_of (shown_acts show k ps))
 good-meshes best show k n before [] [] some low f = tt
 good-meshes best show k n before [] (p ∷ ps) some low f = absurd f
 good-meshes best show k n before (s ∷ states) [] some low f = absurd f
 good-meshes best show k n before (s ∷ states) (p ∷ ps) some low f =
-    one-good best show k before s states p (shown_acts show (k + 1) ps) some low.1 f.0 (good-meshes best show (k + 1) n p.members states ps some low.2 f.1)
+    one-good best show k before s states p (shown_acts show (k + 1) ps) some low.1 f.0
+    (good-meshes best show (k + 1) n p.members states ps some low.2 f.1)
 
 -- a picture adds one mesh
 one-count : (show : Show) (k : ℕ) (p : Picture) (acts : List Act) → IsSome (prefix_of show)
     → length (meshes_of (picture_acts show k p ++ acts)) ≡ suc (length (meshes_of acts))
 one-count show k p acts some = by_parts show.criterion show.order show.output some
   where
-    by_parts : (criterion : Criterion) (order : TriangleOrder) (output : Output) → IsSome (prefix_of (show_of criterion order output))
+    by_parts : (criterion : Criterion) (order : TriangleOrder) (output : Output) →
+        IsSome (prefix_of (show_of criterion order output))
         → length (meshes_of (picture_acts (show_of criterion order output) k p ++ acts)) ≡ suc (length (meshes_of acts))
     by_parts criterion order (Meshes prefix) some = refl
     by_parts criterion order Measures some = absurd (no-measures criterion order some)
     by_parts criterion order (Sums n seed) some = absurd (no-sums criterion order n seed some)
 
 -- one mesh a frame
-count-meshes : (show : Show) (k : ℕ) (before : List ℕ) (states : List State) (ps : List Picture) → IsSome (prefix_of show)
+count-meshes : (show : Show) (k : ℕ) (before : List ℕ) (states : List State) (ps : List Picture) →
+    IsSome (prefix_of show)
     → ArePictures show before states ps → length (meshes_of (shown_acts show k ps)) ≡ length states
 count-meshes show k before [] [] some f = refl
 count-meshes show k before [] (p ∷ ps) some f = absurd f
 count-meshes show k before (s ∷ states) [] some f = absurd f
 count-meshes show k before (s ∷ states) (p ∷ ps) some f =
-    one-count show k p (shown_acts show (k + 1) ps) some ∙ ap suc (count-meshes show (k + 1) p.members states ps some f.1)
+    one-count show k p (shown_acts show (k + 1) ps) some
+    ∙ ap suc (count-meshes show (k + 1) p.members states ps some f.1)
 
 -- all are finished
 finished-meshes : (acts : List Act) → AllByRecursion (λ (mesh : WrittenMesh). mesh.finished ≡ true) (meshes_of acts)
@@ -136,7 +157,8 @@ no-mesh-stop None = refl
 no-mesh-stop (Some refusal) = refl
 
 -- what follows the frames adds no mesh
-no-mesh-sum : (show : Show) (ps : List Picture) (stop : Option Refusal) → meshes_of (sum_acts show ps ++ stop_acts stop) ≡ []
+no-mesh-sum : (show : Show) (ps : List Picture) (stop : Option Refusal) →
+    meshes_of (sum_acts show ps ++ stop_acts stop) ≡ []
 no-mesh-sum show ps stop = by_parts show.criterion show.order show.output
   where
     by_parts : (criterion : Criterion) (order : TriangleOrder) (output : Output)
@@ -149,23 +171,28 @@ outcome-meshes : (show : Show) (ps : List Picture) (stop : Option Refusal)
     → meshes_of (shown_acts show 1 ps ++ (sum_acts show ps ++ stop_acts stop)) ≡ meshes_of (shown_acts show 1 ps)
 outcome-meshes show ps stop =
     meshes_of-append (shown_acts show 1 ps) (sum_acts show ps ++ stop_acts stop)
-    ∙ (ap (λ (l : List WrittenMesh). meshes_of (shown_acts show 1 ps) ++ l) (no-mesh-sum show ps stop) ∙ append-nil (meshes_of (shown_acts show 1 ps)))
+    ∙ (ap (λ (l : List WrittenMesh). meshes_of (shown_acts show 1 ps) ++ l) (no-mesh-sum show ps stop)
+    ∙ append-nil (meshes_of (shown_acts show 1 ps)))
 
 -- the first of good frames
-frames-first : (show : Show) (k : ℕ) (states : List State) (xs ys : List WrittenMesh) → AreGoodFrames show k states (xs ++ ys) → AreGoodFrames show k states xs
+frames-first : (show : Show) (k : ℕ) (states : List State) (xs ys : List WrittenMesh) →
+    AreGoodFrames show k states (xs ++ ys) → AreGoodFrames show k states xs
 frames-first show k states [] ys frames = tt
 frames-first show k [] (mesh ∷ xs) ys frames = absurd frames
 frames-first show k (s ∷ states) (mesh ∷ xs) ys frames = (frames.0, frames-first show (k + 1) states xs ys frames.1)
 
 -- good frames of the first of some states
-frames-more : (show : Show) (k : ℕ) (ss ts : List State) (xs : List WrittenMesh) → AreGoodFrames show k ss xs → AreGoodFrames show k (ss ++ ts) xs
+frames-more : (show : Show) (k : ℕ) (ss ts : List State) (xs : List WrittenMesh) → AreGoodFrames show k ss xs →
+    AreGoodFrames show k (ss ++ ts) xs
 frames-more show k ss ts [] frames = tt
 frames-more show k [] ts (mesh ∷ xs) frames = absurd frames
 frames-more show k (s ∷ ss) ts (mesh ∷ xs) frames = (frames.0, frames-more show (k + 1) ss ts xs frames.1)
 
 -- a mesh of good frames in part
-frames-part : (show : Show) (k : ℕ) (states : List State) (xs part more : List WrittenMesh) (prefix : List ℕ) (count : ℕ) (bytes : List ℕ)
-    → AreGoodFrames show k states (xs ++ (mesh_with prefix count bytes true ∷ more)) → IsPartOfMesh prefix count bytes part
+frames-part : (show : Show) (k : ℕ) (states : List State) (xs part more : List WrittenMesh) (prefix : List ℕ)
+    (count : ℕ) (bytes : List ℕ)
+    → AreGoodFrames show k states (xs ++ (mesh_with prefix count bytes true ∷ more)) →
+    IsPartOfMesh prefix count bytes part
     → AreGoodFrames show k states (xs ++ part)
 frames-part show k [] [] part more prefix count bytes frames is = absurd frames
 frames-part show k (s ∷ states) [] part more prefix count bytes frames (inl none) =
@@ -178,10 +205,12 @@ frames-part show k [] (mesh ∷ xs) part more prefix count bytes frames is = abs
 frames-part show k (s ∷ states) (mesh ∷ xs) part more prefix count bytes frames is =
     (frames.0, frames-part show (k + 1) states xs part more prefix count bytes frames.1 is)
 
-module _ (best : FramesAreBest) (two : BudgetsAreTwo) (s : Scripted) (grid : HeightField) (script : List ℕ) (some : IsSome (prefix_of s.show)) (low : 2 ≤ s.budget)
+module _ (best : FramesAreBest) (two : BudgetsAreTwo) (s : Scripted) (grid : HeightField) (script : List ℕ)
+    (some : IsSome (prefix_of s.show)) (low : 2 ≤ s.budget)
     (before now : Told) (all : List WrittenMesh) (there : before.meshes ≡ Some all) (status : Status) where
   -- the headline of a run that did all of its outcome
-  pub complete-keeps : (end : Outcome) → IsFramesOutcome s.show 2 (script_walk s grid script) end → Stands before now end.acts → KeepsGoodMeshes s grid script all now.meshes status
+  pub complete-keeps : (end : Outcome) → IsFramesOutcome s.show 2 (script_walk s grid script) end →
+      Stands before now end.acts → KeepsGoodMeshes s grid script all now.meshes status
   complete-keeps end is stands =
       let ps : List Picture = is.0 in
       let same : meshes_of end.acts ≡ meshes_of (shown_acts s.show 1 ps) =
@@ -189,33 +218,39 @@ module _ (best : FramesAreBest) (two : BudgetsAreTwo) (s : Scripted) (grid : Hei
       record {
         added = meshes_of (shown_acts s.show 1 ps);
         behind = stands.meshes_grow all there ∙ ap (λ (l : List WrittenMesh). Some (all ++ l)) same;
-        frames = good-meshes best s.show 1 grid.n [] (script_walk s grid script).frames ps some (script-states two s grid script low) is.1;
+        frames = good-meshes best s.show 1 grid.n [] (script_walk s grid script).frames ps some
+            (script-states two s grid script low) is.1;
         all_frames = λ ends. count-meshes s.show 1 [] (script_walk s grid script).frames ps some is.1;
-        all_finished = λ ends. All-from_recursion (λ (mesh : WrittenMesh). mesh.finished ≡ true) (meshes_of (shown_acts s.show 1 ps)) (finished-meshes (shown_acts s.show 1 ps));
+        all_finished = λ ends. All-from_recursion (λ (mesh : WrittenMesh). mesh.finished ≡ true)
+            (meshes_of (shown_acts s.show 1 ps)) (finished-meshes (shown_acts s.show 1 ps));
       }
 
   module _ (unfinished : IsTrue (ends_script status) → ⊥) where
     -- the headline of a run of which the frames of the first lines stand
-    pub first-keeps : (firsts more : List State) (ps : List Picture) → (script_walk s grid script).frames ≡ firsts ++ more
+    pub first-keeps : (firsts more : List State) (ps : List Picture) →
+        (script_walk s grid script).frames ≡ firsts ++ more
         → AreStates grid.n firsts → ArePictures s.show [] firsts ps
         → Stands before now (shown_acts s.show 1 ps) → KeepsGoodMeshes s grid script all now.meshes status
     first-keeps firsts more ps cut are shown stands = record {
       added = meshes_of (shown_acts s.show 1 ps);
       behind = stands.meshes_grow all there;
       frames = (let P : List State → Type 0 = λ l. AreGoodFrames s.show 1 l (meshes_of (shown_acts s.show 1 ps)) in
-          subst P (sym cut) (frames-more s.show 1 firsts more (meshes_of (shown_acts s.show 1 ps)) (good-meshes best s.show 1 grid.n [] firsts ps some are shown)));
+          subst P (sym cut) (frames-more s.show 1 firsts more (meshes_of (shown_acts s.show 1 ps))
+          (good-meshes best s.show 1 grid.n [] firsts ps some are shown)));
       all_frames = λ ends. absurd (unfinished ends);
       all_finished = λ ends. absurd (unfinished ends);
     }
 
-    part-keeps : (done : List Act) (next : Act) (owed : List Act) → AreGoodFrames s.show 1 (script_walk s grid script).frames (meshes_of done ++ meshes_of (next ∷ owed))
+    part-keeps : (done : List Act) (next : Act) (owed : List Act) →
+        AreGoodFrames s.show 1 (script_walk s grid script).frames (meshes_of done ++ meshes_of (next ∷ owed))
         → StandsInPart before now done next → KeepsGoodMeshes s grid script all now.meshes status
     part-keeps done (WholeMesh prefix number bytes) owed good standing =
         let part = standing.0 all there in
         record {
           added = meshes_of done ++ part.0;
           behind = part.2;
-          frames = frames-part s.show 1 (script_walk s grid script).frames (meshes_of done) part.0 (meshes_of owed) prefix number bytes good part.1;
+          frames = frames-part s.show 1 (script_walk s grid script).frames (meshes_of done) part.0
+              (meshes_of owed) prefix number bytes good part.1;
           all_frames = λ ends. absurd (unfinished ends);
           all_finished = λ ends. absurd (unfinished ends);
         }
@@ -228,10 +263,12 @@ module _ (best : FramesAreBest) (two : BudgetsAreTwo) (s : Scripted) (grid : Hei
     }
 
     -- the headline of a run that was cut short
-    pub cut-keeps : (end : Outcome) → IsFramesOutcome s.show 2 (script_walk s grid script) end → IsCutShort before now end.acts → KeepsGoodMeshes s grid script all now.meshes status
+    pub cut-keeps : (end : Outcome) → IsFramesOutcome s.show 2 (script_walk s grid script) end →
+        IsCutShort before now end.acts → KeepsGoodMeshes s grid script all now.meshes status
     cut-keeps end is cut =
         let ps : List Picture = is.0 in
-        let good = good-meshes best s.show 1 grid.n [] (script_walk s grid script).frames ps some (script-states two s grid script low) is.1 in
+        let good = good-meshes best s.show 1 grid.n [] (script_walk s grid script).frames ps some
+        (script-states two s grid script low) is.1 in
         let same : meshes_of (shown_acts s.show 1 ps) ≡ meshes_of cut.done ++ meshes_of (cut.next ∷ cut.owed) =
         sym (ap (λ (o : Outcome). meshes_of o.acts) is.2 ∙ outcome-meshes s.show ps (script_walk s grid script).stop)
         ∙ (ap meshes_of cut.in_order ∙ meshes_of-append cut.done (cut.next ∷ cut.owed)) in

@@ -20,7 +20,8 @@ no_end-append (x ∷ part) byte one other = (one.0, no_end-append part byte one.
 
 -- a byte other than LF goes onto the first line
 pub lines_of-byte : (byte : ℕ) (bytes : List ℕ) → byte ≢ 10 → lines_of (byte ∷ bytes) ≡ onto_first byte (lines_of bytes)
-lines_of-byte byte bytes other = cond-false _ ([] ∷ lines_of bytes) (onto_first byte (lines_of bytes)) (ne_eqb byte 10 other)
+lines_of-byte byte bytes other =
+    cond-false _ ([] ∷ lines_of bytes) (onto_first byte (lines_of bytes)) (ne_eqb byte 10 other)
 
 -- a line ends at its LF
 pub lines_of-ends : (part more : List ℕ) → NoEnd part → lines_of (part ++ 10 ∷ more) ≡ part ∷ lines_of more
@@ -43,7 +44,8 @@ onto-BeginsWith byte [] = ([], [], refl)
 onto-BeginsWith byte (line ∷ lines) = (line, lines, refl)
 
 -- bytes without an LF begin the first line, whatever follows
-pub lines_of-begins : (byte : ℕ) (part more : List ℕ) → NoEnd (byte ∷ part) → BeginsWith (byte ∷ part) (lines_of (byte ∷ (part ++ more)))
+pub lines_of-begins : (byte : ℕ) (part more : List ℕ) → NoEnd (byte ∷ part) →
+    BeginsWith (byte ∷ part) (lines_of (byte ∷ (part ++ more)))
 lines_of-begins byte [] more none =
     let P : List (List ℕ) → Type 0 = λ lines. BeginsWith (byte ∷ []) lines in
     let e = lines_of-byte byte more none.0 in

@@ -1,5 +1,7 @@
 -- Outcomes: there is one, it exists, what is accepted ends with Done, and its pictures are certified.
-use Rattle.std.proofs.Common.{◌≡◌, ℕ, ◌≤◌, ◌&&◌, Bool, true, false, nat_le, if◌then◌else◌, ◌⊎◌, IsTrue, is_some, List, [], ◌∷◌, All, Option, Some, None, IfSome, Result, Ok, Err, refl, sym, ◌∙◌, ap, subst, arith, inl, inr, codes, bytes_eq, length, ◌^◌, ℤ}
+use Rattle.std.proofs.Common.{◌≡◌, ℕ, ◌≤◌, ◌&&◌, Bool, true, false, nat_le, if◌then◌else◌, ◌⊎◌, IsTrue, is_some, List}
+use Rattle.std.proofs.Common.{[], ◌∷◌, All, Option, Some, None, IfSome, Result, Ok, Err, refl, sym, ◌∙◌, ap, subst}
+use Rattle.std.proofs.Common.{arith, inl, inr, codes, bytes_eq, length, ◌^◌, ℤ}
 use Rattle.std.specs.Prelude.{unsigned_abs}
 use Rattle.std.specs.List.{AllByRecursion}
 use Rattle.std.specs.Option.{option_map}
@@ -19,18 +21,30 @@ use Rattle.cert_text.specs.Certificate.{Certificate}
 use Rattle.roam_gen.specs.Generated.{made_grid, made_lines}
 use Rattle.run_laws.specs.declared.status.Status.TheVariants.{Done, Usage, GridRefused}
 use Rattle.run_laws.specs.Walk.{Walk, start_walk}
-use Rattle.word_laws.specs.Words.{Show, as_meshes, as_strips, as_least, as_measures, as_sums, is_of_engine, Scripted, Making, Target, AtError, InBudget, Job, Frames, Facts, Make, Check, Fit, MakeFit, CheckFit, fit_make_command, fit_check_command, Command, OnGrid, Generated, greatest_level, greatest_seed, number_word, try_command, within, least_budget, greatest_budget, is_coordinate, budget_word, spacing_word, tolerance_word, is_prefix, in_reach, coordinate_word, camera_word, frames_command, least_command, meshes_command, make_command, check_command, error_word, target_word, fit_command, fit_words, command_of}
+use Rattle.word_laws.specs.Words.{Show, as_meshes, as_strips, as_least, as_measures, as_sums, is_of_engine, Scripted}
+use Rattle.word_laws.specs.Words.{Making, Target, AtError, InBudget, Job, Frames, Facts, Make, Check, Fit, MakeFit}
+use Rattle.word_laws.specs.Words.{CheckFit, fit_make_command, fit_check_command, Command, OnGrid, Generated}
+use Rattle.word_laws.specs.Words.{greatest_level, greatest_seed, number_word, try_command, within, least_budget}
+use Rattle.word_laws.specs.Words.{greatest_budget, is_coordinate, budget_word, spacing_word, tolerance_word, is_prefix}
+use Rattle.word_laws.specs.Words.{in_reach, coordinate_word, camera_word, frames_command, least_command, meshes_command}
+use Rattle.word_laws.specs.Words.{make_command, check_command, error_word, target_word, fit_command, fit_words}
+use Rattle.word_laws.specs.Words.{command_of}
 use Rattle.fit_certificate_laws.specs.Certificate.{FitCertificate}
 use Rattle.run_laws.specs.CertFile.{cert_in, fit_cert_in}
 use Rattle.run_laws.specs.Picture.{Picture, ArePictures, IsCertified}
 use Rattle.run_laws.specs.ReportText.{info_line, grid_refusal}
-use Rattle.run_laws.specs.Outcome.{Outcome, plain_outcome, text_outcome, stop_status, engine_end, engine_for, frames_outcome, script_walk, made_budget, made_spacing, made_walk, MakesNoCertificate, IsFramesOutcome, IsCheckOutcome, IsFitCheckOutcome, IsJobOutcome, IsGridOutcome, IsCommandOutcome, IsWordsOutcome, IsOutcome}
+use Rattle.run_laws.specs.Outcome.{Outcome, plain_outcome, text_outcome, stop_status, engine_end, engine_for}
+use Rattle.run_laws.specs.Outcome.{frames_outcome, script_walk, made_budget, made_spacing, made_walk}
+use Rattle.run_laws.specs.Outcome.{MakesNoCertificate, IsFramesOutcome, IsCheckOutcome, IsFitCheckOutcome, IsJobOutcome}
+use Rattle.run_laws.specs.Outcome.{IsGridOutcome, IsCommandOutcome, IsWordsOutcome, IsOutcome}
 use Rattle.run_laws.specs.Promise.{IsAcceptedJob, IsAcceptedInput, IsAccepted}
 use Rattle.run_laws.specs.Laws.{FramesExist, RunsAreUnique, LevelsAreInRange, AreStates, BudgetsAreTwo}
 use Rattle.run_laws.proofs.PictureLemmas.{FramesAreUnique, SetsAreLists, ArePictures-unique, pictures_of, no-members}
-use Rattle.run_laws.proofs.CertifyLemmas.{IsOneText, make-text, check-text, check-unique, check-exists, check-done, CertificatesExist, make-exists}
+use Rattle.run_laws.proofs.CertifyLemmas.{IsOneText, make-text, check-text, check-unique, check-exists, check-done}
+use Rattle.run_laws.proofs.CertifyLemmas.{CertificatesExist, make-exists}
 use Rattle.run_laws.proofs.FitLemmas.{TakesTwo, fit-unique, fit-exists}
-use Rattle.run_laws.proofs.FitCertifyLemmas.{fit_make-text, fit_check-text, fit_check-unique, fit_check-exists, fit_check-done, fit_make-exists}
+use Rattle.run_laws.proofs.FitCertifyLemmas.{fit_make-text, fit_check-text, fit_check-unique, fit_check-exists}
+use Rattle.run_laws.proofs.FitCertifyLemmas.{fit_check-done, fit_make-exists}
 use Rattle.run_laws.proofs.WalkLemmas.{walk_of-states, made-states, along-stop}
 
 -- what is accepted ends with Done
@@ -38,7 +52,8 @@ use Rattle.run_laws.proofs.WalkLemmas.{walk_of-states, made-states, along-stop}
 status-of : (end made : Outcome) → end ≡ made → end.status ≡ made.status
 status-of end made e = ap (λ (o : Outcome). o.status) e
 
-job-done : (job : Job) (grid : HeightField) (files : List NamedFile) (end : Outcome) → IsAcceptedJob job grid files → IsJobOutcome job grid files end → end.status ≡ Done
+job-done : (job : Job) (grid : HeightField) (files : List NamedFile) (end : Outcome) → IsAcceptedJob job grid files →
+    IsJobOutcome job grid files end → end.status ≡ Done
 job-done (Frames s) grid files end good is = status-of end _ is.2 ∙ ap stop_status good
 job-done Facts grid files end good is = status-of end _ is
 job-done (Make m) grid files end good is = status-of end _ is.2
@@ -51,14 +66,17 @@ job-done (CheckFit c) grid files end good is =
     let P : Result FitCertificate ℕ → Type 0 = λ r. IsFitCheckOutcome c grid r (bytes_of files c.mesh) end in
     fit_check-done c grid good.0 good.1 (bytes_of files c.mesh) end good.3 good.4 (subst P good.2 is)
 
-command-done : TextsAreRead → (command : Command) (files : List NamedFile) (end : Outcome) → IsAcceptedInput command files → IsCommandOutcome command files end → end.status ≡ Done
+command-done : TextsAreRead → (command : Command) (files : List NamedFile) (end : Outcome) →
+    IsAcceptedInput command files → IsCommandOutcome command files end → end.status ≡ Done
 command-done read (OnGrid name job) files end good is =
     let P : Result HeightField PgmFault → Type 0 = λ r. IsGridOutcome job r files end in
     job-done job good.0 files end good.3 (subst P (read good.0 (bytes_of files name) good.1 good.2) is)
 command-done read (Generated n seed) files end good is =
-    status-of end _ is.2 ∙ ap stop_status (along-stop (start_walk made_budget (start_state (made_grid n seed) made_spacing made_budget)) (made_lines n seed))
+    status-of end _ is.2 ∙ ap stop_status (along-stop
+    (start_walk made_budget (start_state (made_grid n seed) made_spacing made_budget)) (made_lines n seed))
 
-pub outcome-done : TextsAreRead → (words : List (List ℕ)) (files : List NamedFile) (end : Outcome) → IsAccepted words files → IsOutcome words files end → end.status ≡ Done
+pub outcome-done : TextsAreRead → (words : List (List ℕ)) (files : List NamedFile) (end : Outcome) →
+    IsAccepted words files → IsOutcome words files end → end.status ≡ Done
 unfolding IsOutcome
 outcome-done read words files end good is =
     let P : Option Command → Type 0 = λ c. IsWordsOutcome c files end in
@@ -66,17 +84,21 @@ outcome-done read words files end good is =
 
 -- there is one outcome
 
-pub frames_outcome-unique : FramesAreUnique → SetsAreLists → RunsAreUnique → (show : Show) (files : ℕ) (walk : Walk) (end other : Outcome)
+pub frames_outcome-unique : FramesAreUnique → SetsAreLists → RunsAreUnique →
+    (show : Show) (files : ℕ) (walk : Walk) (end other : Outcome)
     → IsFramesOutcome show files walk end → IsFramesOutcome show files walk other → end ≡ other
 frames_outcome-unique one lists runs show files walk end other f g =
-    f.2 ∙ (ap (λ (ps : List Picture). frames_outcome show files walk ps) (ArePictures-unique one lists runs show [] walk.frames f.0 g.0 f.1 g.1) ∙ sym g.2)
+    f.2 ∙ (ap (λ (ps : List Picture). frames_outcome show files walk ps)
+    (ArePictures-unique one lists runs show [] walk.frames f.0 g.0 f.1 g.1) ∙ sym g.2)
 
 abbrev free-job : Job → Type 0
 free-job job = MakesNoCertificate (Some (OnGrid [] job))
 
-job-unique : FramesAreUnique → SetsAreLists → RunsAreUnique → (job : Job) (r : Result HeightField PgmFault) (files : List NamedFile) (end other : Outcome)
+job-unique : FramesAreUnique → SetsAreLists → RunsAreUnique →
+    (job : Job) (r : Result HeightField PgmFault) (files : List NamedFile) (end other : Outcome)
     → free-job job → IsGridOutcome job r files end → IsGridOutcome job r files other → end ≡ other
-job-unique one lists runs (Frames s) (Ok grid) files end other free f g = frames_outcome-unique one lists runs s.show 2 (script_walk s grid (bytes_of files s.script)) end other f g
+job-unique one lists runs (Frames s) (Ok grid) files end other free f g =
+    frames_outcome-unique one lists runs s.show 2 (script_walk s grid (bytes_of files s.script)) end other f g
 job-unique one lists runs Facts (Ok grid) files end other free f g = f ∙ sym g
 job-unique one lists runs (Make m) (Ok grid) files end other free f g = absurd free
 job-unique one lists runs (Check c) (Ok grid) files end other free f g =
@@ -93,56 +115,72 @@ job-unique one lists runs (Fit job) (Err fault) files end other free f g = f ∙
 job-unique one lists runs (MakeFit m) (Err fault) files end other free f g = f ∙ sym g
 job-unique one lists runs (CheckFit c) (Err fault) files end other free f g = f ∙ sym g
 
-words-unique : FramesAreUnique → SetsAreLists → RunsAreUnique → (command : Option Command) (files : List NamedFile) (end other : Outcome)
+words-unique : FramesAreUnique → SetsAreLists → RunsAreUnique →
+    (command : Option Command) (files : List NamedFile) (end other : Outcome)
     → MakesNoCertificate command → IsWordsOutcome command files end → IsWordsOutcome command files other → end ≡ other
 words-unique one lists runs None files end other free f g = f ∙ sym g
-words-unique one lists runs (Some (OnGrid name job)) files end other free f g = job-unique one lists runs job (grid_of (bytes_of files name)) files end other free f g
+words-unique one lists runs (Some (OnGrid name job)) files end other free f g =
+    job-unique one lists runs job (grid_of (bytes_of files name)) files end other free f g
 words-unique one lists runs (Some (Generated n seed)) files end other free f g =
     frames_outcome-unique one lists runs (as_sums n seed) 0 (made_walk n seed) end other f g
 
-pub outcome-unique : FramesAreUnique → SetsAreLists → RunsAreUnique → (words : List (List ℕ)) (files : List NamedFile) (end other : Outcome) → MakesNoCertificate (command_of words)
+pub outcome-unique : FramesAreUnique → SetsAreLists → RunsAreUnique →
+    (words : List (List ℕ)) (files : List NamedFile) (end other : Outcome) → MakesNoCertificate (command_of words)
     → IsOutcome words files end → IsOutcome words files other → end ≡ other
 unfolding IsOutcome
-outcome-unique one lists runs words files end other free f g = words-unique one lists runs (command_of words) files end other free f g
+outcome-unique one lists runs words files end other free f g =
+    words-unique one lists runs (command_of words) files end other free f g
 
 -- and one engine, where there are several outcomes too
 
 engine-of : (end other : Outcome) → end ≡ other → end.engine ≡ other.engine
 engine-of end other same = ap (λ (o : Outcome). o.engine) same
 
-job-engine : FramesAreUnique → SetsAreLists → RunsAreUnique → (job : Job) (r : Result HeightField PgmFault) (files : List NamedFile) (end other : Outcome)
+job-engine : FramesAreUnique → SetsAreLists → RunsAreUnique →
+    (job : Job) (r : Result HeightField PgmFault) (files : List NamedFile) (end other : Outcome)
     → IsGridOutcome job r files end → IsGridOutcome job r files other → end.engine ≡ other.engine
-job-engine one lists runs (Frames s) r files end other f g = engine-of end other (job-unique one lists runs (Frames s) r files end other tt f g)
-job-engine one lists runs Facts r files end other f g = engine-of end other (job-unique one lists runs Facts r files end other tt f g)
+job-engine one lists runs (Frames s) r files end other f g =
+    engine-of end other (job-unique one lists runs (Frames s) r files end other tt f g)
+job-engine one lists runs Facts r files end other f g =
+    engine-of end other (job-unique one lists runs Facts r files end other tt f g)
 job-engine one lists runs (Make m) (Ok grid) files end other f g = engine-of end _ f.2 ∙ sym (engine-of other _ g.2)
 job-engine one lists runs (Make m) (Err fault) files end other f g = engine-of end other (f ∙ sym g)
-job-engine one lists runs (Check c) r files end other f g = engine-of end other (job-unique one lists runs (Check c) r files end other tt f g)
-job-engine one lists runs (Fit job) r files end other f g = engine-of end other (job-unique one lists runs (Fit job) r files end other tt f g)
+job-engine one lists runs (Check c) r files end other f g =
+    engine-of end other (job-unique one lists runs (Check c) r files end other tt f g)
+job-engine one lists runs (Fit job) r files end other f g =
+    engine-of end other (job-unique one lists runs (Fit job) r files end other tt f g)
 job-engine one lists runs (MakeFit m) (Ok grid) files end other f g = engine-of end _ f.2 ∙ sym (engine-of other _ g.2)
 job-engine one lists runs (MakeFit m) (Err fault) files end other f g = engine-of end other (f ∙ sym g)
-job-engine one lists runs (CheckFit c) r files end other f g = engine-of end other (job-unique one lists runs (CheckFit c) r files end other tt f g)
+job-engine one lists runs (CheckFit c) r files end other f g =
+    engine-of end other (job-unique one lists runs (CheckFit c) r files end other tt f g)
 
-words-engine : FramesAreUnique → SetsAreLists → RunsAreUnique → (command : Option Command) (files : List NamedFile) (end other : Outcome)
+words-engine : FramesAreUnique → SetsAreLists → RunsAreUnique →
+    (command : Option Command) (files : List NamedFile) (end other : Outcome)
     → IsWordsOutcome command files end → IsWordsOutcome command files other → end.engine ≡ other.engine
 words-engine one lists runs None files end other f g = engine-of end other (f ∙ sym g)
-words-engine one lists runs (Some (OnGrid name job)) files end other f g = job-engine one lists runs job (grid_of (bytes_of files name)) files end other f g
+words-engine one lists runs (Some (OnGrid name job)) files end other f g =
+    job-engine one lists runs job (grid_of (bytes_of files name)) files end other f g
 words-engine one lists runs (Some (Generated n seed)) files end other f g =
     engine-of end other (words-unique one lists runs (Some (Generated n seed)) files end other tt f g)
 
-pub outcome-engine : FramesAreUnique → SetsAreLists → RunsAreUnique → (words : List (List ℕ)) (files : List NamedFile) (end other : Outcome)
+pub outcome-engine : FramesAreUnique → SetsAreLists → RunsAreUnique →
+    (words : List (List ℕ)) (files : List NamedFile) (end other : Outcome)
     → IsOutcome words files end → IsOutcome words files other → end.engine ≡ other.engine
 unfolding IsOutcome
-outcome-engine one lists runs words files end other f g = words-engine one lists runs (command_of words) files end other f g
+outcome-engine one lists runs words files end other f g =
+    words-engine one lists runs (command_of words) files end other f g
 
 -- the budget of a command is at least 2, and a generated grid has a level
 
 -- a value that stands behind a test, which was met
-met : {A : Type 0} (test : Bool) (there : Option A) (found : A) → (if test then there else None) ≡ Some found → there ≡ Some found
+met : {A : Type 0} (test : Bool) (there : Option A) (found : A) →
+    (if test then there else None) ≡ Some found → there ≡ Some found
 met true there found is = is
 met false there found is = absurd (none-some found is)
 
 -- a value that stands behind a test, or in its other branch
-either : {A : Type 0} (test : Bool) (there other : Option A) (found : A) → (if test then there else other) ≡ Some found → (there ≡ Some found) ⊎ (other ≡ Some found)
+either : {A : Type 0} (test : Bool) (there other : Option A) (found : A) →
+    (if test then there else other) ≡ Some found → (there ≡ Some found) ⊎ (other ≡ Some found)
 either true there other found is = inl is
 either false there other found is = inr is
 
@@ -158,12 +196,14 @@ within-low low high number (Some found) is =
     ]
 
 -- a choice of none
-no-second : (first : Bool) (found number : ℕ) → (if first && false then Some found else None) ≡ Some number → (if first then None else None) ≡ Some number
+no-second : (first : Bool) (found number : ℕ) → (if first && false then Some found else None) ≡ Some number →
+    (if first then None else None) ≡ Some number
 no-second true found number is = is
 no-second false found number is = is
 
 -- and at most the greater one
-within-range : (low high number : ℕ) (from : Option ℕ) → within low high from ≡ Some number → (low ≤ number) × (number ≤ high)
+within-range : (low high number : ℕ) (from : Option ℕ) → within low high from ≡ Some number →
+    (low ≤ number) × (number ≤ high)
 within-range low high number None is = absurd (none-some number is)
 within-range low high number (Some found) is =
     let P : Option ℕ → Type 0 = λ o. IfSome o (λ k. (low ≤ k) × (k ≤ high)) in
@@ -172,7 +212,8 @@ within-range low high number (Some found) is =
     elim (leb_tells low found) [
       | inl p ↦ elim (leb_tells found high) [
         | inl q ↦ subst P (met (nat_le low found && nat_le found high) (Some found) number is) (p.1, q.1)
-        | inr q ↦ absurd (none-some number (met (nat_le low found) None number (no-second (nat_le low found) found number (subst R q.0 is))))
+        | inr q ↦ absurd (none-some number
+            (met (nat_le low found) None number (no-second (nat_le low found) found number (subst R q.0 is))))
       ]
       | inr p ↦ absurd (none-some number (subst Q p.0 is))
     ]
@@ -199,7 +240,8 @@ abbrev CommandHasBudget : Command → Type 0
 CommandHasBudget (OnGrid name job) = HasBudget job
 CommandHasBudget (Generated n seed) = (1 ≤ n) × (n ≤ 11)
 
-frames_command-budget : (i j : List ℕ) (show : Show) (budget spacing : Option ℕ) (command : Command) → ((number : ℕ) → budget ≡ Some number → 2 ≤ number)
+frames_command-budget : (i j : List ℕ) (show : Show) (budget spacing : Option ℕ) (command : Command) →
+    ((number : ℕ) → budget ≡ Some number → 2 ≤ number)
     → frames_command i j show budget spacing ≡ Some command → CommandHasBudget command
 frames_command-budget i j show None spacing command low is = absurd (none-some command is)
 frames_command-budget i j show (Some budget) None command low is = absurd (none-some command is)
@@ -211,17 +253,20 @@ frames_command-budget i j show (Some budget) (Some spacing) command low is =
 budget_word-low : (word : List ℕ) (number : ℕ) → budget_word word ≡ Some number → 2 ≤ number
 budget_word-low word number found = within-low least_budget greatest_budget number (number_in 19 word) found
 
-least_command-budget : (i j k : List ℕ) (tolerance spacing : Option ℕ) (command : Command) → least_command i j k tolerance spacing ≡ Some command → CommandHasBudget command
+least_command-budget : (i j k : List ℕ) (tolerance spacing : Option ℕ) (command : Command) →
+    least_command i j k tolerance spacing ≡ Some command → CommandHasBudget command
 least_command-budget i j k None spacing command is = absurd (none-some command is)
 least_command-budget i j k (Some tolerance) spacing command is =
-    frames_command-budget i j (as_least k tolerance) (Some greatest_budget) spacing command (λ number same. budget-two number same) is
+    frames_command-budget i j (as_least k tolerance) (Some greatest_budget) spacing command
+    (λ number same. budget-two number same) is
   where
     budget-two : (number : ℕ) → Some greatest_budget ≡ Some number → 2 ≤ number
     budget-two number same =
         let P : Option ℕ → Type 0 = λ o. IfSome o (λ k. 2 ≤ k) in
         subst P same (omega arith)
 
-meshes_command-budget : (word i j k l m : List ℕ) (command : Command) → meshes_command word i j k l m ≡ Some command → CommandHasBudget command
+meshes_command-budget : (word i j k l m : List ℕ) (command : Command) → meshes_command word i j k l m ≡ Some command →
+    CommandHasBudget command
 meshes_command-budget word i j k l m command is =
     let least : Option Command = least_command i j k (tolerance_word l) (spacing_word m) in
     let behind : Option Command = if bytes_eq word (codes "least") then least else None in
@@ -231,11 +276,13 @@ meshes_command-budget word i j k l m command is =
       | inl p ↦ frames_command-budget i j (as_meshes k) (budget_word l) (spacing_word m) command (budget_word-low l) p
       | inr p ↦ elim (either (bytes_eq word (codes "strip")) strip behind command p) [
         | inl q ↦ frames_command-budget i j (as_strips k) (budget_word l) (spacing_word m) command (budget_word-low l) q
-        | inr q ↦ least_command-budget i j k (tolerance_word l) (spacing_word m) command (met (bytes_eq word (codes "least")) least command q)
+        | inr q ↦ least_command-budget i j k (tolerance_word l) (spacing_word m) command
+            (met (bytes_eq word (codes "least")) least command q)
       ]
     ]
 
-try_command-budget : (n seed : Option ℕ) (command : Command) → ((number : ℕ) → n ≡ Some number → (1 ≤ number) × (number ≤ 11))
+try_command-budget : (n seed : Option ℕ) (command : Command) →
+    ((number : ℕ) → n ≡ Some number → (1 ≤ number) × (number ≤ 11))
     → try_command n seed ≡ Some command → CommandHasBudget command
 try_command-budget None seed command range is = absurd (none-some command is)
 try_command-budget (Some n) None command range is = absurd (none-some command is)
@@ -268,20 +315,23 @@ in_reach-near (Some found) v is =
 abbrev IsNear : Option ℤ → Type 0
 IsNear coordinate = (v : ℤ) → coordinate ≡ Some v → unsigned_abs v ≤ 2 ^ 30
 
-make_command-budget : (i : List ℕ) (x y z : Option ℤ) (budget spacing : Option ℕ) (command : Command) → IsNear x → IsNear y → IsNear z
+make_command-budget : (i : List ℕ) (x y z : Option ℤ) (budget spacing : Option ℕ) (command : Command) →
+    IsNear x → IsNear y → IsNear z
     → ((number : ℕ) → budget ≡ Some number → (least_budget ≤ number) × (number ≤ greatest_budget))
     → make_command i (camera_word x y z) budget spacing ≡ Some command → CommandHasBudget command
 make_command-budget i None y z budget spacing command nx ny nz low is = absurd (none-some command is)
 make_command-budget i (Some x) None z budget spacing command nx ny nz low is = absurd (none-some command is)
 make_command-budget i (Some x) (Some y) None budget spacing command nx ny nz low is = absurd (none-some command is)
 make_command-budget i (Some x) (Some y) (Some z) None spacing command nx ny nz low is = absurd (none-some command is)
-make_command-budget i (Some x) (Some y) (Some z) (Some budget) None command nx ny nz low is = absurd (none-some command is)
+make_command-budget i (Some x) (Some y) (Some z) (Some budget) None command nx ny nz low is =
+    absurd (none-some command is)
 make_command-budget i (Some x) (Some y) (Some z) (Some budget) (Some spacing) command nx ny nz low is =
     let P : Option Command → Type 0 = λ c. IfSome c CommandHasBudget in
     let range = low budget refl in
     subst P is (record { low = range.0; high = range.1; x_near = nx x refl; y_near = ny y refl; z_near = nz z refl })
 
-check_command-budget : (i j k : List ℕ) (budget spacing : Option ℕ) (command : Command) → check_command i j k budget spacing ≡ Some command → CommandHasBudget command
+check_command-budget : (i j k : List ℕ) (budget spacing : Option ℕ) (command : Command) →
+    check_command i j k budget spacing ≡ Some command → CommandHasBudget command
 check_command-budget i j k None spacing command is = absurd (none-some command is)
 check_command-budget i j k (Some budget) None command is = absurd (none-some command is)
 check_command-budget i j k (Some budget) (Some spacing) command is =
@@ -290,13 +340,15 @@ check_command-budget i j k (Some budget) (Some spacing) command is =
 
 -- a target has room for two triangles
 
-error-two : (thousandths : Option ℕ) (target : Target) → option_map (λ k. AtError k) thousandths ≡ Some target → TakesTwo target
+error-two : (thousandths : Option ℕ) (target : Target) →
+    option_map (λ k. AtError k) thousandths ≡ Some target → TakesTwo target
 error-two None target is = absurd (none-some target is)
 error-two (Some thousandths) target is =
     let P : Option Target → Type 0 = λ o. IfSome o TakesTwo in
     subst P is tt
 
-budget-two : (budget : Option ℕ) (target : Target) → ((number : ℕ) → budget ≡ Some number → 2 ≤ number) → option_map (λ k. InBudget k) budget ≡ Some target
+budget-two : (budget : Option ℕ) (target : Target) → ((number : ℕ) → budget ≡ Some number → 2 ≤ number) →
+    option_map (λ k. InBudget k) budget ≡ Some target
     → TakesTwo target
 budget-two None target low is = absurd (none-some target is)
 budget-two (Some budget) target low is =
@@ -309,10 +361,12 @@ target-two word number target is =
     let behind : Option Target = if bytes_eq word (codes "budget") then budgets else None in
     elim (either (bytes_eq word (codes "error")) (option_map (λ k. AtError k) (error_word number)) behind target is) [
       | inl p ↦ error-two (error_word number) target p
-      | inr p ↦ budget-two (budget_word number) target (budget_word-low number) (met (bytes_eq word (codes "budget")) budgets target p)
+      | inr p ↦ budget-two (budget_word number) target (budget_word-low number)
+          (met (bytes_eq word (codes "budget")) budgets target p)
     ]
 
-fit_command-budget : (i j : List ℕ) (target : Option Target) (spacing : Option ℕ) (command : Command) → ((t : Target) → target ≡ Some t → TakesTwo t)
+fit_command-budget : (i j : List ℕ) (target : Option Target) (spacing : Option ℕ) (command : Command) →
+    ((t : Target) → target ≡ Some t → TakesTwo t)
     → fit_command i j target spacing ≡ Some command → CommandHasBudget command
 fit_command-budget i j None spacing command two is = absurd (none-some command is)
 fit_command-budget i j (Some target) None command two is = absurd (none-some command is)
@@ -320,13 +374,15 @@ fit_command-budget i j (Some target) (Some spacing) command two is =
     let P : Option Command → Type 0 = λ c. IfSome c CommandHasBudget in
     subst P is (two target refl)
 
-fit_words-budget : (i j k l m : List ℕ) (command : Command) → fit_words i j k l m ≡ Some command → CommandHasBudget command
+fit_words-budget : (i j k l m : List ℕ) (command : Command) → fit_words i j k l m ≡ Some command →
+    CommandHasBudget command
 fit_words-budget i j k l m command is =
     let target : Option Target = target_word k l in
     fit_command-budget i j target (spacing_word m) command (λ t found. target-two k l t found)
     (met (is_prefix j) (fit_command i j target (spacing_word m)) command is)
 
-fit_make_command-budget : (i : List ℕ) (target : Option Target) (spacing : Option ℕ) (command : Command) → ((t : Target) → target ≡ Some t → TakesTwo t)
+fit_make_command-budget : (i : List ℕ) (target : Option Target) (spacing : Option ℕ) (command : Command) →
+    ((t : Target) → target ≡ Some t → TakesTwo t)
     → fit_make_command i target spacing ≡ Some command → CommandHasBudget command
 fit_make_command-budget i None spacing command two is = absurd (none-some command is)
 fit_make_command-budget i (Some target) None command two is = absurd (none-some command is)
@@ -351,7 +407,8 @@ words-budget (word ∷ (i ∷ [])) command is =
 words-budget (word ∷ (i ∷ (j ∷ []))) command is =
     let n : Option ℕ = number_word 1 greatest_level i in
     let seed : Option ℕ = number_word 0 greatest_seed j in
-    try_command-budget n seed command (λ number found. within-range 1 greatest_level number (number_in 19 i) found) (met (bytes_eq word (codes "try")) (try_command n seed) command is)
+    try_command-budget n seed command (λ number found. within-range 1 greatest_level number (number_in 19 i) found)
+    (met (bytes_eq word (codes "try")) (try_command n seed) command is)
 words-budget (word ∷ (i ∷ (j ∷ (k ∷ [])))) command is = absurd (none-some command is)
 words-budget (word ∷ (i ∷ (j ∷ (k ∷ (l ∷ []))))) command is =
     frames_command-budget i j as_measures (budget_word k) (spacing_word l) command (budget_word-low k)
@@ -371,30 +428,37 @@ words-budget (word ∷ (i ∷ (j ∷ (k ∷ (l ∷ (m ∷ [])))))) command is =
     ]
 words-budget (word ∷ (i ∷ (j ∷ (k ∷ (l ∷ (m ∷ (o ∷ []))))))) command is =
     check_command-budget j k l (budget_word m) (spacing_word o) command
-    (met (bytes_eq word (codes "certify") && bytes_eq i (codes "check")) (check_command j k l (budget_word m) (spacing_word o)) command is)
+    (met (bytes_eq word (codes "certify") && bytes_eq i (codes "check"))
+    (check_command j k l (budget_word m) (spacing_word o)) command is)
 words-budget (word ∷ (i ∷ (j ∷ (k ∷ (l ∷ (m ∷ (o ∷ (p ∷ [])))))))) command is =
     let place : Option CameraAt = camera_word (coordinate_word k) (coordinate_word l) (coordinate_word m) in
     let target : Option Target = target_word m o in
     let checks : Bool = bytes_eq word (codes "certify") && bytes_eq i (codes "check-fit") in
     let checked : Option Command = fit_check_command j k l target (spacing_word p) in
-    elim (either (bytes_eq word (codes "certify") && bytes_eq i (codes "make")) (make_command j place (budget_word o) (spacing_word p))
+    elim (either (bytes_eq word (codes "certify") && bytes_eq i (codes "make"))
+    (make_command j place (budget_word o) (spacing_word p))
     (if checks then checked else None) command is) [
-      | inl f ↦ make_command-budget j (coordinate_word k) (coordinate_word l) (coordinate_word m) (budget_word o) (spacing_word p) command
+      | inl f ↦ make_command-budget j (coordinate_word k) (coordinate_word l) (coordinate_word m) (budget_word o)
+          (spacing_word p) command
           (in_reach-near (signed_in k)) (in_reach-near (signed_in l)) (in_reach-near (signed_in m))
           (λ number found. within-range least_budget greatest_budget number (number_in 19 o) found) f
       | inr f ↦ fit_check_command-budget j k l target (spacing_word p) command (met checks checked command f)
     ]
-words-budget (word ∷ (i ∷ (j ∷ (k ∷ (l ∷ (m ∷ (o ∷ (p ∷ (more ∷ words))))))))) command is = absurd (none-some command is)
+words-budget (word ∷ (i ∷ (j ∷ (k ∷ (l ∷ (m ∷ (o ∷ (p ∷ (more ∷ words))))))))) command is =
+    absurd (none-some command is)
 
 -- the budget of a job of words is at least 2
-pub command-budget : (words : List (List ℕ)) (name : List ℕ) (job : Job) → command_of words ≡ Some (OnGrid name job) → HasBudget job
+pub command-budget : (words : List (List ℕ)) (name : List ℕ) (job : Job) →
+    command_of words ≡ Some (OnGrid name job) → HasBudget job
 command-budget words name job is = words-budget words (OnGrid name job) is
 
 -- the walk of a script from a budget of at least 2
 
-pub script-states : BudgetsAreTwo → (s : Scripted) (grid : HeightField) (script : List ℕ) → 2 ≤ s.budget → AreStates grid.n (script_walk s grid script).frames
+pub script-states : BudgetsAreTwo → (s : Scripted) (grid : HeightField) (script : List ℕ) → 2 ≤ s.budget →
+    AreStates grid.n (script_walk s grid script).frames
 script-states two s grid script low =
-    (walk_of-states two grid.n (start_walk s.budget (start_state grid s.spacing s.budget)) script (record { level = refl; low = low; frames = tt })).frames
+    (walk_of-states two grid.n (start_walk s.budget (start_state grid s.spacing s.budget)) script
+    (record { level = refl; low = low; frames = tt })).frames
 
 -- a generated script has 105 lines
 pub made_lines-count : (n seed : ℕ) → length (made_lines n seed) ≡ 105
@@ -420,10 +484,12 @@ made_walk-states n seed =
 
 -- an outcome exists
 
-pub script_outcome-exists : BudgetsAreTwo → FramesExist → (s : Scripted) (grid : HeightField) (script : List ℕ) → 2 ≤ s.budget → (1 ≤ grid.n) × (grid.n ≤ 11)
+pub script_outcome-exists : BudgetsAreTwo → FramesExist → (s : Scripted) (grid : HeightField) (script : List ℕ) →
+    2 ≤ s.budget → (1 ≤ grid.n) × (grid.n ≤ 11)
     → (end : Outcome) × IsFramesOutcome s.show 2 (script_walk s grid script) end
 script_outcome-exists two frames s grid script low range =
-    let ps = pictures_of frames s.show grid.n [] (script_walk s grid script).frames (no-members grid.n range) (script-states two s grid script low) in
+    let ps = pictures_of frames s.show grid.n [] (script_walk s grid script).frames (no-members grid.n range)
+    (script-states two s grid script low) in
     (frames_outcome s.show 2 (script_walk s grid script) ps.0, (ps.0, ps.1, refl))
 
 pub made_outcome-exists : FramesExist → (n seed : ℕ) → (1 ≤ n) × (n ≤ 11)
@@ -435,51 +501,69 @@ made_outcome-exists frames n seed range =
     (no-members grid.n (subst P (sym (made_grid-level n seed)) range)) (made_walk-states n seed) in
     (frames_outcome (as_sums n seed) 0 (made_walk n seed) ps.0, (ps.0, ps.1, refl))
 
-job-exists : BudgetsAreTwo → FramesExist → CertificatesExist → (job : Job) (r : Result HeightField PgmFault) (files : List NamedFile) → HasBudget job
-    → ((grid : HeightField) → r ≡ Ok grid → (1 ≤ grid.n) × (grid.n ≤ 11)) → (end : Outcome) × IsGridOutcome job r files end
-job-exists two frames made (Frames s) (Ok grid) files low range = script_outcome-exists two frames s grid (bytes_of files s.script) low (range grid refl)
+job-exists : BudgetsAreTwo → FramesExist → CertificatesExist →
+    (job : Job) (r : Result HeightField PgmFault) (files : List NamedFile) → HasBudget job
+    → ((grid : HeightField) → r ≡ Ok grid → (1 ≤ grid.n) × (grid.n ≤ 11)) →
+    (end : Outcome) × IsGridOutcome job r files end
+job-exists two frames made (Frames s) (Ok grid) files low range =
+    script_outcome-exists two frames s grid (bytes_of files s.script) low (range grid refl)
 job-exists two frames made Facts (Ok grid) files low range = (text_outcome (info_line grid) Done 1, refl)
 job-exists two frames made (Make m) (Ok grid) files low range = make-exists made m grid (range grid refl) low.low
-job-exists two frames made (Check c) (Ok grid) files low range = check-exists c grid (cert_in grid.n (bytes_of files c.certificate)) (bytes_of files c.mesh)
+job-exists two frames made (Check c) (Ok grid) files low range =
+    check-exists c grid (cert_in grid.n (bytes_of files c.certificate)) (bytes_of files c.mesh)
 job-exists two frames made (Fit f) (Ok grid) files low range = fit-exists f grid low
 job-exists two frames made (MakeFit m) (Ok grid) files low range = fit_make-exists m grid low
 job-exists two frames made (CheckFit c) (Ok grid) files low range =
     fit_check-exists c grid (fit_cert_in grid.n (bytes_of files c.certificate)) (bytes_of files c.mesh)
-job-exists two frames made (Frames s) (Err fault) files low range = (text_outcome (grid_refusal fault) GridRefused 1, refl)
+job-exists two frames made (Frames s) (Err fault) files low range =
+    (text_outcome (grid_refusal fault) GridRefused 1, refl)
 job-exists two frames made Facts (Err fault) files low range = (text_outcome (grid_refusal fault) GridRefused 1, refl)
-job-exists two frames made (Make m) (Err fault) files low range = (text_outcome (grid_refusal fault) GridRefused 1, refl)
-job-exists two frames made (Check c) (Err fault) files low range = (text_outcome (grid_refusal fault) GridRefused 1, refl)
+job-exists two frames made (Make m) (Err fault) files low range =
+    (text_outcome (grid_refusal fault) GridRefused 1, refl)
+job-exists two frames made (Check c) (Err fault) files low range =
+    (text_outcome (grid_refusal fault) GridRefused 1, refl)
 job-exists two frames made (Fit f) (Err fault) files low range = (text_outcome (grid_refusal fault) GridRefused 1, refl)
-job-exists two frames made (MakeFit m) (Err fault) files low range = (text_outcome (grid_refusal fault) GridRefused 1, refl)
-job-exists two frames made (CheckFit c) (Err fault) files low range = (text_outcome (grid_refusal fault) GridRefused 1, refl)
+job-exists two frames made (MakeFit m) (Err fault) files low range =
+    (text_outcome (grid_refusal fault) GridRefused 1, refl)
+job-exists two frames made (CheckFit c) (Err fault) files low range =
+    (text_outcome (grid_refusal fault) GridRefused 1, refl)
 
-words-exist : BudgetsAreTwo → FramesExist → CertificatesExist → LevelsAreInRange → (command : Option Command) (files : List NamedFile)
+words-exist : BudgetsAreTwo → FramesExist → CertificatesExist → LevelsAreInRange →
+    (command : Option Command) (files : List NamedFile)
     → ((c : Command) → command ≡ Some c → CommandHasBudget c) → (end : Outcome) × IsWordsOutcome command files end
 words-exist two frames made levels None files low = (plain_outcome [] Usage 0, refl)
 words-exist two frames made levels (Some (OnGrid name job)) files low =
-    job-exists two frames made job (grid_of (bytes_of files name)) files (low (OnGrid name job) refl) (λ grid is. levels grid (bytes_of files name) is)
-words-exist two frames made levels (Some (Generated n seed)) files low = made_outcome-exists frames n seed (low (Generated n seed) refl)
+    job-exists two frames made job (grid_of (bytes_of files name)) files (low (OnGrid name job) refl)
+    (λ grid is. levels grid (bytes_of files name) is)
+words-exist two frames made levels (Some (Generated n seed)) files low =
+    made_outcome-exists frames n seed (low (Generated n seed) refl)
 
-pub outcome-exists : BudgetsAreTwo → FramesExist → CertificatesExist → LevelsAreInRange → (words : List (List ℕ)) (files : List NamedFile) → (end : Outcome) × IsOutcome words files end
+pub outcome-exists : BudgetsAreTwo → FramesExist → CertificatesExist → LevelsAreInRange →
+    (words : List (List ℕ)) (files : List NamedFile) → (end : Outcome) × IsOutcome words files end
 unfolding IsOutcome
-outcome-exists two frames made levels words files = words-exist two frames made levels (command_of words) files (λ c is. words-budget words c is)
+outcome-exists two frames made levels words files =
+    words-exist two frames made levels (command_of words) files (λ c is. words-budget words c is)
 
 -- what an outcome's pictures tell is certified
 
 -- each picture of states with a budget of at least 2 is certified, where an engine makes the frames
 abbrev pub MeshesAreCertified : Type 0
-MeshesAreCertified = (show : Show) (before : List ℕ) (n : ℕ) (states : List State) (ps : List Picture) → IsTrue (is_of_engine show) → AreStates n states
+MeshesAreCertified =
+    (show : Show) (before : List ℕ) (n : ℕ) (states : List State) (ps : List Picture) →
+    IsTrue (is_of_engine show) → AreStates n states
     → ArePictures show before states ps → AllByRecursion IsCertified ps
 
 -- an engine is left only where one makes the frames
-engine-made : (show : Show) (walk : Walk) (ps : List Picture) → IsTrue (is_some (engine_for show walk ps)) → IsTrue (is_of_engine show)
+engine-made : (show : Show) (walk : Walk) (ps : List Picture) → IsTrue (is_some (engine_for show walk ps)) →
+    IsTrue (is_of_engine show)
 engine-made show walk ps some = tested (is_of_engine show) some
   where
     tested : (makes : Bool) → IsTrue (is_some (if makes then Some (engine_end walk ps) else None)) → IsTrue makes
     tested true some = refl
     tested false some = some
 
-shown-certified : MeshesAreCertified → (show : Show) (n files : ℕ) (walk : Walk) (end : Outcome) → AreStates n walk.frames
+shown-certified : MeshesAreCertified →
+    (show : Show) (n files : ℕ) (walk : Walk) (end : Outcome) → AreStates n walk.frames
     → IsTrue (is_some end.engine) → IsFramesOutcome show files walk end → AllByRecursion IsCertified end.pictures
 shown-certified one show n files walk end low some is =
     let P : Outcome → Type 0 = λ o. AllByRecursion IsCertified o.pictures in
@@ -490,17 +574,21 @@ shown-certified one show n files walk end low some is =
 text-certified : (end : Outcome) → IsOneText end → AllByRecursion IsCertified end.pictures
 text-certified end is = let P : Outcome → Type 0 = λ o. AllByRecursion IsCertified o.pictures in subst P (sym is.3) tt
 
-refused-text : (fault : PgmFault) (end : Outcome) → end ≡ text_outcome (grid_refusal fault) GridRefused 1 → IsOneText end
+refused-text : (fault : PgmFault) (end : Outcome) →
+    end ≡ text_outcome (grid_refusal fault) GridRefused 1 → IsOneText end
 refused-text fault end is = (grid_refusal fault, GridRefused, 1, is)
 
-job-certified : BudgetsAreTwo → MeshesAreCertified → (job : Job) (r : Result HeightField PgmFault) (files : List NamedFile) (end : Outcome) → HasBudget job
+job-certified : BudgetsAreTwo → MeshesAreCertified →
+    (job : Job) (r : Result HeightField PgmFault) (files : List NamedFile) (end : Outcome) → HasBudget job
     → IsTrue (is_some end.engine) → IsGridOutcome job r files end → AllByRecursion IsCertified end.pictures
 job-certified two one (Frames s) (Ok grid) files end low some is =
-    shown-certified one s.show grid.n 2 (script_walk s grid (bytes_of files s.script)) end (script-states two s grid (bytes_of files s.script) low) some is
+    shown-certified one s.show grid.n 2 (script_walk s grid (bytes_of files s.script)) end
+    (script-states two s grid (bytes_of files s.script) low) some is
 job-certified two one Facts (Ok grid) files end low some is = text-certified end (info_line grid, Done, 1, is)
 job-certified two one (Make m) (Ok grid) files end low some is = text-certified end (make-text m grid end is)
 job-certified two one (Check c) (Ok grid) files end low some is =
-    text-certified end (check-text c grid (cert_in grid.n (bytes_of files c.certificate)) (bytes_of files c.mesh) end is)
+    text-certified end
+    (check-text c grid (cert_in grid.n (bytes_of files c.certificate)) (bytes_of files c.mesh) end is)
 job-certified two one (Fit f) (Ok grid) files end low some is =
     let P : Outcome → Type 0 = λ o. AllByRecursion IsCertified o.pictures in
     subst P (sym is.2) tt
@@ -508,14 +596,17 @@ job-certified two one (Frames s) (Err fault) files end low some is = text-certif
 job-certified two one Facts (Err fault) files end low some is = text-certified end (refused-text fault end is)
 job-certified two one (MakeFit m) (Ok grid) files end low some is = text-certified end (fit_make-text m grid end is)
 job-certified two one (CheckFit c) (Ok grid) files end low some is =
-    text-certified end (fit_check-text c grid (fit_cert_in grid.n (bytes_of files c.certificate)) (bytes_of files c.mesh) end is)
+    text-certified end
+    (fit_check-text c grid (fit_cert_in grid.n (bytes_of files c.certificate)) (bytes_of files c.mesh) end is)
 job-certified two one (Make m) (Err fault) files end low some is = text-certified end (refused-text fault end is)
 job-certified two one (Check c) (Err fault) files end low some is = text-certified end (refused-text fault end is)
 job-certified two one (Fit f) (Err fault) files end low some is = text-certified end (refused-text fault end is)
 job-certified two one (MakeFit m) (Err fault) files end low some is = text-certified end (refused-text fault end is)
 job-certified two one (CheckFit c) (Err fault) files end low some is = text-certified end (refused-text fault end is)
 
-words-certified : BudgetsAreTwo → MeshesAreCertified → (command : Option Command) (files : List NamedFile) (end : Outcome) → ((c : Command) → command ≡ Some c → CommandHasBudget c)
+words-certified : BudgetsAreTwo → MeshesAreCertified →
+    (command : Option Command) (files : List NamedFile) (end : Outcome) →
+    ((c : Command) → command ≡ Some c → CommandHasBudget c)
     → IsTrue (is_some end.engine) → IsWordsOutcome command files end → AllByRecursion IsCertified end.pictures
 words-certified two one None files end low some is =
     let P : Outcome → Type 0 = λ o. AllByRecursion IsCertified o.pictures in subst P (sym is) tt
@@ -524,8 +615,10 @@ words-certified two one (Some (OnGrid name job)) files end low some is =
 words-certified two one (Some (Generated n seed)) files end low some is =
     shown-certified one (as_sums n seed) (made_grid n seed).n 0 (made_walk n seed) end (made_walk-states n seed) some is
 
-pub outcome-certified : BudgetsAreTwo → MeshesAreCertified → (words : List (List ℕ)) (files : List NamedFile) (end : Outcome)
+pub outcome-certified : BudgetsAreTwo → MeshesAreCertified →
+    (words : List (List ℕ)) (files : List NamedFile) (end : Outcome)
     → IsTrue (is_some end.engine) → IsOutcome words files end → All IsCertified end.pictures
 unfolding IsOutcome
 outcome-certified two one words files end some is =
-    All-from_recursion IsCertified end.pictures (words-certified two one (command_of words) files end (λ c e. words-budget words c e) some is)
+    All-from_recursion IsCertified end.pictures
+    (words-certified two one (command_of words) files end (λ c e. words-budget words c e) some is)

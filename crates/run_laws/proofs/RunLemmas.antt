@@ -1,11 +1,15 @@
 -- How a command on a grid is carried out: it stops at its grid, memory runs out, or one text ends it.
 use Rattle.std.proofs.Math.Nat.{min-eq_left}
-use Rattle.std.proofs.Common.{◌≡◌, ◌≢◌, ◌⊎◌, ◌↔◌, ℕ, ◌+◌, ◌^◌, ◌≤◌, ◌&&◌, Bool, true, false, IsTrue, IsSome, List, [], ◌∷◌, length, nat_lt, Option, None, Some, Result, Err, inl, inr, refl, sym, ◌∙◌, ap, subst, arith}
+use Rattle.std.proofs.Common.{◌≡◌, ◌≢◌, ◌⊎◌, ◌↔◌, ℕ, ◌+◌, ◌^◌, ◌≤◌, ◌&&◌, Bool, true, false, IsTrue, IsSome, List, []}
+use Rattle.std.proofs.Common.{◌∷◌, length, nat_lt, Option, None, Some, Result, Err, inl, inr, refl, sym, ◌∙◌, ap, subst}
+use Rattle.std.proofs.Common.{arith}
 use Rattle.roam_edge.specs.Fault.{Rose, next_count, IsInTime}
 use Rattle.roam_edge.specs.Shelf.{NamedFile, bytes_of}
 use Rattle.run_laws.specs.declared.status.Status.{Status}
-use Rattle.run_laws.specs.declared.status.Status.TheVariants.{Done, NoMemory, Usage, GridRefused, ReadFault, WriteFault, Rejected}
-use Rattle.word_laws.specs.Words.{Show, Scripted, Job, Command, OnGrid, is_check, is_of_engine, Frames, Facts, Make, Check, Fit, MakeFit, CheckFit, names_of, file_count}
+use Rattle.run_laws.specs.declared.status.Status.TheVariants.{Done, NoMemory, Usage, GridRefused, ReadFault, WriteFault}
+use Rattle.run_laws.specs.declared.status.Status.TheVariants.{Rejected}
+use Rattle.word_laws.specs.Words.{Show, Scripted, Job, Command, OnGrid, is_check, is_of_engine, Frames, Facts, Make}
+use Rattle.word_laws.specs.Words.{Check, Fit, MakeFit, CheckFit, names_of, file_count}
 use Rattle.mesh_defs.specs.HeightField.{HeightField}
 use Rattle.pgm_grid.specs.declared.fault.PgmFault.{PgmFault}
 use Rattle.pgm_grid.specs.Progress.{grid_of}
@@ -14,14 +18,18 @@ use Rattle.run_laws.specs.Cause.{StatusHasCause, StatusWritesHaveCause}
 use Rattle.run_laws.specs.ReportText.{grid_refusal}
 use Rattle.run_laws.specs.Picture.{Picture}
 use Rattle.run_laws.specs.Walk.{Walk}
-use Rattle.run_laws.specs.Outcome.{Outcome, EngineEnd, plain_outcome, text_outcome, IsJobOutcome, IsGridOutcome, IsCommandOutcome}
-use Rattle.run_laws.specs.Promise.{Seen, HasEnded, HasReadHeader, IsUndecided, OpensForStatus, CommandReadFault, CommandNoMemory, most_open_job, is_complete, ends_script, may_end, leaves_engine}
+use Rattle.run_laws.specs.Outcome.{Outcome, EngineEnd, plain_outcome, text_outcome, IsJobOutcome, IsGridOutcome}
+use Rattle.run_laws.specs.Outcome.{IsCommandOutcome}
+use Rattle.run_laws.specs.Promise.{Seen, HasEnded, HasReadHeader, IsUndecided, OpensForStatus, CommandReadFault}
+use Rattle.run_laws.specs.Promise.{CommandNoMemory, most_open_job, is_complete, ends_script, may_end, leaves_engine}
 use Rattle.run_laws.specs.Maker.{DoesAs, IsScriptEnd, Leaves, EndsScript, ScriptHasCome}
 use Rattle.run_laws.specs.FileStop.{StopsReading}
 use Rattle.run_laws.specs.Moment.{Moment, OnlyReads}
-use Rattle.run_laws.specs.Leaving.{CommandEnds, Runs, HasOpened, HasFailed, ReadsGrid, EndsWith, TellsLast, LeavesByScript}
+use Rattle.run_laws.specs.Leaving.{CommandEnds, Runs, HasOpened, HasFailed, ReadsGrid, EndsWith, TellsLast}
+use Rattle.run_laws.specs.Leaving.{LeavesByScript}
 use Rattle.run_laws.proofs.ActLemmas.{stands-nothing}
-use Rattle.run_laws.proofs.GridLemmas.{next-one, not-complete, grid-fault, grid-memory, first_walk, script-ends, script-fault}
+use Rattle.run_laws.proofs.GridLemmas.{next-one, not-complete, grid-fault, grid-memory, first_walk, script-ends}
+use Rattle.run_laws.proofs.GridLemmas.{script-fault}
 use Rattle.run_laws.proofs.StatementLemmas.{ends-by-status}
 
 abbrev no-engine : Option EngineEnd
@@ -59,7 +67,8 @@ names-some name (Fit f) = refl
 names-some name (MakeFit m) = refl
 names-some name (CheckFit c) = refl
 
-in-time-then : (late middle last : Bool) (faults : ℕ) → IsInTime late faults middle → last ≡ middle → IsInTime late faults last
+in-time-then : (late middle last : Bool) (faults : ℕ) → IsInTime late faults middle → last ≡ middle →
+    IsInTime late faults last
 in-time-then late middle last faults one same not_late none = same ∙ one not_late none
 
 same-in-time : (late last : Bool) (faults : ℕ) → last ≡ late → IsInTime late faults last
@@ -76,8 +85,10 @@ most-named name (MakeFit m) = omega arith
 most-named name (CheckFit c) = omega arith
 
 -- a read of one of a command's files failed, or its opening
-pub read-failed : (before now : Moment) (name : List ℕ) (job : Job) (files : ℕ) (last : List ℕ) (holds : List ℕ → Type 0)
-    → before.under_way ≡ false → HasFailed before now files last holds → 1 ≤ files → files ≤ file_count (Some (OnGrid name job))
+pub read-failed : (before now : Moment) (name : List ℕ) (job : Job) (files : ℕ) (last : List ℕ)
+    (holds : List ℕ → Type 0)
+    → before.under_way ≡ false → HasFailed before now files last holds → 1 ≤ files →
+    files ≤ file_count (Some (OnGrid name job))
     → CommandReadFault before.sinks before.sinks before.shelf now.shelf (OnGrid name job)
     → Runs before now (Some (OnGrid name job)) ReadFault None
 read-failed before now name job files last holds idle read some within fault = record {
@@ -120,7 +131,8 @@ read-failed before now name job files last holds idle read some within fault = r
 }
 
 -- memory ran out once so many of a command's files were opened
-pub memory-spent : (before now : Moment) (name : List ℕ) (job : Job) (files : ℕ) → before.under_way ≡ false → HasOpened before now files
+pub memory-spent : (before now : Moment) (name : List ℕ) (job : Job) (files : ℕ) → before.under_way ≡ false →
+    HasOpened before now files
     → CommandNoMemory before.sinks before.sinks before.shelf now.shelf (OnGrid name job)
     → Runs before now (Some (OnGrid name job)) NoMemory None
 memory-spent before now name job files idle read spent = record {
@@ -162,7 +174,8 @@ memory-spent before now name job files idle read spent = record {
   };
 }
 
-module _ (before now : Moment) (name : List ℕ) (job : Job) (idle : before.under_way ≡ false) (only : OnlyReads before now)
+module _ (before now : Moment) (name : List ℕ) (job : Job) (idle : before.under_way ≡ false)
+    (only : OnlyReads before now)
     (opened : now.shelf.opens ≡ before.shelf.opens + 1)
     (in_time : IsInTime before.shelf_late before.shelf_faults now.shelf_late) where
   -- a read of its grid failed, or its opening
@@ -177,7 +190,8 @@ module _ (before now : Moment) (name : List ℕ) (job : Job) (idle : before.unde
 
   -- memory ran out once so much of its grid was read
   pub grid-spent : now.shelf_faults ≡ before.shelf_faults
-      → ((files : List NamedFile) → before.shelf.files ≡ Some files → HasReadHeader (bytes_of files name) now.shelf.rest)
+      → ((files : List NamedFile) → before.shelf.files ≡ Some files →
+      HasReadHeader (bytes_of files name) now.shelf.rest)
       → Runs before now (Some (OnGrid name job)) NoMemory None
   grid-spent calm header =
       memory-spent before now name job 1 idle (record { only = only; opens = opened; faults = calm; in_time = in_time })
@@ -248,17 +262,20 @@ module _ (before middle now : Moment) (name : List ℕ) (job : Job) (k : ℕ) (i
   -- a command ended with acts that are those of its outcome
   pub acts-run : (status : Status) → EndsWith middle now acts meant status → 1 ≤ k → k ≤ file_count named
       → IsTrue (is_complete meant) → IsTrue (may_end named meant) → leaves_engine named meant ≡ false
-      → OpensForStatus before.shelf.opens middle.shelf.opens (file_count named) meant → (meant ≡ Done → HasEnded middle.shelf)
+      → OpensForStatus before.shelf.opens middle.shelf.opens (file_count named) meant →
+      (meant ≡ Done → HasEnded middle.shelf)
       → Runs before now named status None
   acts-run status tells some within complete allowed left opens ended = elim tells.ends [
     | inl is ↦ by-status status (λ e. not-complete meant ReadFault refl complete (sym is ∙ e))
         (λ e. not-complete meant NoMemory refl complete (sym is ∙ e)) tells
-        (subst (λ (s : Status). OpensForStatus before.shelf.opens middle.shelf.opens (file_count named) s) (sym is) opens)
+        (subst (λ (s : Status). OpensForStatus before.shelf.opens middle.shelf.opens (file_count named) s)
+        (sym is) opens)
         (subst (λ (s : Status). IsTrue (may_end named s)) (sym is) allowed)
         (subst (λ (s : Status). leaves_engine named s ≡ false) (sym is) left)
         (λ done. ended (sym is ∙ done))
     | inr is ↦ by-status status (λ e. apart-read (sym is ∙ e)) (λ e. apart-memory (sym is ∙ e)) tells
-        (subst (λ (s : Status). OpensForStatus before.shelf.opens middle.shelf.opens (file_count named) s) (sym is) cut-opens)
+        (subst (λ (s : Status). OpensForStatus before.shelf.opens middle.shelf.opens (file_count named) s)
+        (sym is) cut-opens)
         (subst (λ (s : Status). IsTrue (may_end named s)) (sym is) refl)
         (subst (λ (s : Status). leaves_engine named s ≡ false) (sym is) (none-unended name job WriteFault refl))
         (λ done. absurd (apart-done (sym is ∙ done)))
@@ -286,24 +303,28 @@ module _ (before middle now : Moment) (name : List ℕ) (job : Job) (k : ℕ) (i
       }
 
 -- one text ended a command
-pub text-runs : (before middle now : Moment) (name : List ℕ) (job : Job) (k : ℕ) → before.under_way ≡ false → HasOpened before middle k
+pub text-runs : (before middle now : Moment) (name : List ℕ) (job : Job) (k : ℕ) → before.under_way ≡ false →
+    HasOpened before middle k
     → (text : List ℕ) (meant : Status) → ((files : List NamedFile) → before.shelf.files ≡ Some files
     → IsCommandOutcome (OnGrid name job) files (text_outcome text meant k))
     → (status : Status) → TellsLast middle now text meant status → 1 ≤ k → k ≤ file_count (Some (OnGrid name job))
-    → IsTrue (is_complete meant) → IsTrue (may_end (Some (OnGrid name job)) meant) → leaves_engine (Some (OnGrid name job)) meant ≡ false
+    → IsTrue (is_complete meant) → IsTrue (may_end (Some (OnGrid name job)) meant) →
+    leaves_engine (Some (OnGrid name job)) meant ≡ false
     → OpensForStatus before.shelf.opens middle.shelf.opens (file_count (Some (OnGrid name job))) meant
     → (meant ≡ Done → HasEnded middle.shelf) → Runs before now (Some (OnGrid name job)) status None
 text-runs before middle now name job k idle read text meant outcome =
     acts-run before middle now name job k idle read (ReportText text ∷ []) meant outcome
 
 -- the refusal of its grid ended a command
-pub grid-refused : (before middle now : Moment) (name : List ℕ) (job : Job) (fault : PgmFault) (text : List ℕ) (status : Status)
+pub grid-refused : (before middle now : Moment) (name : List ℕ) (job : Job) (fault : PgmFault)
+    (text : List ℕ) (status : Status)
     → before.under_way ≡ false → HasOpened before middle 1 → text ≡ grid_refusal fault
     → ((files : List NamedFile) → before.shelf.files ≡ Some files → grid_of (bytes_of files name) ≡ Err fault)
     → TellsLast middle now text GridRefused status → Runs before now (Some (OnGrid name job)) status None
 grid-refused before middle now name job fault text status idle read is refused tells =
     text-runs before middle now name job 1 idle read text GridRefused
-    (λ files told. subst (λ (r : Result HeightField PgmFault). IsGridOutcome job r files (text_outcome text GridRefused 1)) (sym (refused files told))
+    (λ files told. subst (λ (r : Result HeightField PgmFault).
+    IsGridOutcome job r files (text_outcome text GridRefused 1)) (sym (refused files told))
     (ap (λ (t : List ℕ). text_outcome t GridRefused 1) is))
     status tells (omega arith) (omega arith) refl (names-some name job) (none-unended name job GridRefused refl)
     (record {
@@ -319,14 +340,16 @@ grid-refused before middle now name job fault text status idle read is refused t
     (λ e. cc)
 
 -- a command whose only file is its grid ended with the acts of its job
-pub job-runs : (before middle now : Moment) (name : List ℕ) (job : Job) (grid : HeightField) (acts : List Act) (status : Status)
+pub job-runs : (before middle now : Moment) (name : List ℕ) (job : Job) (grid : HeightField)
+    (acts : List Act) (status : Status)
     → before.under_way ≡ false → ReadsGrid before middle name grid → file_count (Some (OnGrid name job)) ≡ 1
     → leaves_engine (Some (OnGrid name job)) Done ≡ false
     → ((files : List NamedFile) → IsJobOutcome job grid files (plain_outcome acts Done 1))
     → EndsWith middle now acts Done status → Runs before now (Some (OnGrid name job)) status None
 job-runs before middle now name job grid acts status idle read one left outcome ends =
     acts-run before middle now name job 1 idle read.opened acts Done
-    (λ files told. subst (λ (r : Result HeightField PgmFault). IsGridOutcome job r files (plain_outcome acts Done 1)) (sym (read.is_grid files told)) (outcome files))
+    (λ files told. subst (λ (r : Result HeightField PgmFault). IsGridOutcome job r files (plain_outcome acts Done 1))
+    (sym (read.is_grid files told)) (outcome files))
     status ends (omega arith) (omega arith) refl refl left
     (record {
       done = λ e. omega (arith, read.opened.opens, one);
@@ -341,7 +364,8 @@ job-runs before middle now name job grid acts status idle read one left outcome 
     (λ e. read.ended)
 
 -- or with one text
-pub line-runs : (before middle now : Moment) (name : List ℕ) (job : Job) (grid : HeightField) (text : List ℕ) (status : Status)
+pub line-runs : (before middle now : Moment) (name : List ℕ) (job : Job) (grid : HeightField)
+    (text : List ℕ) (status : Status)
     → before.under_way ≡ false → ReadsGrid before middle name grid → file_count (Some (OnGrid name job)) ≡ 1
     → leaves_engine (Some (OnGrid name job)) Done ≡ false
     → ((files : List NamedFile) → IsJobOutcome job grid files (text_outcome text Done 1))
@@ -352,10 +376,12 @@ line-runs before middle now name job grid text = job-runs before middle now name
 pub spent-runs : (before now : Moment) (name : List ℕ) (job : Job) (grid : HeightField) → before.under_way ≡ false
     → ReadsGrid before now name grid → Runs before now (Some (OnGrid name job)) NoMemory None
 spent-runs before now name job grid idle read =
-    grid-spent before now name job idle read.opened.only read.opened.opens read.opened.in_time read.opened.faults read.header
+    grid-spent before now name job idle read.opened.only read.opened.opens read.opened.in_time
+    read.opened.faults read.header
 
 -- a script was carried out over a grid that was read, by what makes its frames
-module _ (before middle now : Moment) (name : List ℕ) (s : Scripted) (grid : HeightField) (idle : before.under_way ≡ false)
+module _ (before middle now : Moment) (name : List ℕ) (s : Scripted) (grid : HeightField)
+    (idle : before.under_way ≡ false)
     (few : before.shelf.opens ≤ 2 ^ 63) (read : ReadsGrid before middle name grid)
     (follows : Show → Walk → List Picture → Type 0) (left : Option EngineEnd) where
   abbrev scripted : Option Command
@@ -370,10 +396,12 @@ module _ (before middle now : Moment) (name : List ℕ) (s : Scripted) (grid : H
   script-allowed : (status : Status) → (status ≡ ReadFault) ⊎ IsScriptEnd status → IsTrue (may_end scripted status)
   script-allowed status (inl fault) = subst (λ (e : Status). IsTrue (may_end scripted e)) (sym fault) refl
   script-allowed status (inr (inl done)) = subst (λ (e : Status). IsTrue (may_end scripted e)) (sym done) refl
-  script-allowed status (inr (inr (inl refused))) = subst (λ (e : Status). IsTrue (may_end scripted e)) (sym refused) refl
+  script-allowed status (inr (inr (inl refused))) =
+      subst (λ (e : Status). IsTrue (may_end scripted e)) (sym refused) refl
   script-allowed status (inr (inr (inr failed))) = subst (λ (e : Status). IsTrue (may_end scripted e)) (sym failed) refl
 
-  script-opens : (status : Status) → (status ≡ ReadFault) ⊎ IsScriptEnd status → now.shelf.opens ≡ before.shelf.opens + 2
+  script-opens : (status : Status) → (status ≡ ReadFault) ⊎ IsScriptEnd status →
+      now.shelf.opens ≡ before.shelf.opens + 2
       → OpensForStatus before.shelf.opens now.shelf.opens 2 status
   script-opens status is opened = record {
     done = λ e. opened;
@@ -410,7 +438,8 @@ module _ (before middle now : Moment) (name : List ℕ) (s : Scripted) (grid : H
       → ((files : List NamedFile) → before.shelf.files ≡ Some files → status ≢ ReadFault
       → EndsScript middle.sinks now.sinks s.show follows (first_walk s grid) (bytes_of files s.script) status)
       → (status ≡ ReadFault → (files : List NamedFile) → before.shelf.files ≡ Some files
-      → StopsReading (ScriptHasCome middle.sinks now.sinks s.show (first_walk s grid)) (bytes_of files s.script) now.shelf.rest now.shelf.ended)
+      → StopsReading (ScriptHasCome middle.sinks now.sinks s.show (first_walk s grid))
+      (bytes_of files s.script) now.shelf.rest now.shelf.ended)
       → Runs before now scripted status left
   script-runs status is leaves engine same does stops =
       let opened = two-opens status leaves in
@@ -418,11 +447,15 @@ module _ (before middle now : Moment) (name : List ℕ) (s : Scripted) (grid : H
       record {
         ends = ends-by-status before now (OnGrid name (Frames s)) status left
             (λ files are. (let told = are (omega arith) in
-            let P : Told → Type 0 = λ t. CommandEnds t now.sinks before.shelf now.shelf (OnGrid name (Frames s)) files status left in
-            subst P sinks (script-ends s grid middle.sinks now.sinks before.shelf now.shelf name opened files status follows left (read.is_grid files told)
+            let P : Told → Type 0 =
+            λ t. CommandEnds t now.sinks before.shelf now.shelf (OnGrid name (Frames s)) files status left in
+            subst P sinks (script-ends s grid middle.sinks now.sinks before.shelf now.shelf name opened files status
+            follows left (read.is_grid files told)
             same (does files told))))
-            (λ fault. (let P : Told → Type 0 = λ t. CommandReadFault t now.sinks before.shelf now.shelf (OnGrid name (Frames s)) in
-            subst P sinks (script-fault s grid middle.sinks now.sinks before.shelf now.shelf name opened read.is_grid (stops fault))))
+            (λ fault. (let P : Told →
+            Type 0 = λ t. CommandReadFault t now.sinks before.shelf now.shelf (OnGrid name (Frames s)) in
+            subst P sinks (script-fault s grid middle.sinks now.sinks before.shelf now.shelf name opened read.is_grid
+            (stops fault))))
             (λ memory. absurd (script-memory status is memory));
         leaves = record {
           files = leaves.files ∙ read.opened.only.files;
@@ -430,21 +463,24 @@ module _ (before middle now : Moment) (name : List ℕ) (s : Scripted) (grid : H
           opens = script-opens status is opened;
           read_out = λ done some. leaves.read_out done;
           engine = engine;
-          shelf_in_time = λ not_late none. leaves.shelf_in_time (read.opened.in_time not_late none) (read.opened.faults ∙ none);
+          shelf_in_time =
+              λ not_late none. leaves.shelf_in_time (read.opened.in_time not_late none) (read.opened.faults ∙ none);
           meshes_in_time = λ not_late none. leaves.meshes_in_time (read.opened.only.mesh_late ∙ not_late)
               (ap (λ (t : Told). t.mesh_faults) sinks ∙ none);
           report_in_time = λ not_late none. leaves.report_in_time (read.opened.only.report_late ∙ not_late)
               (ap (λ (t : Told). t.report_faults) sinks ∙ none);
         };
         allowed = script-allowed status is;
-        causes = subst (λ (t : Told). StatusHasCause before.shelf_faults now.shelf_faults t.mesh_faults now.sinks.mesh_faults
+        causes =
+            subst (λ (t : Told). StatusHasCause before.shelf_faults now.shelf_faults t.mesh_faults now.sinks.mesh_faults
             t.report_faults now.sinks.report_faults status) sinks
             (subst (λ (k : ℕ). StatusHasCause k now.shelf_faults middle.sinks.mesh_faults now.sinks.mesh_faults
             middle.sinks.report_faults now.sinks.report_faults status) read.opened.faults leaves.causes);
       }
 
 -- words that are no command do nothing
-pub usage-runs : (now : Moment) (said : Option Command) → now.under_way ≡ false → said ≡ None → Runs now now said Usage None
+pub usage-runs : (now : Moment) (said : Option Command) → now.under_way ≡ false → said ≡ None →
+    Runs now now said Usage None
 usage-runs now said idle is = subst (λ (c : Option Command). Runs now now c Usage None) (sym is) (record {
   ends = record {
     complete = λ e files are. record {
@@ -515,7 +551,8 @@ reads-then before middle now one other = record {
 }
 
 -- files were opened, and then more
-pub opens-then : (before middle now : Moment) (files more : ℕ) → HasOpened before middle files → HasOpened middle now more
+pub opens-then : (before middle now : Moment) (files more : ℕ) → HasOpened before middle files →
+    HasOpened middle now more
     → HasOpened before now (files + more)
 opens-then before middle now files more one other = record {
   only = reads-then before middle now one.only other.only;
@@ -525,7 +562,8 @@ opens-then before middle now files more one other = record {
 }
 
 -- files were opened, and then a read of a further one failed
-pub fails-then : (before middle now : Moment) (files more : ℕ) (name : List ℕ) (holds : List ℕ → Type 0) → HasOpened before middle files
+pub fails-then : (before middle now : Moment) (files more : ℕ) (name : List ℕ) (holds : List ℕ → Type 0) →
+    HasOpened before middle files
     → HasFailed middle now more name holds → HasFailed before now (files + more) name holds
 fails-then before middle now files more name holds one other = record {
   only = reads-then before middle now one.only other.only;
@@ -542,7 +580,8 @@ tells-as {before = before} {now = now} {text = text} {meant = meant} {status = s
     subst (λ (s : Status). TellsLast before now text s status) is
     (subst (λ (t : List ℕ). TellsLast before now t meant status) same tells)
 
-module _ (before middle last now : Moment) (name : List ℕ) (job : Job) (grid : HeightField) (more : ℕ) (text : List ℕ) (status : Status)
+module _ (before middle last now : Moment) (name : List ℕ) (job : Job) (grid : HeightField) (more : ℕ)
+    (text : List ℕ) (status : Status)
     (idle : before.under_way ≡ false) (read : ReadsGrid before middle name grid) (behind : HasOpened middle last more)
     (three : file_count (Some (OnGrid name job)) ≡ 3) where
   abbrev job-command : Option Command
@@ -552,7 +591,8 @@ module _ (before middle last now : Moment) (name : List ℕ) (job : Job) (grid :
   all-opened = opens-then before middle last 1 more read.opened behind
 
   job-ends : (meant : Status)
-      → ((files : List NamedFile) → middle.shelf.files ≡ Some files → IsJobOutcome job grid files (text_outcome text meant (1 + more)))
+      → ((files : List NamedFile) → middle.shelf.files ≡ Some files →
+      IsJobOutcome job grid files (text_outcome text meant (1 + more)))
       → (files : List NamedFile) → before.shelf.files ≡ Some files
       → IsCommandOutcome (OnGrid name job) files (text_outcome text meant (1 + more))
   job-ends meant outcome files told =
@@ -561,7 +601,8 @@ module _ (before middle last now : Moment) (name : List ℕ) (job : Job) (grid :
 
   -- a check ended with the line that a mesh is certified, and read its three files
   pub certified-runs : more ≡ 2 → HasEnded last.shelf → leaves_engine job-command Done ≡ false
-      → ((files : List NamedFile) → middle.shelf.files ≡ Some files → IsJobOutcome job grid files (text_outcome text Done (1 + more)))
+      → ((files : List NamedFile) → middle.shelf.files ≡ Some files →
+      IsJobOutcome job grid files (text_outcome text Done (1 + more)))
       → TellsLast last now text Done status → Runs before now job-command status None
   certified-runs two ended left outcome tells =
       text-runs before last now name job (1 + more) idle all-opened text Done (job-ends Done outcome) status tells
@@ -579,11 +620,14 @@ module _ (before middle last now : Moment) (name : List ℕ) (job : Job) (grid :
       (λ e. ended)
 
   -- a check ended with the line that it rejects its certificate or its mesh
-  pub rejected-runs : 1 ≤ more → more ≤ 2 → IsTrue (is_check (OnGrid name job)) → leaves_engine job-command Rejected ≡ false
-      → ((files : List NamedFile) → middle.shelf.files ≡ Some files → IsJobOutcome job grid files (text_outcome text Rejected (1 + more)))
+  pub rejected-runs : 1 ≤ more → more ≤ 2 → IsTrue (is_check (OnGrid name job)) →
+      leaves_engine job-command Rejected ≡ false
+      → ((files : List NamedFile) → middle.shelf.files ≡ Some files →
+      IsJobOutcome job grid files (text_outcome text Rejected (1 + more)))
       → TellsLast last now text Rejected status → Runs before now job-command status None
   rejected-runs some most check left outcome tells =
-      text-runs before last now name job (1 + more) idle all-opened text Rejected (job-ends Rejected outcome) status tells
+      text-runs before last now name job (1 + more) idle all-opened text Rejected
+      (job-ends Rejected outcome) status tells
       (omega arith) (omega (arith, most, three)) refl check left
       (record {
         done = λ e. cc;

@@ -22,7 +22,8 @@ shown_by-none NoPlanes state other = refl
 shown_by-none (Budget n) state other = refl
 shown_by-none (Raise a b c d e) state other = refl
 
-module _ (meshes meshes' : Option (List WrittenMesh)) (report report' : Option (List ℕ)) (prefix : List ℕ) (number count : ℕ) (bytes line text words : List ℕ)
+module _ (meshes meshes' : Option (List WrittenMesh)) (report report' : Option (List ℕ)) (prefix : List ℕ)
+    (number count : ℕ) (bytes line text words : List ℕ)
     (same : count ≡ number) (is : text ≡ bytes) (says : words ≡ line) where
   abbrev acts : List Act
   acts = WholeMesh prefix number bytes ∷ (ReportText line ∷ [])
@@ -32,8 +33,10 @@ module _ (meshes meshes' : Option (List WrittenMesh)) (report report' : Option (
       × IsPartOfMesh prefix count text part × (meshes' ≡ Some (all ++ part)))
       → Rose k k' → IsCutShort (told meshes report k i) (told meshes' report k' i) acts
   cut-acts-mesh part rose =
-      let P : List ℕ → Type 0 = λ t. (all : List WrittenMesh) → meshes ≡ Some all → (cut : List WrittenMesh) × IsPartOfMesh prefix number t cut × (meshes' ≡ Some (all ++ cut)) in
-      let Q : ℕ → Type 0 = λ k. (all : List WrittenMesh) → meshes ≡ Some all → (cut : List WrittenMesh) × IsPartOfMesh prefix k text cut × (meshes' ≡ Some (all ++ cut)) in
+      let P : List ℕ → Type 0 = λ t. (all : List WrittenMesh) → meshes ≡ Some all →
+      (cut : List WrittenMesh) × IsPartOfMesh prefix number t cut × (meshes' ≡ Some (all ++ cut)) in
+      let Q : ℕ → Type 0 = λ k. (all : List WrittenMesh) → meshes ≡ Some all →
+      (cut : List WrittenMesh) × IsPartOfMesh prefix k text cut × (meshes' ≡ Some (all ++ cut)) in
       cut-mesh meshes meshes' report prefix number bytes (ReportText line ∷ []) (subst P is (subst Q same part)) rose
 
   module _ {k k' : ℕ} (whole : Grows meshes meshes' (mesh_with prefix count text true ∷ [])) (unmoved : k' ≡ k) where
@@ -44,11 +47,13 @@ module _ (meshes meshes' : Option (List WrittenMesh)) (report report' : Option (
         subst P is (subst Q same whole)
 
     -- the line was cut short
-    pub cut-acts-line : {i i' : ℕ} → ((all : List ℕ) → report ≡ Some all → (front : List ℕ) × IsPrefix front words × (report' ≡ Some
+    pub cut-acts-line : {i i' : ℕ} →
+        ((all : List ℕ) → report ≡ Some all → (front : List ℕ) × IsPrefix front words × (report' ≡ Some
         (all ++ front)))
         → Rose i i' → IsCutShort (told meshes report k i) (told meshes' report' k' i') acts
     cut-acts-line part rose =
-        let P : List ℕ → Type 0 = λ t. (all : List ℕ) → report ≡ Some all → (front : List ℕ) × IsPrefix front t × (report' ≡ Some (all ++ front)) in
+        let P : List ℕ → Type 0 = λ t. (all : List ℕ) → report ≡ Some all →
+        (front : List ℕ) × IsPrefix front t × (report' ≡ Some (all ++ front)) in
         cut-line meshes meshes' report report' prefix number bytes line grown unmoved (subst P says part) rose
 
     -- both were written
@@ -57,16 +62,24 @@ module _ (meshes meshes' : Option (List WrittenMesh)) (report report' : Option (
     stands-acts came same_report =
         let P : List ℕ → Type 0 = λ t. (all : List ℕ) → report ≡ Some all → report' ≡ Some (all ++ t) in
         let text_came = stands-text {k = k'} meshes' report report' line (subst P says came) same_report in
-        record { meshes_grow = grown; report_grows = text_came.report_grows; mesh_same = unmoved; report_same = same_report }
+        record {
+          meshes_grow = grown;
+          report_grows = text_came.report_grows;
+          mesh_same = unmoved;
+          report_same = same_report;
+        }
 
 -- one line
-module _ (meshes : Option (List WrittenMesh)) (report report' : Option (List ℕ)) (line words : List ℕ) (says : words ≡ line) where
+module _ (meshes : Option (List WrittenMesh)) (report report' : Option (List ℕ)) (line words : List ℕ)
+    (says : words ≡ line) where
   -- one line, cut short
-  pub cut-words : {k i i' : ℕ} → ((all : List ℕ) → report ≡ Some all → (front : List ℕ) × IsPrefix front words × (report' ≡ Some
+  pub cut-words : {k i i' : ℕ} →
+      ((all : List ℕ) → report ≡ Some all → (front : List ℕ) × IsPrefix front words × (report' ≡ Some
       (all ++ front)))
       → Rose i i' → IsCutShort (told meshes report k i) (told meshes report' k i') (ReportText line ∷ [])
   cut-words part rose =
-      let P : List ℕ → Type 0 = λ t. (all : List ℕ) → report ≡ Some all → (front : List ℕ) × IsPrefix front t × (report' ≡ Some (all ++ front)) in
+      let P : List ℕ → Type 0 = λ t. (all : List ℕ) → report ≡ Some all →
+      (front : List ℕ) × IsPrefix front t × (report' ≡ Some (all ++ front)) in
       cut-only-line meshes report report' line [] (subst P says part) rose
 
   -- one line, written

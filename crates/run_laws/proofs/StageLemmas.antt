@@ -1,9 +1,11 @@
 -- A file of lines that is read from a shelf, byte by byte and piece by piece.
-use Rattle.std.proofs.Common.{◌≡◌, ◌≢◌, ℕ, ◌+◌, ◌≤◌, List, [], ◌∷◌, ◌++◌, take, drop, length, Option, Some, None, Result, Ok, Err, IfOk, OnOk, sym, ◌∙◌, ap, subst, append_assoc}
+use Rattle.std.proofs.Common.{◌≡◌, ◌≢◌, ℕ, ◌+◌, ◌≤◌, List, [], ◌∷◌, ◌++◌, take, drop, length, Option, Some, None}
+use Rattle.std.proofs.Common.{Result, Ok, Err, IfOk, OnOk, sym, ◌∙◌, ap, subst, append_assoc}
 use Rattle.roam_edge.specs.Shelf.{NamedFile, bytes_of}
 use Rattle.roam_script.specs.declared.limits.TheConstants.{MOST_LINE_BYTES}
 use Rattle.run_laws.specs.CertFile.{FilePlace, HaveCome, TakesLines, EndsLines}
-use Rattle.run_laws.proofs.CertFileLemmas.{IsFormat, place, come-line, refused-line, refused-byte, file-end, file-last, refused-last}
+use Rattle.run_laws.proofs.CertFileLemmas.{IsFormat, place, come-line, refused-line, refused-byte, file-end, file-last}
+use Rattle.run_laws.proofs.CertFileLemmas.{refused-last}
 use Rattle.run_laws.proofs.FileLemmas.{IsOfFile, file-cut, read-more, read-all}
 
 -- the number of a line, as an answer
@@ -16,24 +18,29 @@ stopped stop = Err stop
 same-stop : {E : Type 0} (one other : E) → stopped one ≡ stopped other → one ≡ other
 same-stop one other e = cc
 
-module _ {S C E : Type 0} (step : S → List ℕ → Option S) (start : S) (finish : S → Result C ℕ) (file : List ℕ → Result C ℕ)
+module _ {S C E : Type 0} (step : S → List ℕ → Option S) (start : S) (finish : S → Result C ℕ)
+    (file : List ℕ → Result C ℕ)
     (format : IsFormat step start finish file) (bad : ℕ → E) (one_line : (i j : ℕ) → bad i ≡ bad j → i ≡ j) where
   module _ (read : List ℕ) (old : FilePlace S) (come : HaveCome step start read old) where
     -- the line that has begun ended
     pub takes-line : (new : FilePlace S) (answer : Result (Unit {0}) E)
-        → OnOk answer (step old.said old.begun ≡ Some new.said) → OnOk answer (new.lines ≡ old.lines + 1) → OnOk answer (new.begun ≡ [])
+        → OnOk answer (step old.said old.begun ≡ Some new.said) → OnOk answer (new.lines ≡ old.lines + 1) →
+        OnOk answer (new.begun ≡ [])
         → ((line : ℕ) → answer ≡ Err (bad line) → step old.said old.begun ≡ None)
-        → ((line : ℕ) → answer ≡ Err (bad line) → line ≡ old.lines + 1) → TakesLines step start file bad (read ++ 10 ∷ []) new answer
+        → ((line : ℕ) → answer ≡ Err (bad line) → line ≡ old.lines + 1) →
+        TakesLines step start file bad (read ++ 10 ∷ []) new answer
     takes-line new (Ok u) is lines part refuses number =
         let P : ℕ → Type 0 = λ k. HaveCome step start (read ++ 10 ∷ []) (place new.said k []) in
         let Q : List ℕ → Type 0 = λ l. HaveCome step start (read ++ 10 ∷ []) (place new.said new.lines l) in
         record {
-          ok = subst Q (sym part) (subst P (sym lines) (come-line step start finish file format read old come new.said is));
+          ok = subst Q (sym part)
+              (subst P (sym lines) (come-line step start finish file format read old come new.said is));
           bad_line = λ line e. cc;
         }
     takes-line new (Err stop) is lines part refuses number = record {
       ok = tt;
-      bad_line = λ line e more. refused-line step start finish file format read old come (refuses line e) more ∙ ap (refused {C = C}) (sym (number line e));
+      bad_line = λ line e more. refused-line step start finish file format read old come (refuses line e) more
+          ∙ ap (refused {C = C}) (sym (number line e));
     }
 
     -- a byte is one too many
@@ -48,15 +55,28 @@ module _ {S C E : Type 0} (step : S → List ℕ → Option S) (start : S) (fini
     -- the file ended behind whole lines
     pub ends-whole : (answer : Result C E) → old.begun ≡ [] → IfOk answer (λ whole. finish old.said ≡ Ok whole)
         → ((line : ℕ) → answer ≡ Err (bad line) → finish old.said ≡ Err line) → EndsLines file bad read answer
-    ends-whole (Ok whole) none ok refuses = record { ok = file-end step start finish file format read old come none ∙ ok; bad_line = λ line e. cc }
-    ends-whole (Err stop) none ok refuses = record { ok = tt; bad_line = λ line e. file-end step start finish file format read old come none ∙ refuses line e }
+    ends-whole (Ok whole) none ok refuses = record {
+      ok = file-end step start finish file format read old come none ∙ ok;
+      bad_line = λ line e. cc;
+    }
+    ends-whole (Err stop) none ok refuses = record {
+      ok = tt;
+      bad_line = λ line e. file-end step start finish file format read old come none ∙ refuses line e;
+    }
 
     -- the file ended in a line
     pub ends-line : (next : S) (answer : Result C E) → old.begun ≢ [] → step old.said old.begun ≡ Some next
-        → IfOk answer (λ whole. finish next ≡ Ok whole) → ((line : ℕ) → answer ≡ Err (bad line) → finish next ≡ Err line) → EndsLines file bad read answer
-    ends-line next (Ok whole) some is ok refuses = record { ok = file-last step start finish file format read old come next some is ∙ ok; bad_line = λ line e. cc }
+        → IfOk answer (λ whole. finish next ≡ Ok whole) →
+        ((line : ℕ) → answer ≡ Err (bad line) → finish next ≡ Err line) → EndsLines file bad read answer
+    ends-line next (Ok whole) some is ok refuses = record {
+      ok = file-last step start finish file format read old come next some is ∙ ok;
+      bad_line = λ line e. cc;
+    }
     ends-line next (Err stop) some is ok refuses =
-        record { ok = tt; bad_line = λ line e. file-last step start finish file format read old come next some is ∙ refuses line e }
+        record {
+          ok = tt;
+          bad_line = λ line e. file-last step start finish file format read old come next some is ∙ refuses line e;
+        }
 
     -- the file ended in a line that is refused
     pub ends-refused : (stop : E) → old.begun ≢ []
@@ -64,7 +84,8 @@ module _ {S C E : Type 0} (step : S → List ℕ → Option S) (start : S) (fini
         → ((line : ℕ) → stopped stop ≡ Err (bad line) → line ≡ old.lines + 1) → EndsLines file bad read (Err stop)
     ends-refused stop some refuses number = record {
       ok = tt;
-      bad_line = λ line e. refused-last step start finish file format read old come some (refuses line (again line e)) ∙ ap (refused {C = C}) (sym (number line (again line e)));
+      bad_line = λ line e. refused-last step start finish file format read old come some (refuses line (again line e))
+          ∙ ap (refused {C = C}) (sym (number line (again line e)));
     }
       where
         again : (line : ℕ) → (let a : Result C E = Err stop in a) ≡ Err (bad line) → stopped stop ≡ Err (bad line)
@@ -75,24 +96,30 @@ module _ {S C E : Type 0} (step : S → List ℕ → Option S) (start : S) (fini
 
   -- what is refused with some bytes is refused with more
   pub takes-longer : (bytes tail whole : List ℕ) (old new : FilePlace S) (stop : E) → whole ≡ bytes ++ tail
-      → TakesLines {T = Unit {0}} step start file bad bytes old (Err stop) → TakesLines {T = Unit {0}} step start file bad whole new (Err stop)
+      → TakesLines {T = Unit {0}} step start file bad bytes old (Err stop) →
+      TakesLines {T = Unit {0}} step start file bad whole new (Err stop)
   takes-longer bytes tail whole old new stop is takes = record {
     ok = tt;
-    bad_line = λ line e more. ap (λ (l : List ℕ). file (l ++ more)) is ∙ (ap file (append_assoc bytes tail more) ∙ takes.bad_line line e (tail ++ more));
+    bad_line = λ line e more. ap (λ (l : List ℕ). file (l ++ more)) is
+        ∙ (ap file (append_assoc bytes tail more) ∙ takes.bad_line line e (tail ++ more));
   }
 
 -- Some bytes of such a file were read of the named file.
-pub record IsReading {S : Type 0} (step : S → List ℕ → Option S) (start : S) (files : Option (List NamedFile)) (rest : Option (List ℕ)) (name : List ℕ)
+pub record IsReading {S : Type 0} (step : S → List ℕ → Option S) (start : S) (files : Option (List NamedFile))
+    (rest : Option (List ℕ)) (name : List ℕ)
     (here : FilePlace S) : Type 0 where
   pub bytes : List ℕ
   pub come : HaveCome step start bytes here
   pub in_file : IsOfFile files rest name bytes
 
 module _ {S C E : Type 0} (step : S → List ℕ → Option S) (start : S) (file : List ℕ → Result C ℕ) (bad : ℕ → E)
-    (files : Option (List NamedFile)) (rest : Option (List ℕ)) (name : List ℕ) (here : FilePlace S) (reading : IsReading step start files rest name here) where
+    (files : Option (List NamedFile)) (rest : Option (List ℕ)) (name : List ℕ) (here : FilePlace S)
+    (reading : IsReading step start files rest name here) where
   -- a piece was read and taken
-  pub lines-more : (rest' : Option (List ℕ)) (piece : List ℕ) (count : ℕ) (next : FilePlace S) → HaveCome step start (reading.bytes ++ piece) next
-      → ((unread : List ℕ) → rest ≡ Some unread → rest' ≡ Some (drop count unread)) → ((unread : List ℕ) → rest ≡ Some unread → piece ≡ take count unread)
+  pub lines-more : (rest' : Option (List ℕ)) (piece : List ℕ) (count : ℕ) (next : FilePlace S) →
+      HaveCome step start (reading.bytes ++ piece) next
+      → ((unread : List ℕ) → rest ≡ Some unread → rest' ≡ Some (drop count unread)) →
+      ((unread : List ℕ) → rest ≡ Some unread → piece ≡ take count unread)
       → IsReading step start files rest' name next
   lines-more rest' piece count next come takes gives = record {
     bytes = reading.bytes ++ piece;
@@ -103,21 +130,26 @@ module _ {S C E : Type 0} (step : S → List ℕ → Option S) (start : S) (file
   -- a piece was read that has a line that is refused
   pub lines-refused : (piece : List ℕ) (count : ℕ) (new : FilePlace S) (stop : E) (line : ℕ)
       → TakesLines {T = Unit {0}} step start file bad (reading.bytes ++ piece) new (Err stop) → stop ≡ bad line
-      → ((unread : List ℕ) → rest ≡ Some unread → piece ≡ take count unread) → (all : List NamedFile) → files ≡ Some all → file (bytes_of all name) ≡ Err line
+      → ((unread : List ℕ) → rest ≡ Some unread → piece ≡ take count unread) → (all : List NamedFile) →
+      files ≡ Some all → file (bytes_of all name) ≡ Err line
   lines-refused piece count new stop line takes is gives all told =
       let here = reading.in_file all told in
-      ap file (file-cut (bytes_of all name) reading.bytes piece here.0 count here.2 (gives here.0 here.1)) ∙ takes.bad_line line (ap stopped is) (drop count here.0)
+      ap file (file-cut (bytes_of all name) reading.bytes piece here.0 count here.2 (gives here.0 here.1))
+      ∙ takes.bad_line line (ap stopped is) (drop count here.0)
 
   -- the whole file was read
-  lines-whole : ((unread : List ℕ) → rest ≡ Some unread → unread ≡ []) → (all : List NamedFile) → files ≡ Some all → bytes_of all name ≡ reading.bytes
+  lines-whole : ((unread : List ℕ) → rest ≡ Some unread → unread ≡ []) → (all : List NamedFile) → files ≡ Some all →
+      bytes_of all name ≡ reading.bytes
   lines-whole = read-all files rest name reading.bytes reading.in_file
 
   -- what the end of the file comes to is what the file is
-  pub lines-ok : (answer : Result C E) → ((unread : List ℕ) → rest ≡ Some unread → unread ≡ []) → EndsLines file bad reading.bytes answer
+  pub lines-ok : (answer : Result C E) → ((unread : List ℕ) → rest ≡ Some unread → unread ≡ []) →
+      EndsLines file bad reading.bytes answer
       → IfOk answer (λ whole. (all : List NamedFile) → files ≡ Some all → file (bytes_of all name) ≡ Ok whole)
   lines-ok (Ok whole) nothing ends = λ all told. ap file (lines-whole nothing all told) ∙ ends.ok
   lines-ok (Err stop) nothing ends = tt
 
-  pub lines-bad : (answer : Result C E) (line : ℕ) → ((unread : List ℕ) → rest ≡ Some unread → unread ≡ []) → EndsLines file bad reading.bytes answer
+  pub lines-bad : (answer : Result C E) (line : ℕ) → ((unread : List ℕ) → rest ≡ Some unread → unread ≡ []) →
+      EndsLines file bad reading.bytes answer
       → answer ≡ Err (bad line) → (all : List NamedFile) → files ≡ Some all → file (bytes_of all name) ≡ Err line
   lines-bad answer line nothing ends is all told = ap file (lines-whole nothing all told) ∙ ends.bad_line line is

@@ -1,21 +1,25 @@
 -- What a run promises: how it follows from what its commands promise, and what follows from it.
 use Rattle.std.proofs.Math.Nat.{min-eq_left}
-use Rattle.std.proofs.Common.{◌≡◌, ◌≢◌, ◌⊎◌, ◌↔◌, ℕ, ◌+◌, ◌-◌, ◌^◌, ◌<◌, ◌≤◌, false, true, IsTrue, List, [], ◌∷◌, Option, None, Some, refl, sym, ◌∙◌, ap, subst, inl, inr, arith}
+use Rattle.std.proofs.Common.{◌≡◌, ◌≢◌, ◌⊎◌, ◌↔◌, ℕ, ◌+◌, ◌-◌, ◌^◌, ◌<◌, ◌≤◌, false, true, IsTrue, List, [], ◌∷◌}
+use Rattle.std.proofs.Common.{Option, None, Some, refl, sym, ◌∙◌, ap, subst, inl, inr, arith}
 use Rattle.roam_edge.specs.Fault.{Rose, next_count}
 use Rattle.roam_edge.specs.Shelf.{NamedFile}
 use Rattle.run_laws.specs.declared.status.Status.{Status}
-use Rattle.run_laws.specs.declared.status.Status.TheVariants.{Done, NoMemory, Usage, GridRefused, ScriptRefused, ReadFault, WriteFault, Rejected}
+use Rattle.run_laws.specs.declared.status.Status.TheVariants.{Done, NoMemory, Usage, GridRefused, ScriptRefused}
+use Rattle.run_laws.specs.declared.status.Status.TheVariants.{ReadFault, WriteFault, Rejected}
 use Rattle.word_laws.specs.Words.{Command, command_of}
 use Rattle.run_laws.specs.Act.{Act, ReportText, IsCutShort}
 use Rattle.run_laws.specs.Cause.{StatusHasCause}
 use Rattle.run_laws.specs.Outcome.{EngineEnd, Outcome, IsWordsOutcome, IsOutcome}
-use Rattle.run_laws.specs.Promise.{AreFiles, EndsRight, is_complete, may_end, CommandReadFault, CommandNoMemory, LeavesAtReadFault, LeavesAtNoMemory}
+use Rattle.run_laws.specs.Promise.{AreFiles, EndsRight, is_complete, may_end, CommandReadFault, CommandNoMemory}
+use Rattle.run_laws.specs.Promise.{LeavesAtReadFault, LeavesAtNoMemory}
 use Rattle.run_laws.specs.CutShort.{CutTextsStand, WriteFaultsStand}
 use Rattle.run_laws.specs.Laws.{AcceptedIsDone, OutcomesAreUnique, EnginesAreUnique}
 use Rattle.run_laws.specs.Leaving.{CommandEnds}
 use Rattle.run_laws.specs.Moment.{Moment}
 use Rattle.run_laws.specs.Statement.{EndsByStatus, IsCaused}
-use Rattle.run_laws.specs.StatementLaws.{OutcomeFollows, EngineFollows, RunFaultFollows, TextFaultFollows, CompleteFollows, FaultsFollow}
+use Rattle.run_laws.specs.StatementLaws.{OutcomeFollows, EngineFollows, RunFaultFollows, TextFaultFollows}
+use Rattle.run_laws.specs.StatementLaws.{CompleteFollows, FaultsFollow}
 use Rattle.run_laws.proofs.GridLemmas.{not-complete}
 
 not-true : false ≡ true → ⊥
@@ -32,7 +36,8 @@ module _ (before now : Moment) (command : Command) (status : Status) (left : Opt
       → EndsByStatus before now (Some command) status left
   ends-by-status outcome read memory = record {
     complete = λ is files are.
-        let e = (outcome files are).ends (not-complete status NoMemory refl is) (not-complete status ReadFault refl is) in
+        let e =
+        (outcome files are).ends (not-complete status NoMemory refl is) (not-complete status ReadFault refl is) in
         let all = e.2.complete is in
         record {
           end = e.0;
@@ -54,7 +59,8 @@ module _ (before now : Moment) (command : Command) (status : Status) (left : Opt
       other-status status other failed not same = not (sym same ∙ failed)
 
 -- the status is Usage exactly where the words are no command
-usage-none : (command : Option Command) (status : Status) → IsTrue (may_end command status) → (status ≡ Usage) ↔ (command ≡ None)
+usage-none : (command : Option Command) (status : Status) → IsTrue (may_end command status) →
+    (status ≡ Usage) ↔ (command ≡ None)
 usage-none None Done allows = absurd (not-true allows)
 usage-none None NoMemory allows = absurd (not-true allows)
 usage-none None Usage allows = ((λ e. refl), (λ e. refl))
@@ -144,7 +150,8 @@ is-caused before now command status allows cause shelf meshes report = record {
 -- What follows.
 
 -- an outcome of a command is one of the words that are it
-of-words : (words : List (List ℕ)) (files : List NamedFile) (end : Outcome) → IsWordsOutcome (command_of words) files end → IsOutcome words files end
+of-words : (words : List (List ℕ)) (files : List NamedFile) (end : Outcome) →
+    IsWordsOutcome (command_of words) files end → IsOutcome words files end
 unfolding IsOutcome
 of-words words files end is = is
 
@@ -211,7 +218,8 @@ pub text-fault-follows : CutTextsStand → OutcomesAreUnique → TextFaultFollow
 text-fault-follows stand unique before now words status left files ends are failed one end text is acts =
     let d = ends.write_fault failed files are in
     let same : d.end.acts ≡ ReportText text ∷ [] =
-    ap (λ (o : Outcome). o.acts) (unique words files d.end end one (of-words words files d.end d.is_outcome) is) ∙ acts in
+    ap (λ (o : Outcome). o.acts) (unique words files d.end end one (of-words words files d.end d.is_outcome) is)
+    ∙ acts in
     stand before.sinks now.sinks text
     (subst (λ (a : List Act). IsCutShort before.sinks now.sinks a) same d.cut_short)
 
@@ -227,13 +235,17 @@ module _ (done : AcceptedIsDone) where
         | inr less ↦ absurd (not-less _ _ report less)
       ]
   complete-follows before now words Usage left files ends cause are accepted shelf meshes report =
-      let d = ends.complete refl files are in inl (d.ends_so ∙ done words files d.end accepted (of-words words files d.end d.is_outcome))
+      let d = ends.complete refl files are in
+      inl (d.ends_so ∙ done words files d.end accepted (of-words words files d.end d.is_outcome))
   complete-follows before now words GridRefused left files ends cause are accepted shelf meshes report =
-      let d = ends.complete refl files are in inl (d.ends_so ∙ done words files d.end accepted (of-words words files d.end d.is_outcome))
+      let d = ends.complete refl files are in
+      inl (d.ends_so ∙ done words files d.end accepted (of-words words files d.end d.is_outcome))
   complete-follows before now words ScriptRefused left files ends cause are accepted shelf meshes report =
-      let d = ends.complete refl files are in inl (d.ends_so ∙ done words files d.end accepted (of-words words files d.end d.is_outcome))
+      let d = ends.complete refl files are in
+      inl (d.ends_so ∙ done words files d.end accepted (of-words words files d.end d.is_outcome))
   complete-follows before now words Rejected left files ends cause are accepted shelf meshes report =
-      let d = ends.complete refl files are in inl (d.ends_so ∙ done words files d.end accepted (of-words words files d.end d.is_outcome))
+      let d = ends.complete refl files are in
+      inl (d.ends_so ∙ done words files d.end accepted (of-words words files d.end d.is_outcome))
 
 unmoved : (a b : ℕ) → a ≤ b → ((a < b) → ⊥) → b ≡ a
 unmoved a b later not = omega (arith, later, not)

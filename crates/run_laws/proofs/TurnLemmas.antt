@@ -1,5 +1,6 @@
 -- The turns of a strip as numbers: what the relation counts is what the tests count.
-use Rattle.std.proofs.Common.{◌≡◌, ◌≢◌, ℕ, suc, ◌+◌, ◌≤◌, inl, inr, Bool, true, false, ◌&&◌, ◌||◌, cond, eqb, List, ◌∷◌, count_by, Contains, refl, ◌∙◌, ap, arith, eq-eqb}
+use Rattle.std.proofs.Common.{◌≡◌, ◌≢◌, ℕ, suc, ◌+◌, ◌≤◌, inl, inr, Bool, true, false, ◌&&◌, ◌||◌, cond, eqb, List, ◌∷◌}
+use Rattle.std.proofs.Common.{count_by, Contains, refl, ◌∙◌, ap, arith, eq-eqb}
 use Rattle.std.proofs.lemmas.Bool.{and_parts, and_from, or_left, or_right, or_cases, false_from_ne_true}
 use Rattle.mesh_defs.specs.declared.point.Point.{Point}
 use Rattle.mesh_defs.specs.declared.point.Corners.{Corners}
@@ -10,20 +11,25 @@ use Rattle.mesh_defs.proofs.ListLemmas.{IsIn, Contains-in, count-cons, count-yes
 use Rattle.strip_laws.specs.declared.edge.Edge.{Edge}
 use Rattle.strip_laws.specs.declared.edge.Edge.TheVariants.{LeftLeg, Base, RightLeg}
 use Rattle.strip_laws.specs.Strip.{strip_of}
-use Rattle.strip_laws.specs.Turn.{edge_from, edge_to, HasEdgeBack, next, last, IsLeftTurn, IsRightTurn, HasTurns, none, left, right}
+use Rattle.strip_laws.specs.Turn.{edge_from, edge_to, HasEdgeBack, next, last, IsLeftTurn, IsRightTurn, HasTurns, none}
+use Rattle.strip_laws.specs.Turn.{left, right}
 use Rattle.strip_laws.proofs.OrderLemmas.{leaf-strip_of, strip-once}
 use Rattle.strip_laws.proofs.ExclusiveLemmas.{not_both}
 use Rattle.mesh_defs.specs.MeshText.{is_same_point}
-use Rattle.run_laws.specs.Turns.{is_edge, has_edge_back, turns_left_from, turns_right_from, is_left_turn, is_right_turn, turns_by, left_turns, right_turns}
+use Rattle.run_laws.specs.Turns.{is_edge, has_edge_back, turns_left_from, turns_right_from, is_left_turn, is_right_turn}
+use Rattle.run_laws.specs.Turns.{turns_by, left_turns, right_turns}
 
 -- points and edges
 
 -- both points are these two
 both-points : (p q r s : Point) → (is_same_point p r && is_same_point q s) ≡ true → (p ≡ r) × (q ≡ s)
-both-points p q r s is = let both = and_parts (is_same_point p r) (is_same_point q s) is in (same_point-eq p r both.0, same_point-eq q s both.1)
+both-points p q r s is =
+    let both = and_parts (is_same_point p r) (is_same_point q s) is in
+    (same_point-eq p r both.0, same_point-eq q s both.1)
 
 points-both : (p q r s : Point) → (p ≡ r) × (q ≡ s) → (is_same_point p r && is_same_point q s) ≡ true
-points-both p q r s are = and_from (is_same_point p r) (is_same_point q s) (eq-same_point p r are.0) (eq-same_point q s are.1)
+points-both p q r s are =
+    and_from (is_same_point p r) (is_same_point q s) (eq-same_point p r are.0) (eq-same_point q s are.1)
 
 edge-found : (c : Corners) (p q : Point) → is_edge c p q ≡ true → IsEdge c p q
 edge-found c p q is =
@@ -41,15 +47,18 @@ edge-found c p q is =
 found-edge : (c : Corners) (p q : Point) → IsEdge c p q → is_edge c p q ≡ true
 found-edge c p q (inl h) =
     or_left (is_same_point p c.apex && is_same_point q c.v0)
-    ((is_same_point p c.v0 && is_same_point q c.v1) || (is_same_point p c.v1 && is_same_point q c.apex)) (points-both p q c.apex c.v0 h)
+    ((is_same_point p c.v0 && is_same_point q c.v1) || (is_same_point p c.v1 && is_same_point q c.apex))
+    (points-both p q c.apex c.v0 h)
 found-edge c p q (inr (inl h)) =
     or_right (is_same_point p c.apex && is_same_point q c.v0)
     ((is_same_point p c.v0 && is_same_point q c.v1) || (is_same_point p c.v1 && is_same_point q c.apex))
-    (or_left (is_same_point p c.v0 && is_same_point q c.v1) (is_same_point p c.v1 && is_same_point q c.apex) (points-both p q c.v0 c.v1 h))
+    (or_left (is_same_point p c.v0 && is_same_point q c.v1) (is_same_point p c.v1 && is_same_point q c.apex)
+    (points-both p q c.v0 c.v1 h))
 found-edge c p q (inr (inr h)) =
     or_right (is_same_point p c.apex && is_same_point q c.v0)
     ((is_same_point p c.v0 && is_same_point q c.v1) || (is_same_point p c.v1 && is_same_point q c.apex))
-    (or_right (is_same_point p c.v0 && is_same_point q c.v1) (is_same_point p c.v1 && is_same_point q c.apex) (points-both p q c.v1 c.apex h))
+    (or_right (is_same_point p c.v0 && is_same_point q c.v1) (is_same_point p c.v1 && is_same_point q c.apex)
+    (points-both p q c.v1 c.apex h))
 
 -- a test of the three edges
 
@@ -66,15 +75,18 @@ any-found test is =
 found-any : (test : Edge → Bool) (e : Edge) → test e ≡ true → (test LeftLeg || (test Base || test RightLeg)) ≡ true
 found-any test LeftLeg is = or_left (test LeftLeg) (test Base || test RightLeg) is
 found-any test Base is = or_right (test LeftLeg) (test Base || test RightLeg) (or_left (test Base) (test RightLeg) is)
-found-any test RightLeg is = or_right (test LeftLeg) (test Base || test RightLeg) (or_right (test Base) (test RightLeg) is)
+found-any test RightLeg is =
+    or_right (test LeftLeg) (test Base || test RightLeg) (or_right (test Base) (test RightLeg) is)
 
 -- turns
 
 module _ (n before t after : ℕ) where
-  back-found : (e : Edge) (other : ℕ) → has_edge_back e (corners_of n t) (corners_of n other) ≡ true → HasEdgeBack e (corners_of n t) (corners_of n other)
+  back-found : (e : Edge) (other : ℕ) → has_edge_back e (corners_of n t) (corners_of n other) ≡ true →
+      HasEdgeBack e (corners_of n t) (corners_of n other)
   back-found e other is = edge-found (corners_of n other) (edge_to e (corners_of n t)) (edge_from e (corners_of n t)) is
 
-  found-back : (e : Edge) (other : ℕ) → HasEdgeBack e (corners_of n t) (corners_of n other) → has_edge_back e (corners_of n t) (corners_of n other) ≡ true
+  found-back : (e : Edge) (other : ℕ) → HasEdgeBack e (corners_of n t) (corners_of n other) →
+      has_edge_back e (corners_of n t) (corners_of n other) ≡ true
   found-back e other is = found-edge (corners_of n other) (edge_to e (corners_of n t)) (edge_from e (corners_of n t)) is
 
   abbrev from_left : Edge → Bool
@@ -86,25 +98,29 @@ module _ (n before t after : ℕ) where
   left-found : is_left_turn n before t after ≡ true → IsLeftTurn n before t after
   left-found is =
       let some = any-found from_left is in
-      let both = and_parts (has_edge_back some.0 (corners_of n t) (corners_of n before)) (has_edge_back (last some.0) (corners_of n t) (corners_of n after)) some.1 in
+      let both = and_parts (has_edge_back some.0 (corners_of n t) (corners_of n before))
+      (has_edge_back (last some.0) (corners_of n t) (corners_of n after)) some.1 in
       record { entry = some.0; entered = back-found some.0 before both.0; left = back-found (last some.0) after both.1 }
 
   found-left : IsLeftTurn n before t after → is_left_turn n before t after ≡ true
   found-left turn =
       found-any from_left turn.entry
-      (and_from (has_edge_back turn.entry (corners_of n t) (corners_of n before)) (has_edge_back (last turn.entry) (corners_of n t) (corners_of n after))
+      (and_from (has_edge_back turn.entry (corners_of n t) (corners_of n before))
+      (has_edge_back (last turn.entry) (corners_of n t) (corners_of n after))
       (found-back turn.entry before turn.entered) (found-back (last turn.entry) after turn.left))
 
   right-found : is_right_turn n before t after ≡ true → IsRightTurn n before t after
   right-found is =
       let some = any-found from_right is in
-      let both = and_parts (has_edge_back some.0 (corners_of n t) (corners_of n before)) (has_edge_back (next some.0) (corners_of n t) (corners_of n after)) some.1 in
+      let both = and_parts (has_edge_back some.0 (corners_of n t) (corners_of n before))
+      (has_edge_back (next some.0) (corners_of n t) (corners_of n after)) some.1 in
       record { entry = some.0; entered = back-found some.0 before both.0; left = back-found (next some.0) after both.1 }
 
   found-right : IsRightTurn n before t after → is_right_turn n before t after ≡ true
   found-right turn =
       found-any from_right turn.entry
-      (and_from (has_edge_back turn.entry (corners_of n t) (corners_of n before)) (has_edge_back (next turn.entry) (corners_of n t) (corners_of n after))
+      (and_from (has_edge_back turn.entry (corners_of n t) (corners_of n before))
+      (has_edge_back (next turn.entry) (corners_of n t) (corners_of n after))
       (found-back turn.entry before turn.entered) (found-back (next turn.entry) after turn.left))
 
 -- lists of leaves, each at most once
@@ -144,11 +160,14 @@ adds-nothing true rest is = absurd (no is)
 
 module _ (n : ℕ) (has : ℕ → Bool) (closed : IsClosed n has) where
   -- a turn to one side is none to the other
-  exclusive : (a b c : ℕ) (rest : List ℕ) → AreOnce n has (a ∷ (b ∷ (c ∷ rest))) → IsLeftTurn n a b c → IsRightTurn n a b c → ⊥
+  exclusive : (a b c : ℕ) (rest : List ℕ) → AreOnce n has (a ∷ (b ∷ (c ∷ rest))) →
+      IsLeftTurn n a b c → IsRightTurn n a b c → ⊥
   exclusive a b c rest are l r =
-      not_both n a b c has closed (first-third n has a b c rest are) (are.listed a (inl refl)) (are.listed b (inr (inl refl))) (are.listed c (inr (inr (inl refl)))) l r
+      not_both n a b c has closed (first-third n has a b c rest are) (are.listed a (inl refl))
+      (are.listed b (inr (inl refl))) (are.listed c (inr (inr (inl refl)))) l r
 
-  left-count : (order : List ℕ) (lefts rights : ℕ) → AreOnce n has order → HasTurns n order lefts rights → turns_by (is_left_turn n) order ≡ lefts
+  left-count : (order : List ℕ) (lefts rights : ℕ) → AreOnce n has order → HasTurns n order lefts rights →
+      turns_by (is_left_turn n) order ≡ lefts
   left-count order lefts rights are (none a b) = refl
   left-count order lefts rights are (left a b c rest i j turn more) =
       adds-one (is_left_turn n a b c) (turns_by (is_left_turn n) (b ∷ (c ∷ rest))) (found-left n a b c turn)
@@ -158,7 +177,8 @@ module _ (n : ℕ) (has : ℕ → Bool) (closed : IsClosed n has) where
       (false_from_ne_true (is_left_turn n a b c) (λ is. exclusive a b c rest are (left-found n a b c is) turn))
       ∙ left-count (b ∷ (c ∷ rest)) i j (once-rest n has a (b ∷ (c ∷ rest)) are) more
 
-  right-count : (order : List ℕ) (lefts rights : ℕ) → AreOnce n has order → HasTurns n order lefts rights → turns_by (is_right_turn n) order ≡ rights
+  right-count : (order : List ℕ) (lefts rights : ℕ) → AreOnce n has order → HasTurns n order lefts rights →
+      turns_by (is_right_turn n) order ≡ rights
   right-count order lefts rights are (none a b) = refl
   right-count order lefts rights are (right a b c rest i j turn more) =
       adds-one (is_right_turn n a b c) (turns_by (is_right_turn n) (b ∷ (c ∷ rest))) (found-right n a b c turn)
@@ -178,5 +198,7 @@ module _ (n : ℕ) (has : ℕ → Bool) (closed : IsClosed n has) where
   pub turns-counted : (lefts rights : ℕ) → HasTurns n (strip_of n has) lefts rights
       → (left_turns n (strip_of n has) ≡ lefts) × (right_turns n (strip_of n has) ≡ rights)
   unfolding left_turns right_turns
-  turns-counted lefts rights turns =
-      (left-count (strip_of n has) lefts rights strip-listed turns, right-count (strip_of n has) lefts rights strip-listed turns)
+  turns-counted lefts rights turns = (
+    left-count (strip_of n has) lefts rights strip-listed turns,
+    right-count (strip_of n has) lefts rights strip-listed turns,
+  )

@@ -57,11 +57,12 @@ pub record Stands (before now : Told) (acts : List Act) : Type 0 where
   pub mesh_same : now.mesh_faults ≡ before.mesh_faults
   pub report_same : now.report_faults ≡ before.report_faults
 
--- The acts done were added, and a part of the next one: of a mesh, and then the meshes failed and the report did not; or of a text,
--- and then the report failed and the meshes did not.
+-- The acts done were added, and a part of the next one: of a mesh, and then the meshes failed and the report did not;
+-- or of a text, and then the report failed and the meshes did not.
 abbrev pub StandsInPart : Told → Told → List Act → Act → Type 0
 StandsInPart before now done (WholeMesh prefix number bytes) =
-    ((all : List WrittenMesh) → before.meshes ≡ Some all → (part : List WrittenMesh) × IsPartOfMesh prefix number bytes part
+    ((all : List WrittenMesh) → before.meshes ≡ Some all →
+    (part : List WrittenMesh) × IsPartOfMesh prefix number bytes part
     × (now.meshes ≡ Some (all ++ (meshes_of done ++ part))))
     × Grows before.report now.report (report_of done)
     × Rose before.mesh_faults now.mesh_faults × (now.report_faults ≡ before.report_faults)

@@ -1,4 +1,5 @@
--- Certificates as a run makes and checks them: over a grid as it was read, at a budget, a spacing and a camera, without planes.
+-- Certificates as a run makes and checks them: over a grid as it was read, at a budget, a spacing and a camera, without
+-- planes.
 -- This project's own.
 -- Words: makes_at, checks_at, IsMade, IsFaultless, IsFitMade, IsFitFaultless, IsFirstDifference.
 use Rattle.std.specs.Prelude.{◌≡◌, ◌≢◌, ℕ, ◌<◌, List, length, take, slice_get}
@@ -21,8 +22,8 @@ makes_at m grid = with_camera m.camera (start_state grid m.spacing m.budget)
 abbrev pub checks_at : Checking → HeightField → CameraAt → State
 checks_at c grid camera = with_camera camera (start_state grid c.spacing c.budget)
 
--- A certificate that may be made: of the best mesh of the budget at the camera of the words, depth first, and with reasons that
--- prove it so.
+-- A certificate that may be made: of the best mesh of the budget at the camera of the words, depth first, and with
+-- reasons that prove it so.
 pub record IsMade (m : Making) (grid : HeightField) (cert : Certificate) : Type 0 where
   pub camera : cert.camera ≡ m.camera
   pub best : IsBestMesh grid.n m.budget (priority_in (makes_at m grid)) cert.leaves
@@ -35,7 +36,8 @@ IsFaultless c grid cert = IsSound grid.n c.budget (priority_in (checks_at c grid
 
 -- A certificate of a fitted mesh that may be made: a sound one for what the words say.
 abbrev pub IsFitMade : FitMaking → HeightField → FitCertificate → Type 0
-IsFitMade m grid cert = (triangles : List ℕ) × fits.IsFitSound grid.n grid.heights (goal_of grid.n m.target) cert triangles
+IsFitMade m grid cert =
+    (triangles : List ℕ) × fits.IsFitSound grid.n grid.heights (goal_of grid.n m.target) cert triangles
 
 -- no part of it fails: it is a sound one of these triangles
 abbrev pub IsFitFaultless : FitChecking → HeightField → FitCertificate → List ℕ → Type 0

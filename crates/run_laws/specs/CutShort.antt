@@ -1,7 +1,9 @@
 -- What stands where a write failed, frame by frame: one of four cases. This project's own words.
 -- Words: is_by_frame, shown_line, mesh_acts, first_frames, StandsUnbegun, StandsInMesh, StandsInText, IsCutInMesh,
--- IsCutInLine, MeshIsCut, LineIsCut, StandsInRun, LeavesAtWriteFault, CutRunsStand, CutTextsStand, WriteFaultsStand, SinksDecide.
-use Rattle.std.specs.Prelude.{◌≡◌, ◌⊎◌, ℕ, ◌+◌, ◌-◌, ◌^◌, ◌<◌, Bool, true, false, IsTrue, List, [], ◌∷◌, ◌++◌, take, Option, None, Some, slice_get}
+-- IsCutInLine, MeshIsCut, LineIsCut, StandsInRun, LeavesAtWriteFault, CutRunsStand, CutTextsStand, WriteFaultsStand,
+-- SinksDecide.
+use Rattle.std.specs.Prelude.{◌≡◌, ◌⊎◌, ℕ, ◌+◌, ◌-◌, ◌^◌, ◌<◌, Bool, true, false, IsTrue, List, [], ◌∷◌, ◌++◌, take}
+use Rattle.std.specs.Prelude.{Option, None, Some, slice_get}
 use Rattle.mesh_defs.specs.State.{text_in}
 use Rattle.roam_edge.specs.MeshSink.{WrittenMesh}
 use Rattle.mesh_defs.specs.HeightField.{HeightField}
@@ -48,8 +50,10 @@ pub record StandsUnbegun (before now : Told) (acts : List Act) : Type 0 where
   pub failed : Rose before.mesh_faults now.mesh_faults
   pub report_same : now.report_faults ≡ before.report_faults
 
--- these acts, and an unfinished mesh with a prefix of the bytes that were owed: the meshes failed, and the report did not
-pub record StandsInMesh (before now : Told) (acts : List Act) (prefix : List ℕ) (number : ℕ) (bytes : List ℕ) : Type 0 where
+-- these acts, and an unfinished mesh with a prefix of the bytes that were owed: the meshes failed, and the report did
+-- not
+pub record StandsInMesh (before now : Told) (acts : List Act) (prefix : List ℕ) (number : ℕ)
+    (bytes : List ℕ) : Type 0 where
   pub mesh : (all : List WrittenMesh) → before.meshes ≡ Some all → (front : List ℕ) × IsPrefix front bytes
       × (now.meshes ≡ Some (all ++ (meshes_of acts ++ mesh_with prefix number front false ∷ [])))
   pub report : Grows before.report now.report (report_of acts)
@@ -64,8 +68,8 @@ pub record StandsInText (before now : Told) (acts : List Act) (bytes : List ℕ)
   pub failed : Rose before.report_faults now.report_faults
   pub mesh_same : now.mesh_faults ≡ before.mesh_faults
 
--- The mesh of the frame of this number was cut short behind these acts of the frames before it, where meshes are shown: the acts
--- stand; or besides an unfinished mesh with a prefix of the bytes of this one.
+-- The mesh of the frame of this number was cut short behind these acts of the frames before it, where meshes are shown:
+-- the acts stand; or besides an unfinished mesh with a prefix of the bytes of this one.
 abbrev pub IsCutInMesh : Told → Told → List Act → Show → ℕ → Picture → Type 0
 IsCutInMesh before now acts show number picture =
     (prefix : List ℕ) × (prefix_of show ≡ Some prefix) × (StandsUnbegun before now acts
@@ -74,7 +78,8 @@ IsCutInMesh before now acts show number picture =
 -- its line was cut short: the acts stand, its mesh, whole, where meshes are shown, and a prefix of its line
 abbrev pub IsCutInLine : Told → Told → List Act → Show → ℕ → Picture → Type 0
 IsCutInLine before now acts show number picture = StandsInText before now
-    (acts ++ mesh_acts (prefix_of show) number (text_in picture.state (shown_triangles show picture))) (shown_line show number picture)
+    (acts ++ mesh_acts (prefix_of show) number (text_in picture.state (shown_triangles show picture)))
+    (shown_line show number picture)
 
 -- a mesh was cut short: that of a frame behind the first j
 abbrev pub MeshIsCut : Told → Told → Show → List Picture → Type 0
@@ -86,14 +91,15 @@ abbrev pub LineIsCut : Told → Told → Show → List Picture → Option Refusa
 LineIsCut before now show pictures stop =
     ((j : ℕ) × (picture : Picture) × (slice_get pictures j ≡ Some picture)
     × IsCutInLine before now (first_frames show pictures j) show (j + 1) picture)
-    ⊎ ((refusal : Refusal) × (stop ≡ Some refusal) × StandsInText before now (shown_acts show 1 pictures) (line_refusal refusal))
+    ⊎ ((refusal : Refusal) × (stop ≡ Some refusal)
+    × StandsInText before now (shown_acts show 1 pictures) (line_refusal refusal))
 
 -- A run of frames was cut short, in a mesh or in a line: one of four cases stands.
 abbrev pub StandsInRun : Told → Told → Show → List Picture → Option Refusal → Type 0
 StandsInRun before now show pictures stop = MeshIsCut before now show pictures ⊎ LineIsCut before now show pictures stop
 
--- A write failed in a run over this grid and script: its frames show these pictures, and they or the refusal behind them
--- were cut short.
+-- A write failed in a run over this grid and script: its frames show these pictures, and they or the refusal behind
+-- them were cut short.
 pub record LeavesAtWriteFault (before now : Told) (s : Scripted) (grid : HeightField) (script : List ℕ) : Type 0 where
   pub pictures : List Picture
   pub shown : ArePictures s.show [] (script_walk s grid script).frames pictures
@@ -106,18 +112,24 @@ CutRunsStand = (before now : Told) (show : Show) (pictures : List Picture) (stop
 
 -- what stands of one text that was cut short: a prefix of it
 abbrev pub CutTextsStand : Type 0
-CutTextsStand = (before now : Told) (bytes : List ℕ) → IsCutShort before now (ReportText bytes ∷ []) → StandsInText before now [] bytes
+CutTextsStand =
+    (before now : Told) (bytes : List ℕ) → IsCutShort before now (ReportText bytes ∷ []) →
+    StandsInText before now [] bytes
 
 -- where a write failed in a run that shows its frames one by one, one of the four cases is there
 abbrev pub WriteFaultsStand : Type 0
-WriteFaultsStand = (before now : Told) (old new : Seen) (words : List (List ℕ)) (files : List NamedFile) (s : Scripted) (grid : HeightField)
+WriteFaultsStand =
+    (before now : Told) (old new : Seen) (words : List (List ℕ)) (files : List NamedFile)
+    (s : Scripted) (grid : HeightField)
     (status : Status) → EndsRight before now old new words files status → status ≡ WriteFault
-    → IsRunOf words files (Frames s) grid → IsTrue (is_by_frame s.show) → LeavesAtWriteFault before now s grid (bytes_of files s.script)
+    → IsRunOf words files (Frames s) grid → IsTrue (is_by_frame s.show) →
+    LeavesAtWriteFault before now s grid (bytes_of files s.script)
 
--- Which sink failed decides the case: where the count of the meshes did not move it was a line, and where that of the report did not
--- move it was a mesh. A count at its greatest value cannot move.
+-- Which sink failed decides the case: where the count of the meshes did not move it was a line, and where that of the
+-- report did not move it was a mesh. A count at its greatest value cannot move.
 abbrev pub SinksDecide : Type 0
 SinksDecide = (before now : Told) (show : Show) (pictures : List Picture) (stop : Option Refusal)
     → StandsInRun before now show pictures stop
     → (before.mesh_faults < 2 ^ 64 - 1 → now.mesh_faults ≡ before.mesh_faults → LineIsCut before now show pictures stop)
-    × (before.report_faults < 2 ^ 64 - 1 → now.report_faults ≡ before.report_faults → MeshIsCut before now show pictures)
+    × (before.report_faults < 2 ^ 64 - 1 → now.report_faults ≡ before.report_faults →
+    MeshIsCut before now show pictures)

@@ -6,7 +6,9 @@ use Rattle.mesh_defs.specs.State.{State, start_state}
 use Rattle.roam_script.specs.declared.limits.Limits.{Limits}
 use Rattle.roam_script.specs.declared.line.Line.TheVariants.{Frame, Blank}
 use Rattle.roam_script.specs.declared.script_fault.ScriptFault.{ScriptFault}
-use Rattle.roam_script.specs.declared.script_fault.ScriptFault.TheVariants.{LineTooLong, UnknownCommand, WrongFields, BadNumber, OutOfRange, TooManyLines, TooManyFrames, TooManyPlanes}
+use Rattle.roam_script.specs.declared.script_fault.ScriptFault.TheVariants.{LineTooLong, UnknownCommand, WrongFields}
+use Rattle.roam_script.specs.declared.script_fault.ScriptFault.TheVariants.{BadNumber, OutOfRange, TooManyLines}
+use Rattle.roam_script.specs.declared.script_fault.ScriptFault.TheVariants.{TooManyFrames, TooManyPlanes}
 use Rattle.roam_script.specs.LineText.{line_in}
 use Rattle.deviation_laws.specs.PlaneHeight.{deviation_of, thickest_of}
 use Rattle.run_laws.specs.Turns.{left_turns, right_turns}
@@ -53,12 +55,16 @@ CountsAreBounded =
 
 -- the seventh plane
 abbrev pub SeventhPlaneStops : Type 0
-SeventhPlaneStops = (walk_under 8 (codes "plane 1 0 0 0\nplane 1 0 0 0\nplane 1 0 0 0\nplane 1 0 0 0\nplane 1 0 0 0\nplane 1 0 0 0\nplane 1 0 0 0\n")).stop ≡ refused 7 TooManyPlanes
+SeventhPlaneStops =
+    (walk_under 8 (codes
+    "plane 1 0 0 0\nplane 1 0 0 0\nplane 1 0 0 0\nplane 1 0 0 0\nplane 1 0 0 0\nplane 1 0 0 0\nplane 1 0 0 0\n")).stop
+    ≡ refused 7 TooManyPlanes
 
 -- the budgets in force at the frame lines, and one above that of the words
 abbrev pub BudgetsAreInForce : Type 0
 BudgetsAreInForce =
-    (map (λ (s : State). s.budget) (walk_under 9 (codes "frame\nbudget 7\nframe\nbudget 9\nframe\n")).frames ≡ 9 ∷ 7 ∷ 9 ∷ [])
+    (map (λ (s : State). s.budget) (walk_under 9 (codes "frame\nbudget 7\nframe\nbudget 9\nframe\n")).frames
+    ≡ 9 ∷ 7 ∷ 9 ∷ [])
     × ((walk_under 9 (codes "frame\nbudget 10\nframe\nbudget 9\nframe\n")).stop ≡ refused 2 (OutOfRange 1))
     × (length (walk_under 9 (codes "frame\nbudget 10\nframe\nbudget 9\nframe\n")).frames ≡ 1)
 

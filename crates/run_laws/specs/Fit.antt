@@ -1,5 +1,5 @@
--- A mesh that is fitted to a height field, whatever it is seen from: the fewest triangles for an error, or the least error for a
--- budget. This project's own form.
+-- A mesh that is fitted to a height field, whatever it is seen from: the fewest triangles for an error, or the least
+-- error for a budget. This project's own form.
 -- Words: tolerance_of, goal_of, IsFitFor, IsFitted, IsFewestFor, IsClosestFor, IsBestFit, fit_text.
 use Rattle.std.specs.Prelude.{◌≡◌, ℕ, ◌*◌, ◌^◌, ◌/◌, ◌≤◌, List, [], length}
 use Rattle.mesh_defs.specs.HeightField.{HeightField}
@@ -15,8 +15,8 @@ use Rattle.fit_certificate_laws.specs.declared.reason.Target.{Target as Goal}
 use Rattle.fit_certificate_laws.specs.declared.reason.Target.TheVariants as goal
 use Rattle.word_laws.specs.Words.{Target, AtError, InBudget}
 
--- The tolerance of so many thousandths of a unit of height, in units of 2 ^ -n: errors are whole in these, so rounding down
--- loses none.
+-- The tolerance of so many thousandths of a unit of height, in units of 2 ^ -n: errors are whole in these, so rounding
+-- down loses none.
 abbrev pub tolerance_of : (n thousandths : ℕ) → ℕ
 tolerance_of n thousandths = thousandths * 2 ^ n / 1000
 
@@ -36,23 +36,24 @@ pub record IsFitted (target : Target) (grid : HeightField) (triangles : List ℕ
   pub fit : IsFitFor target grid triangles
   pub in_order : leaves_of grid.n (ancestors_of triangles) ≡ triangles
 
--- The list has the fewest triangles for an error of so many thousandths: it is conforming, at no grid point the surface is farther
--- off, and each such list has at least as many triangles.
+-- The list has the fewest triangles for an error of so many thousandths: it is conforming, at no grid point the surface
+-- is farther off, and each such list has at least as many triangles.
 pub record IsFewestFor (thousandths : ℕ) (grid : HeightField) (triangles : List ℕ) : Type 0 where
   pub conforming : IsConforming grid.n triangles
   pub near : 1000 * deviation_of grid.n grid.heights triangles ≤ thousandths * 2 ^ grid.n
   pub fewest : (others : List ℕ) → IsConforming grid.n others →
       1000 * deviation_of grid.n grid.heights others ≤ thousandths * 2 ^ grid.n → length triangles ≤ length others
 
--- The list has the least error for a budget: it is conforming and within the budget, the surface is as near as to any such list, and
--- of those to which it is as near none has fewer triangles.
+-- The list has the least error for a budget: it is conforming and within the budget, the surface is as near as to any
+-- such list, and of those to which it is as near none has fewer triangles.
 pub record IsClosestFor (budget : ℕ) (grid : HeightField) (triangles : List ℕ) : Type 0 where
   pub conforming : IsConforming grid.n triangles
   pub within : length triangles ≤ budget
   pub closest : (others : List ℕ) → IsConforming grid.n others → length others ≤ budget →
       deviation_of grid.n grid.heights triangles ≤ deviation_of grid.n grid.heights others
   pub fewest : (others : List ℕ) → IsConforming grid.n others →
-      deviation_of grid.n grid.heights others ≤ deviation_of grid.n grid.heights triangles → length triangles ≤ length others
+      deviation_of grid.n grid.heights others ≤ deviation_of grid.n grid.heights triangles →
+      length triangles ≤ length others
 
 -- what a mesh is that is fitted, in these words
 abbrev pub IsBestFit : Target → HeightField → List ℕ → Type 0

@@ -16,8 +16,8 @@ HasRoomForAll state = 2 * 4 ^ state.grid.n ≤ state.budget
 abbrev pub unblocked_end : List ℕ
 unblocked_end = codes " worst 0 blocked 0\n"
 
--- Up to level 6 the budget of a generated run has room for all finest triangles: so, whatever the seed, the run ends with Done, its
--- one act is the line of its sums, and the line ends so.
+-- Up to level 6 the budget of a generated run has room for all finest triangles: so, whatever the seed, the run ends
+-- with Done, its one act is the line of its sums, and the line ends so.
 abbrev pub LowLevelsAreUnblocked : Type 0
 LowLevelsAreUnblocked = (words : List (List ℕ)) (files : List NamedFile) (n seed : ℕ) (end : Outcome)
     → command_of words ≡ Some (Generated n seed) → n ≤ 6 → IsOutcome words files end

@@ -1,8 +1,9 @@
--- The headline: each frame's mesh is a best mesh within the budget in force, whatever the mesh before; or the least mesh of a
--- tolerance. A mesh that is fitted is a best one for its error or its budget.
--- Words: IsGoodMesh, IsGoodStrip, IsGoodOrder, IsGoodText, IsGoodFrame, AreGoodFrames, IsRunOf, KeepsGoodMeshes, IsCertifiedMesh,
--- IsCertifiedFit, IsFitMeshOf, KeepsFitMesh.
-use Rattle.std.specs.Prelude.{◌≡◌, ⊤, ℕ, ◌+◌, ◌≤◌, Bool, true, IsTrue, List, [], ◌∷◌, ◌++◌, length, count_by, nat_eq, All, Contains, Option, Some}
+-- The headline: each frame's mesh is a best mesh within the budget in force, whatever the mesh before; or the least
+-- mesh of a tolerance. A mesh that is fitted is a best one for its error or its budget.
+-- Words: IsGoodMesh, IsGoodStrip, IsGoodOrder, IsGoodText, IsGoodFrame, AreGoodFrames, IsRunOf, KeepsGoodMeshes,
+-- IsCertifiedMesh, IsCertifiedFit, IsFitMeshOf, KeepsFitMesh.
+use Rattle.std.specs.Prelude.{◌≡◌, ⊤, ℕ, ◌+◌, ◌≤◌, Bool, true, IsTrue, List, [], ◌∷◌, ◌++◌, length, count_by, nat_eq}
+use Rattle.std.specs.Prelude.{All, Contains, Option, Some}
 use Rattle.mesh_defs.specs.HeightField.{HeightField, IsHeightField}
 use Rattle.mesh_defs.specs.BestMesh.{IsBestMesh}
 use Rattle.mesh_defs.specs.BoundingBox.{CameraAt}
@@ -19,7 +20,8 @@ use Rattle.tiling_laws.specs.Ancestors.{AreLeaves}
 use Rattle.strip_laws.specs.Strip.{strip_of, IsRing}
 use Rattle.least_laws.specs.Least.{IsLeastMesh}
 use Rattle.deviation_laws.specs.PlaneHeight.{deviation_of}
-use Rattle.word_laws.specs.Words.{Criterion, OfBudget, OfTolerance, TriangleOrder, DepthFirst, AlongStrip, Show, Scripted, Checking, Fitting, FitChecking, Job, OnGrid, prefix_of, command_of}
+use Rattle.word_laws.specs.Words.{Criterion, OfBudget, OfTolerance, TriangleOrder, DepthFirst, AlongStrip, Show}
+use Rattle.word_laws.specs.Words.{Scripted, Checking, Fitting, FitChecking, Job, OnGrid, prefix_of, command_of}
 use Rattle.run_laws.specs.ReportText.{certified_line, fit_line, certified_fit_line}
 use Rattle.run_laws.specs.Certify.{checks_at}
 use Rattle.run_laws.specs.Fit.{IsFitFor, IsBestFit, fit_text}
@@ -28,14 +30,14 @@ use Rattle.obj_write.specs.Written.{mesh_with, Grows}
 use Rattle.run_laws.specs.Outcome.{script_walk}
 use Rattle.run_laws.specs.Promise.{ends_script}
 
--- The list is the mesh of this criterion: a best mesh within the budget in force, or the least mesh for a tolerance: none of its
--- triangles is worse, and every such mesh refines it.
+-- The list is the mesh of this criterion: a best mesh within the budget in force, or the least mesh for a tolerance:
+-- none of its triangles is worse, and every such mesh refines it.
 abbrev pub IsGoodMesh : Criterion → State → List ℕ → Type 0
 IsGoodMesh OfBudget state triangles = IsBestMesh state.grid.n state.budget (priority_in state) triangles
 IsGoodMesh (OfTolerance tolerance) state triangles = IsLeastMesh state.grid.n tolerance (priority_in state) triangles
 
--- The list is the strip of such a mesh: its triangles, each once, in an order in which each two neighbours share a whole edge, and
--- so do the last and the first.
+-- The list is the strip of such a mesh: its triangles, each once, in an order in which each two neighbours share a
+-- whole edge, and so do the last and the first.
 pub record IsGoodStrip (criterion : Criterion) (state : State) (order : List ℕ) : Type 0 where
   pub has : ℕ → Bool
   pub mesh : IsGoodMesh criterion state (leaves_of state.grid.n has)
@@ -51,7 +53,8 @@ IsGoodOrder AlongStrip criterion state order = IsGoodStrip criterion state order
 
 -- The bytes are the text of what is shown of a state: of the mesh of the criterion, its triangles in the order.
 abbrev pub IsGoodText : Show → State → List ℕ → Type 0
-IsGoodText show state bytes = (order : List ℕ) × IsGoodOrder show.order show.criterion state order × (bytes ≡ text_in state order)
+IsGoodText show state bytes =
+    (order : List ℕ) × IsGoodOrder show.order show.criterion state order × (bytes ≡ text_in state order)
 
 -- The mesh has this number and the prefix of the words, and its bytes are right for this state.
 pub record IsGoodFrame (show : Show) (number : ℕ) (state : State) (mesh : WrittenMesh) : Type 0 where
@@ -74,17 +77,20 @@ pub record IsRunOf (words : List (List ℕ)) (files : List NamedFile) (job : Job
   pub valid : IsHeightField grid
   pub file_text : IsFileText grid (bytes_of files grid_name)
 
--- The meshes that were there stay, and behind them came those of the first frame lines, in order. Each that is finished is right for
--- the state at its line. Where the script was carried out to its end or its refusal there is one for each frame line, all finished.
-pub record KeepsGoodMeshes (s : Scripted) (grid : HeightField) (script : List ℕ) (before : List WrittenMesh) (now : Option (List WrittenMesh)) (status : Status) : Type 0 where
+-- The meshes that were there stay, and behind them came those of the first frame lines, in order. Each that is finished
+-- is right for the state at its line. Where the script was carried out to its end or its refusal there is one for each
+-- frame line, all finished.
+pub record KeepsGoodMeshes (s : Scripted) (grid : HeightField) (script : List ℕ) (before : List WrittenMesh)
+    (now : Option (List WrittenMesh)) (status : Status) : Type 0 where
   pub added : List WrittenMesh
   pub behind : now ≡ Some (before ++ added)
   pub frames : AreGoodFrames s.show 1 (script_walk s grid script).frames added
   pub all_frames : IsTrue (ends_script status) → length added ≡ length (script_walk s grid script).frames
   pub all_finished : IsTrue (ends_script status) → All (λ (mesh : WrittenMesh). mesh.finished ≡ true) added
 
--- A mesh was certified by this line of the report, whoever made it: its bytes are the text of a conforming list of at most as many triangles as the
--- budget, at the camera that the line names no such list has a lower worst, and the line tells the number of triangles and their worst.
+-- A mesh was certified by this line of the report, whoever made it: its bytes are the text of a conforming list of at
+-- most as many triangles as the budget, at the camera that the line names no such list has a lower worst, and the line
+-- tells the number of triangles and their worst.
 pub record IsCertifiedMesh (c : Checking) (grid : HeightField) (mesh line : List ℕ) : Type 0 where
   pub camera : CameraAt
   pub triangles : List ℕ
@@ -92,11 +98,14 @@ pub record IsCertifiedMesh (c : Checking) (grid : HeightField) (mesh line : List
   pub conforming : IsConforming grid.n triangles
   pub within : length triangles ≤ c.budget
   pub optimal : (others : List ℕ) → IsConforming grid.n others → length others ≤ c.budget
-      → worst_of (priority_in (checks_at c grid camera)) triangles ≤ worst_of (priority_in (checks_at c grid camera)) others
-  pub told : line ≡ certified_line camera (length triangles) (worst_of (priority_in (checks_at c grid camera)) triangles)
+      → worst_of (priority_in (checks_at c grid camera)) triangles
+      ≤ worst_of (priority_in (checks_at c grid camera)) others
+  pub told : line ≡ certified_line camera (length triangles)
+      (worst_of (priority_in (checks_at c grid camera)) triangles)
 
--- A fitted mesh was certified by this line of the report: its bytes are the text of a list that is a best one for the error or the
--- budget of the words, whoever made it, and the line tells the number of triangles and how far the surface is from them.
+-- A fitted mesh was certified by this line of the report: its bytes are the text of a list that is a best one for the
+-- error or the budget of the words, whoever made it, and the line tells the number of triangles and how far the surface
+-- is from them.
 pub record IsCertifiedFit (c : FitChecking) (grid : HeightField) (mesh line : List ℕ) : Type 0 where
   pub triangles : List ℕ
   pub text : mesh ≡ fit_text c.spacing grid triangles
@@ -104,18 +113,19 @@ pub record IsCertifiedFit (c : FitChecking) (grid : HeightField) (mesh line : Li
   pub fit : IsFitFor c.target grid triangles
   pub told : line ≡ certified_fit_line grid.n (length triangles) (deviation_of grid.n grid.heights triangles)
 
--- The mesh has the number 1 and the prefix of the words, and its bytes are the text of a list that is a best one for their error or
--- their budget.
+-- The mesh has the number 1 and the prefix of the words, and its bytes are the text of a list that is a best one for
+-- their error or their budget.
 pub record IsFitMeshOf (f : Fitting) (grid : HeightField) (mesh : WrittenMesh) : Type 0 where
   pub triangles : List ℕ
   pub best : IsBestFit f.target grid triangles
   pub fit : IsFitFor f.target grid triangles
   pub is_mesh : mesh ≡ mesh_with f.prefix 1 (fit_text f.spacing grid triangles) true
 
--- The meshes that were there stay, and behind them came one at most, which is a best mesh for the error or the budget if it is
--- finished. Where the run is done it came, and the report got its line: how many triangles and vertices it has, and how far the
--- surface is from it.
-pub record KeepsFitMesh (f : Fitting) (grid : HeightField) (before now : Told) (all : List WrittenMesh) (status : Status) : Type 0 where
+-- The meshes that were there stay, and behind them came one at most, which is a best mesh for the error or the budget
+-- if it is finished. Where the run is done it came, and the report got its line: how many triangles and vertices it
+-- has, and how far the surface is from it.
+pub record KeepsFitMesh (f : Fitting) (grid : HeightField) (before now : Told) (all : List WrittenMesh)
+    (status : Status) : Type 0 where
   pub added : List WrittenMesh
   pub behind : now.meshes ≡ Some (all ++ added)
   pub one : length added ≤ 1

@@ -1,8 +1,10 @@
 -- Laws of walks, pictures and outcomes.
--- Words: WalksGoOn, PicturesGoOn, FramesExistFrom, FramesExist, RunsAreUnique, SetsStayClosed, LevelsAreInRange, BudgetsAreTwo, AreStates, KeepsStates, OutcomesAreUnique, OutcomesExist,
--- AcceptedIsDone, EnginesAreUnique, PicturesAreCertified, HeadlineFollows, CertifiedFollows, FitCertifiedFollows, TolerancesAreExact, FitsAreBest, FittedFollows, MadeIsAccepted, FitIsReadBack,
--- TurnsAreCounted.
-use Rattle.std.specs.Prelude.{◌≡◌, ⊤, ℕ, ◌*◌, ◌^◌, ◌≤◌, ◌↔◌, Bool, IsTrue, IsSome, is_some, List, [], ◌∷◌, ◌++◌, All, Option, Some, Ok}
+-- Words: WalksGoOn, PicturesGoOn, FramesExistFrom, FramesExist, RunsAreUnique, SetsStayClosed, LevelsAreInRange,
+-- BudgetsAreTwo, AreStates, KeepsStates, OutcomesAreUnique, OutcomesExist, AcceptedIsDone, EnginesAreUnique,
+-- PicturesAreCertified, HeadlineFollows, CertifiedFollows, FitCertifiedFollows, TolerancesAreExact, FitsAreBest,
+-- FittedFollows, MadeIsAccepted, FitIsReadBack, TurnsAreCounted.
+use Rattle.std.specs.Prelude.{◌≡◌, ⊤, ℕ, ◌*◌, ◌^◌, ◌≤◌, ◌↔◌, Bool, IsTrue, IsSome, is_some, List, [], ◌∷◌, ◌++◌, All}
+use Rattle.std.specs.Prelude.{Option, Some, Ok}
 use Rattle.mesh_defs.specs.HeightField.{HeightField}
 use Rattle.mesh_defs.specs.State.{State, priority_in, text_in}
 use Rattle.mesh_defs.specs.ClosedSet.{IsClosed, among}
@@ -29,7 +31,8 @@ use Rattle.fit_certificate_laws.specs.Certificate.{FitCertificate}
 use Rattle.fit_cert_text.specs.FitCertText.{fit_cert_text}
 use Rattle.fit_cert_text.specs.Laws.{IsFitCertificateOf}
 use Rattle.run_laws.specs.CertFile.{fit_cert_in}
-use Rattle.word_laws.specs.Words.{Show, Scripted, Making, Checking, Target, Fitting, FitChecking, Frames, Make, Check, Fit, CheckFit, OnGrid, prefix_of, command_of}
+use Rattle.word_laws.specs.Words.{Show, Scripted, Making, Checking, Target, Fitting, FitChecking, Frames, Make, Check}
+use Rattle.word_laws.specs.Words.{Fit, CheckFit, OnGrid, prefix_of, command_of}
 use Rattle.run_laws.specs.Certify.{makes_at, IsMade}
 use Rattle.run_laws.specs.Act.{Told}
 use Rattle.run_laws.specs.Picture.{Picture, ArePictures, IsCertified, last_members}
@@ -41,17 +44,21 @@ use Rattle.run_laws.specs.Fit.{tolerance_of, IsFitFor, IsBestFit}
 
 -- a walk over whole lines goes on with what follows them
 abbrev pub WalksGoOn : Type 0
-WalksGoOn = (walk : Walk) (lines more : List ℕ) → AreWhole lines → walk_of walk (lines ++ more) ≡ walk_of (walk_of walk lines) more
+WalksGoOn =
+    (walk : Walk) (lines more : List ℕ) → AreWhole lines →
+    walk_of walk (lines ++ more) ≡ walk_of (walk_of walk lines) more
 
 -- pictures go on from the last set
 abbrev pub PicturesGoOn : Type 0
-PicturesGoOn = (show : Show) (before : List ℕ) (ss ts : List State) (ps qs : List Picture) → ArePictures show before ss ps
+PicturesGoOn =
+    (show : Show) (before : List ℕ) (ss ts : List State) (ps qs : List Picture) → ArePictures show before ss ps
     → ArePictures show (last_members before ps) ts qs → ArePictures show before (ss ++ ts) (ps ++ qs)
 
 -- From each closed set the steps of a frame lead to the frame of a state with a budget of at least so many triangles.
 abbrev pub FramesExistFrom : ℕ → Type 0
 FramesExistFrom least = (state : State) (before : List ℕ) → IsGridSet state.grid.n before → least ≤ state.budget
-    → (members : List ℕ) × (worst : ℕ) × (blocked : Option Blocked) × (splits : ℕ) × (merges : ℕ) × IsGridSet state.grid.n members
+    → (members : List ℕ) × (worst : ℕ) × (blocked : Option Blocked) × (splits : ℕ) × (merges : ℕ)
+    × IsGridSet state.grid.n members
     × IsFrame state.grid.n state.budget (priority_in state) (among members) worst blocked
     × IsFrameRun state.grid.n state.budget (priority_in state) before members splits merges
 
@@ -72,7 +79,8 @@ SetsStayClosed = (n budget : ℕ) (priority : ℕ → ℕ) (before after : List 
 
 -- a grid that is read has a side of 3 to 2049
 abbrev pub LevelsAreInRange : Type 0
-LevelsAreInRange = (grid : HeightField) (bytes : List ℕ) → grid_of bytes ≡ Ok grid → (1 ≤ grid.n) × (grid.n ≤ GREATEST_LEVEL)
+LevelsAreInRange =
+    (grid : HeightField) (bytes : List ℕ) → grid_of bytes ≡ Ok grid → (1 ≤ grid.n) × (grid.n ≤ GREATEST_LEVEL)
 
 -- an accepted line sets no budget below 2
 abbrev pub BudgetsAreTwo : Type 0
@@ -91,7 +99,8 @@ pub record KeepsStates (n : ℕ) (walk : Walk) : Type 0 where
 
 -- words and files have one outcome
 abbrev pub OutcomesAreUnique : Type 0
-OutcomesAreUnique = (words : List (List ℕ)) (files : List NamedFile) (end other : Outcome) → MakesNoCertificate (command_of words)
+OutcomesAreUnique =
+    (words : List (List ℕ)) (files : List NamedFile) (end other : Outcome) → MakesNoCertificate (command_of words)
     → IsOutcome words files end → IsOutcome words files other → end ≡ other
 
 -- words and files have an outcome
@@ -100,11 +109,15 @@ OutcomesExist = (words : List (List ℕ)) (files : List NamedFile) → (end : Ou
 
 -- what is accepted ends with Done
 abbrev pub AcceptedIsDone : Type 0
-AcceptedIsDone = (words : List (List ℕ)) (files : List NamedFile) (end : Outcome) → IsAccepted words files → IsOutcome words files end → end.status ≡ Done
+AcceptedIsDone =
+    (words : List (List ℕ)) (files : List NamedFile) (end : Outcome) → IsAccepted words files →
+    IsOutcome words files end → end.status ≡ Done
 
 -- the outcomes of words and files leave one engine, where there are several too
 abbrev pub EnginesAreUnique : Type 0
-EnginesAreUnique = (words : List (List ℕ)) (files : List NamedFile) (end other : Outcome) → IsOutcome words files end → IsOutcome words files other
+EnginesAreUnique =
+    (words : List (List ℕ)) (files : List NamedFile) (end other : Outcome) → IsOutcome words files end →
+    IsOutcome words files other
     → end.engine ≡ other.engine
 
 -- what an engine's frames tell of blocking is a certificate
@@ -120,44 +133,64 @@ TurnsAreCounted = (n lefts rights : ℕ) (has : ℕ → Bool) → IsClosed n has
 -- the headline: whatever the status, from what stands after each, each finished mesh is a best mesh of the state
 -- at its frame line
 abbrev pub HeadlineFollows : Type 0
-HeadlineFollows = (words : List (List ℕ)) (files : List NamedFile) (s : Scripted) (grid : HeightField) (before now : Told) (old new : Seen) (all : List WrittenMesh) (status : Status)
-    → IsRunOf words files (Frames s) grid → IsSome (prefix_of s.show) → old.files ≡ Some files → before.meshes ≡ Some all → EndsRight before now old new words files status
-    → (status ≡ ReadFault → LeavesAtReadFault before now old new words) → (status ≡ NoMemory → LeavesAtNoMemory before now old new words)
+HeadlineFollows =
+    (words : List (List ℕ)) (files : List NamedFile) (s : Scripted) (grid : HeightField) (before now : Told)
+    (old new : Seen) (all : List WrittenMesh) (status : Status)
+    → IsRunOf words files (Frames s) grid → IsSome (prefix_of s.show) → old.files ≡ Some files →
+    before.meshes ≡ Some all → EndsRight before now old new words files status
+    → (status ≡ ReadFault → LeavesAtReadFault before now old new words) →
+    (status ≡ NoMemory → LeavesAtNoMemory before now old new words)
     → KeepsGoodMeshes s grid (bytes_of files s.script) all now.meshes status
 
 -- where a check is done, the report got a line by which its mesh is certified
 abbrev pub CertifiedFollows : Type 0
-CertifiedFollows = (words : List (List ℕ)) (files : List NamedFile) (c : Checking) (grid : HeightField) (before now : Told) (old new : Seen) (status : Status)
+CertifiedFollows =
+    (words : List (List ℕ)) (files : List NamedFile) (c : Checking) (grid : HeightField) (before now : Told)
+    (old new : Seen) (status : Status)
     → IsRunOf words files (Check c) grid → EndsRight before now old new words files status → status ≡ Done
     → (line : List ℕ) × Grows before.report now.report line × IsCertifiedMesh c grid (bytes_of files c.mesh) line
 
 -- the same of a check of a fitted mesh
 abbrev pub FitCertifiedFollows : Type 0
-FitCertifiedFollows = (words : List (List ℕ)) (files : List NamedFile) (c : FitChecking) (grid : HeightField) (before now : Told) (old new : Seen) (status : Status)
+FitCertifiedFollows =
+    (words : List (List ℕ)) (files : List NamedFile) (c : FitChecking) (grid : HeightField) (before now : Told)
+    (old new : Seen) (status : Status)
     → IsRunOf words files (CheckFit c) grid → EndsRight before now old new words files status → status ≡ Done
     → (line : List ℕ) × Grows before.report now.report line × IsCertifiedFit c grid (bytes_of files c.mesh) line
 
 -- the text of a certificate of a fitted mesh, of no more than a reader takes, is read back as it
 abbrev pub FitIsReadBack : Type 0
-FitIsReadBack = (n : ℕ) (cert : FitCertificate) → IsFitCertificateOf n cert → fit_cert_in n (fit_cert_text cert) ≡ Ok cert
+FitIsReadBack =
+    (n : ℕ) (cert : FitCertificate) → IsFitCertificateOf n cert → fit_cert_in n (fit_cert_text cert) ≡ Ok cert
 
 -- an error is within the tolerance exactly where it is at most so many thousandths
 abbrev pub TolerancesAreExact : Type 0
-TolerancesAreExact = (n thousandths error : ℕ) → (error ≤ tolerance_of n thousandths) ↔ (1000 * error ≤ thousandths * 2 ^ n)
+TolerancesAreExact =
+    (n thousandths error : ℕ) → (error ≤ tolerance_of n thousandths) ↔ (1000 * error ≤ thousandths * 2 ^ n)
 
 -- a mesh that is fitted is a best one, in the words of distances from the surface
 abbrev pub FitsAreBest : Type 0
-FitsAreBest = (target : Target) (grid : HeightField) (triangles : List ℕ) → IsFitFor target grid triangles → IsBestFit target grid triangles
+FitsAreBest =
+    (target : Target) (grid : HeightField) (triangles : List ℕ) → IsFitFor target grid triangles →
+    IsBestFit target grid triangles
 
 -- the headline of a fit: whatever the status, from what stands after each, the mesh is a best one if it is finished
 abbrev pub FittedFollows : Type 0
-FittedFollows = (words : List (List ℕ)) (files : List NamedFile) (f : Fitting) (grid : HeightField) (before now : Told) (old new : Seen) (all : List WrittenMesh) (status : Status)
+FittedFollows =
+    (words : List (List ℕ)) (files : List NamedFile) (f : Fitting) (grid : HeightField) (before now : Told)
+    (old new : Seen) (all : List WrittenMesh) (status : Status)
     → IsRunOf words files (Fit f) grid → before.meshes ≡ Some all → EndsRight before now old new words files status
-    → (status ≡ ReadFault → LeavesAtReadFault before now old new words) → (status ≡ NoMemory → LeavesAtNoMemory before now old new words)
+    → (status ≡ ReadFault → LeavesAtReadFault before now old new words) →
+    (status ≡ NoMemory → LeavesAtNoMemory before now old new words)
     → KeepsFitMesh f grid before now all status
 
--- What `certify make` writes for a grid `certify check` accepts over it, at the same budget and spacing and with the mesh that it is of.
+-- What `certify make` writes for a grid `certify check` accepts over it, at the same budget and spacing and with the
+-- mesh that it is of.
 abbrev pub MadeIsAccepted : Type 0
-MadeIsAccepted = (words : List (List ℕ)) (name : List ℕ) (m : Making) (grid : HeightField) (cert : Certificate) (c : Checking) (files : List NamedFile)
-    → command_of words ≡ Some (OnGrid name (Make m)) → (1 ≤ grid.n) × (grid.n ≤ GREATEST_LEVEL) → IsMade m grid cert → c.budget ≡ m.budget → c.spacing ≡ m.spacing
-    → bytes_of files c.certificate ≡ cert_text cert → bytes_of files c.mesh ≡ text_in (makes_at m grid) cert.leaves → IsAcceptedCheck c grid files
+MadeIsAccepted =
+    (words : List (List ℕ)) (name : List ℕ) (m : Making) (grid : HeightField) (cert : Certificate) (c : Checking)
+    (files : List NamedFile)
+    → command_of words ≡ Some (OnGrid name (Make m)) → (1 ≤ grid.n) × (grid.n ≤ GREATEST_LEVEL) → IsMade m grid cert →
+    c.budget ≡ m.budget → c.spacing ≡ m.spacing
+    → bytes_of files c.certificate ≡ cert_text cert → bytes_of files c.mesh ≡ text_in (makes_at m grid) cert.leaves →
+    IsAcceptedCheck c grid files

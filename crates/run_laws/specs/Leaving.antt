@@ -1,4 +1,5 @@
--- How a command is carried out: how it ends, what its engine tells then, and what reading its files and telling its end come to.
+-- How a command is carried out: how it ends, what its engine tells then, and what reading its files and telling its end
+-- come to.
 -- Words: CommandEnds, Runs, HasOpened, HasFailed, ReadsGrid, EndsWith, TellsLast, LeavesByScript.
 use Rattle.std.specs.Prelude.{◌≡◌, ◌≢◌, ◌⊎◌, ℕ, ◌+◌, IsTrue, List, [], ◌∷◌, Option, Some, Ok}
 use Rattle.mesh_defs.specs.HeightField.{HeightField}
@@ -18,15 +19,17 @@ use Rattle.run_laws.specs.Moment.{Moment, OnlyReads}
 use Rattle.run_laws.specs.Statement.{EndsByStatus, LeavesOutside}
 
 -- unless memory ran out or a read failed, the command ends as its outcome, and leaves its engine
-pub record CommandEnds (before now : Told) (old new : Seen) (command : Command) (files : List NamedFile) (status : Status)
+pub record CommandEnds (before now : Told) (old new : Seen) (command : Command)
+    (files : List NamedFile) (status : Status)
     (left : Option EngineEnd) : Type 0 where
   pub ends : status ≢ NoMemory → status ≢ ReadFault
       → (end : Outcome) × IsCommandOutcome command files end × EndsAs before now old new end status
       × (IsTrue (is_complete status) → left ≡ end.engine)
 
--- The words were carried out that are this command, or none: what stands by the status, how the outside and the engine are left, and
--- that the status has its cause. Every function that carries a command out promises this.
-pub record Runs (before now : Moment) (command : Option Command) (status : Status) (left : Option EngineEnd) : Type 0 where
+-- The words were carried out that are this command, or none: what stands by the status, how the outside and the engine
+-- are left, and that the status has its cause. Every function that carries a command out promises this.
+pub record Runs (before now : Moment) (command : Option Command) (status : Status)
+    (left : Option EngineEnd) : Type 0 where
   pub ends : EndsByStatus before now command status left
   pub leaves : LeavesOutside before now command status left
   pub allowed : IsTrue (may_end command status)
@@ -40,8 +43,8 @@ pub record HasOpened (before now : Moment) (files : ℕ) : Type 0 where
   pub faults : now.shelf_faults ≡ before.shelf_faults
   pub in_time : IsInTime before.shelf_late before.shelf_faults now.shelf_late
 
--- So many files were opened, and a read of the last one failed, or its opening. It has this name, and of what was read of it this
--- holds, where the shelf tells its files.
+-- So many files were opened, and a read of the last one failed, or its opening. It has this name, and of what was read
+-- of it this holds, where the shelf tells its files.
 pub record HasFailed (before now : Moment) (files : ℕ) (name : List ℕ) (holds : List ℕ → Type 0) : Type 0 where
   pub only : OnlyReads before now
   pub opens : now.shelf.opens ≡ before.shelf.opens + files
@@ -75,7 +78,8 @@ pub record EndsWith (before now : Moment) (acts : List Act) (meant status : Stat
 abbrev pub TellsLast : Moment → Moment → List ℕ → Status → Status → Type 0
 TellsLast before now text meant status = EndsWith before now (ReportText text ∷ []) meant status
 
--- A script was opened once, and read to its end where the run is done. How it leaves the outside, and that the status has its cause.
+-- A script was opened once, and read to its end where the run is done. How it leaves the outside, and that the status
+-- has its cause.
 pub record LeavesByScript (before now : Moment) (status : Status) : Type 0 where
   pub files : now.shelf.files ≡ before.shelf.files
   pub opens : now.shelf.opens ≡ next_count before.shelf.opens

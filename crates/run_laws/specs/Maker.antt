@@ -39,7 +39,8 @@ pub record Begins (show : Show) (follows : Show → Walk → List Picture → Ty
   pub alone : TellsFrames show
 
 -- What a frame line does, by its answer: its frame has this picture, and is shown, or cut short.
-pub record TakesFrame {T E : Type 0} (before now : Told) (show : Show) (walk : Walk) (pictures : List Picture) (follows : Show → Walk → List Picture → Type 0) (answer : Result T E) : Type 0 where
+pub record TakesFrame {T E : Type 0} (before now : Told) (show : Show) (walk : Walk) (pictures : List Picture)
+    (follows : Show → Walk → List Picture → Type 0) (answer : Result T E) : Type 0 where
   pub picture : Picture
   pub is_picture : IsPicture show (last_members [] pictures) walk.state picture
   pub followed : follows show (after_line Frame walk) (pictures ++ picture ∷ [])
@@ -62,7 +63,8 @@ pub record DoesAs (before now : Told) (end : Outcome) (status : Status) : Type 0
   pub complete : IsTrue (is_complete status) → Stands before now end.acts × (status ≡ end.status)
   pub cut_short : status ≡ ends.WriteFault → IsCutShort before now end.acts
 
--- The end of a script does as an outcome of its walk says, and where all of it stands what makes the frames has come to its end.
+-- The end of a script does as an outcome of its walk says, and where all of it stands what makes the frames has come to
+-- its end.
 abbrev pub EndsScript : Told → Told → Show → (Show → Walk → List Picture → Type 0) → Walk → List ℕ → Status → Type 0
 EndsScript before now show follows start read status =
     (end : Outcome) × IsFramesOutcome show 2 (walk_of start read) end × DoesAs before now end status

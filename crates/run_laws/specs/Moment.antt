@@ -1,4 +1,5 @@
--- The moment: what the outside of a run tells before it or behind it, and what calls do between two. This project's own words.
+-- The moment: what the outside of a run tells before it or behind it, and what calls do between two. This project's own
+-- words.
 -- Words: Moment, moment, OnlyReads, OnlyWrites, Does.
 use Rattle.std.specs.Prelude.{◌≡◌, ℕ, Bool, List, Result, OnOk, OnErr}
 use Rattle.roam_edge.specs.declared.shelf.Shelf as reading
@@ -9,8 +10,8 @@ use Rattle.run_laws.specs.Act.{Act, Told, sinks_tell, Stands, IsCutShort}
 use Rattle.run_laws.specs.Cause.{WritesHaveCause}
 use Rattle.run_laws.specs.Promise.{Seen, shelf_tells}
 
--- what the shelf tells, what the two sinks tell, whether a mesh is begun and not finished, how often the shelf has failed, and
--- whether a call of each of the three came after one that had failed
+-- what the shelf tells, what the two sinks tell, whether a mesh is begun and not finished, how often the shelf has
+-- failed, and whether a call of each of the three came after one that had failed
 pub record Moment : Type 0 where
   pub shelf : Seen
   pub sinks : Told
@@ -41,7 +42,8 @@ pub record OnlyReads (before now : Moment) : Type 0 where
   pub mesh_late : now.mesh_late ≡ before.mesh_late
   pub report_late : now.report_late ≡ before.report_late
 
--- The shelf was not called. The call fails exactly where a count of the sinks rose, and else no other mesh is under way than before.
+-- The shelf was not called. The call fails exactly where a count of the sinks rose, and else no other mesh is under way
+-- than before.
 pub record OnlyWrites {T E : Type 0} (before now : Moment) (answer : Result T E) : Type 0 where
   pub shelf : now.shelf ≡ before.shelf
   pub shelf_faults : now.shelf_faults ≡ before.shelf_faults

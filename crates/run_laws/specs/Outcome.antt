@@ -1,8 +1,10 @@
 -- The outcome of a run: what its words and the files that they name determine. This project's own.
 -- Words: EngineEnd, Outcome, plain_outcome, text_outcome, picture_acts, shown_acts, sum_acts, stop_acts, stop_status,
--- engine_end, frames_outcome, IsFramesOutcome, script_walk, made_budget, made_spacing, made_walk, IsMakeOutcome, fit_acts, IsFitOutcome, IsCompared,
--- IsVerdictOutcome, IsCheckOutcome, IsJobOutcome, IsGridOutcome, IsCommandOutcome, IsWordsOutcome, IsOutcome, MakesNoCertificate.
-use Rattle.std.specs.Prelude.{◌≡◌, ⊤, ℕ, ◌+◌, ◌⊎◌, if◌then◌else◌, List, [], ◌∷◌, ◌++◌, length, sum_by, Option, Some, None, Result, Ok, Err}
+-- engine_end, frames_outcome, IsFramesOutcome, script_walk, made_budget, made_spacing, made_walk, IsMakeOutcome,
+-- fit_acts, IsFitOutcome, IsCompared, IsVerdictOutcome, IsCheckOutcome, IsJobOutcome, IsGridOutcome, IsCommandOutcome,
+-- IsWordsOutcome, IsOutcome, MakesNoCertificate.
+use Rattle.std.specs.Prelude.{◌≡◌, ⊤, ℕ, ◌+◌, ◌⊎◌, if◌then◌else◌, List, [], ◌∷◌, ◌++◌, length, sum_by, Option, Some}
+use Rattle.std.specs.Prelude.{None, Result, Ok, Err}
 use Rattle.mesh_defs.specs.HeightField.{HeightField}
 use Rattle.mesh_defs.specs.State.{State, start_state, priority_in, text_in}
 use Rattle.roam_edge.specs.Shelf.{NamedFile, bytes_of}
@@ -22,13 +24,16 @@ use Rattle.roam_gen.specs.Generated.{made_grid, made_lines}
 use Rattle.run_laws.specs.declared.status.Status.{Status}
 use Rattle.run_laws.specs.declared.status.Status.TheVariants.{Done, Usage, GridRefused, ScriptRefused, Rejected}
 use Rattle.run_laws.specs.Walk.{Refusal, Walk, start_walk, walk_along, walk_of}
-use Rattle.word_laws.specs.Words.{Meshes, Measures, Sums, Show, as_sums, is_of_engine, Scripted, Making, Checking, Fitting, Job, Frames, Facts, Make, Check, Fit, FitMaking, FitChecking, MakeFit, CheckFit, Command, OnGrid, Generated, command_of}
+use Rattle.word_laws.specs.Words.{Meshes, Measures, Sums, Show, as_sums, is_of_engine, Scripted, Making, Checking}
+use Rattle.word_laws.specs.Words.{Fitting, Job, Frames, Facts, Make, Check, Fit, FitMaking, FitChecking, MakeFit}
+use Rattle.word_laws.specs.Words.{CheckFit, Command, OnGrid, Generated, command_of}
 use Rattle.run_laws.specs.CertFile.{cert_in, fit_cert_in}
 use Rattle.run_laws.specs.Certify.{checks_at, IsMade, IsFitMade, IsFirstDifference}
 use Rattle.run_laws.specs.Fit.{goal_of, IsFitted, fit_text}
 use Rattle.run_laws.specs.Act.{Act, WholeMesh, ReportText}
 use Rattle.run_laws.specs.Picture.{Picture, shown_triangles, ArePictures, last_members}
-use Rattle.run_laws.specs.ReportText.{mesh_line, measure_line, fit_line, try_line, info_line, grid_refusal, line_refusal, certified_line, rejection, certified_fit_line, fit_rejection}
+use Rattle.run_laws.specs.ReportText.{mesh_line, measure_line, fit_line, try_line, info_line, grid_refusal}
+use Rattle.run_laws.specs.ReportText.{line_refusal, certified_line, rejection, certified_fit_line, fit_rejection}
 
 -- what an engine holds at the end: the state, how far the camera went, the frames made, the set of the
 -- last one, and the sums of their splits and merges
@@ -115,7 +120,8 @@ frames_outcome show files walk all = record {
 -- The outcome of a walk, whose frames have pictures.
 abbrev pub IsFramesOutcome : Show → ℕ → Walk → Outcome → Type 0
 IsFramesOutcome show files walk end =
-    (pictures : List Picture) × ArePictures show [] walk.frames pictures × (end ≡ frames_outcome show files walk pictures)
+    (pictures : List Picture) × ArePictures show [] walk.frames pictures
+    × (end ≡ frames_outcome show files walk pictures)
 
 -- the walk of a script over an accepted grid
 abbrev pub script_walk : Scripted → HeightField → List ℕ → Walk
@@ -130,7 +136,8 @@ made_spacing = 30
 
 -- the walk of the generated script over the generated grid
 abbrev pub made_walk : ℕ → ℕ → Walk
-made_walk n seed = walk_along (start_walk made_budget (start_state (made_grid n seed) made_spacing made_budget)) (made_lines n seed)
+made_walk n seed =
+    walk_along (start_walk made_budget (start_state (made_grid n seed) made_spacing made_budget)) (made_lines n seed)
 
 -- a certificate is written: any that may be made
 abbrev pub IsMakeOutcome : Making → HeightField → Outcome → Type 0
@@ -146,8 +153,8 @@ abbrev pub IsFitOutcome : Fitting → HeightField → Outcome → Type 0
 IsFitOutcome f grid end =
     (triangles : List ℕ) × IsFitted f.target grid triangles × (end ≡ plain_outcome (fit_acts f grid triangles) Done 1)
 
--- The file of a mesh is compared with the text of the triangles of a certificate: they are the same, or there is a first place at
--- which they differ.
+-- The file of a mesh is compared with the text of the triangles of a certificate: they are the same, or there is a
+-- first place at which they differ.
 abbrev pub IsCompared : List ℕ → List ℕ → List ℕ → Outcome → Type 0
 IsCompared mesh text line end =
     ((mesh ≡ text) × (end ≡ text_outcome line Done 3))
@@ -163,24 +170,28 @@ IsVerdictOutcome state cert mesh (verdict.Rejected why) end = end ≡ text_outco
 abbrev pub IsCheckOutcome : Checking → HeightField → Result Certificate ℕ → List ℕ → Outcome → Type 0
 IsCheckOutcome c grid (Ok cert) mesh end =
     let state : State = checks_at c grid cert.camera in
-    (is : Verdict) × IsVerdict grid.n c.budget (priority_in state) cert.leaves cert.reasons is × IsVerdictOutcome state cert mesh is end
+    (is : Verdict) × IsVerdict grid.n c.budget (priority_in state) cert.leaves cert.reasons is
+    × IsVerdictOutcome state cert mesh is end
 IsCheckOutcome c grid (Err line) mesh end = end ≡ text_outcome (rejection (BadLine line)) Rejected 2
 
 -- a certificate of a fitted mesh is written: any that may be made
 abbrev pub IsFitMakeOutcome : FitMaking → HeightField → Outcome → Type 0
-IsFitMakeOutcome m grid end = (cert : FitCertificate) × IsFitMade m grid cert × (end ≡ text_outcome (fit_cert_text cert) Done 1)
+IsFitMakeOutcome m grid end =
+    (cert : FitCertificate) × IsFitMade m grid cert × (end ≡ text_outcome (fit_cert_text cert) Done 1)
 
--- what the verdict on a certificate of a fitted mesh leads to, of which these are the triangles: only behind one without a fault the
--- file of the mesh is opened
+-- what the verdict on a certificate of a fitted mesh leads to, of which these are the triangles: only behind one
+-- without a fault the file of the mesh is opened
 abbrev pub IsFitVerdictOutcome : FitChecking → HeightField → List ℕ → List ℕ → fit_verdict.Verdict → Outcome → Type 0
 IsFitVerdictOutcome c grid triangles mesh (fitted.Certified count deviation) end =
     IsCompared mesh (fit_text c.spacing grid triangles) (certified_fit_line grid.n count deviation) end
 IsFitVerdictOutcome c grid triangles mesh (fitted.Rejected why) end = end ≡ text_outcome (fit_rejection why) Rejected 2
 
--- what a check of a fitted mesh does with a certificate and the bytes of a mesh, or with the number of the line that is refused
+-- what a check of a fitted mesh does with a certificate and the bytes of a mesh, or with the number of the line that is
+-- refused
 abbrev pub IsFitCheckOutcome : FitChecking → HeightField → Result FitCertificate ℕ → List ℕ → Outcome → Type 0
 IsFitCheckOutcome c grid (Ok cert) mesh end =
-    (is : fit_verdict.Verdict) × (triangles : List ℕ) × IsVerdictOf grid.n grid.heights (goal_of grid.n c.target) cert is triangles
+    (is : fit_verdict.Verdict) × (triangles : List ℕ)
+    × IsVerdictOf grid.n grid.heights (goal_of grid.n c.target) cert is triangles
     × IsFitVerdictOutcome c grid triangles mesh is end
 IsFitCheckOutcome c grid (Err line) mesh end = end ≡ text_outcome (rejection (BadLine line)) Rejected 2
 
@@ -189,7 +200,8 @@ abbrev pub IsJobOutcome : Job → HeightField → List NamedFile → Outcome →
 IsJobOutcome (Frames s) grid files end = IsFramesOutcome s.show 2 (script_walk s grid (bytes_of files s.script)) end
 IsJobOutcome Facts grid files end = end ≡ text_outcome (info_line grid) Done 1
 IsJobOutcome (Make m) grid files end = IsMakeOutcome m grid end
-IsJobOutcome (Check c) grid files end = IsCheckOutcome c grid (cert_in grid.n (bytes_of files c.certificate)) (bytes_of files c.mesh) end
+IsJobOutcome (Check c) grid files end =
+    IsCheckOutcome c grid (cert_in grid.n (bytes_of files c.certificate)) (bytes_of files c.mesh) end
 IsJobOutcome (Fit f) grid files end = IsFitOutcome f grid end
 IsJobOutcome (MakeFit m) grid files end = IsFitMakeOutcome m grid end
 IsJobOutcome (CheckFit c) grid files end =
@@ -214,8 +226,8 @@ IsWordsOutcome (Some command) files end = IsCommandOutcome command files end
 unfoldable pub IsOutcome : List (List ℕ) → List NamedFile → Outcome → Type 0
 IsOutcome words files end = IsWordsOutcome (command_of words) files end
 
--- The words are none of `certify make` and `certify make-fit`: of the certificates that may be made any is right, and every other
--- command, and words that are none, have one outcome alone.
+-- The words are none of `certify make` and `certify make-fit`: of the certificates that may be made any is right, and
+-- every other command, and words that are none, have one outcome alone.
 abbrev pub MakesNoCertificate : Option Command → Type 0
 MakesNoCertificate None = ⊤
 MakesNoCertificate (Some (OnGrid grid (Frames s))) = ⊤

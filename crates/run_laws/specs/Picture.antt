@@ -1,9 +1,10 @@
 -- What a frame shows: the mesh of a state, what blocks a finer one, and what changed since the frame before.
 -- Source: the greedy algorithm of Duchaineau et al., "ROAMing Terrain", IEEE Visualization 1997; the rest is
 -- this project's own.
--- Words: Picture, triangles_of, strip_triangles, shown_triangles, mark_count, IsLeastFrame, IsFrameFor, IsNotCounted, IsChangeFor,
--- IsPicture, ArePictures, last_members, IsCertified.
-use Rattle.std.specs.Prelude.{◌≡◌, ℕ, ◌<◌, ◌↔◌, ⊤, Bool, List, [], ◌∷◌, count_by, Option, None, IsNone, IfSome, Contains}
+-- Words: Picture, triangles_of, strip_triangles, shown_triangles, mark_count, IsLeastFrame, IsFrameFor, IsNotCounted,
+-- IsChangeFor, IsPicture, ArePictures, last_members, IsCertified.
+use Rattle.std.specs.Prelude.{◌≡◌, ℕ, ◌<◌, ◌↔◌, ⊤, Bool, List, [], ◌∷◌, count_by, Option, None, IsNone, IfSome}
+use Rattle.std.specs.Prelude.{Contains}
 use Rattle.mesh_defs.specs.declared.mark.Mark.{Mark}
 use Rattle.mesh_defs.specs.ClosedSet.{IsLeastClosed, leaves_of, among}
 use Rattle.mesh_defs.specs.Priority.{worst_of}
@@ -37,16 +38,19 @@ strip_triangles picture = strip_of picture.state.grid.n (among picture.members)
 
 -- the triangles in the order in which the mesh of a frame that is shown so has them
 abbrev pub shown_triangles : Show → Picture → List ℕ
-shown_triangles show picture = elim show.order as (λ _. List ℕ) [ DepthFirst ↦ triangles_of picture | AlongStrip ↦ strip_triangles picture ]
+shown_triangles show picture =
+    elim show.order as (λ _. List ℕ) [ DepthFirst ↦ triangles_of picture | AlongStrip ↦ strip_triangles picture ]
 
 -- how many of the triangles have this mark
 abbrev pub mark_count : State → Mark → List ℕ → ℕ
 mark_count state mark triangles =
-    count_by (λ a. is_same_mark mark (triangle_mark state.grid.n state.grid.heights state.view.spacing state.view.planes a)) triangles
+    count_by (λ a. is_same_mark mark
+    (triangle_mark state.grid.n state.grid.heights state.view.spacing state.view.planes a)) triangles
 
--- The frame of a tolerance, without a budget: the set is the least closed set of all triangles that are worse than the tolerance,
--- worst is the greatest priority of its leaves, and nothing blocks.
-pub record IsLeastFrame (n tolerance : ℕ) (priority : ℕ → ℕ) (has : ℕ → Bool) (worst : ℕ) (blocked : Option Blocked) : Type 0 where
+-- The frame of a tolerance, without a budget: the set is the least closed set of all triangles that are worse than the
+-- tolerance, worst is the greatest priority of its leaves, and nothing blocks.
+pub record IsLeastFrame (n tolerance : ℕ) (priority : ℕ → ℕ) (has : ℕ → Bool) (worst : ℕ)
+    (blocked : Option Blocked) : Type 0 where
   pub closure : IsLeastClosed n (is_worse n tolerance priority) has
   pub greatest : worst ≡ worst_of priority (leaves_of n has)
   pub unblocked : blocked ≡ None
@@ -63,8 +67,8 @@ pub record IsNotCounted (splits merges : ℕ) : Type 0 where
   pub no_splits : splits ≡ 0
   pub no_merges : merges ≡ 0
 
--- The change that is counted by this criterion: the triangles that the frame's steps split and merge, from the set of the frame
--- before. The mesh of a tolerance is made without steps.
+-- The change that is counted by this criterion: the triangles that the frame's steps split and merge, from the set of
+-- the frame before. The mesh of a tolerance is made without steps.
 abbrev pub IsChangeFor : Criterion → State → List ℕ → List ℕ → ℕ → ℕ → Type 0
 IsChangeFor OfBudget state before after splits merges =
     IsFrameRun state.grid.n state.budget (priority_in state) before after splits merges

@@ -1,8 +1,11 @@
 -- What a run of `roam` promises, by its status.
--- Words: Seen, seen, shelf_tells, AreFiles, is_complete, ends_script, EndsAs, EndsRight, HasEnded, may_end, OpensForStatus,
--- IsUndecided, ScriptHasRead, CheckHasRead, FitCheckHasRead, JobHasRead, HasRead, FileReadFault, CommandReadFault, LeavesAtReadFault, least_open,
--- most_open_job, most_open, HasReadHeader, CheckHasCome, FitCheckHasCome, CommandNoMemory, LeavesAtNoMemory, IsAcceptedCheck, IsAcceptedFitCheck, IsAcceptedJob, IsAcceptedInput, IsAccepted, leaves_engine.
-use Rattle.std.specs.Prelude.{◌≡◌, ◌≢◌, ⊤, ℕ, zero, suc, ◌+◌, ◌<◌, ◌≤◌, Bool, true, false, ◌&&◌, nat_lt, IsTrue, List, [], ◌++◌, length, Option, Some, None, Ok, Err, slice_get}
+-- Words: Seen, seen, shelf_tells, AreFiles, is_complete, ends_script, EndsAs, EndsRight, HasEnded, may_end,
+-- OpensForStatus, IsUndecided, ScriptHasRead, CheckHasRead, FitCheckHasRead, JobHasRead, HasRead, FileReadFault,
+-- CommandReadFault, LeavesAtReadFault, least_open, most_open_job, most_open, HasReadHeader, CheckHasCome,
+-- FitCheckHasCome, CommandNoMemory, LeavesAtNoMemory, IsAcceptedCheck, IsAcceptedFitCheck, IsAcceptedJob,
+-- IsAcceptedInput, IsAccepted, leaves_engine.
+use Rattle.std.specs.Prelude.{◌≡◌, ◌≢◌, ⊤, ℕ, zero, suc, ◌+◌, ◌<◌, ◌≤◌, Bool, true, false, ◌&&◌, nat_lt, IsTrue, List}
+use Rattle.std.specs.Prelude.{[], ◌++◌, length, Option, Some, None, Ok, Err, slice_get}
 use Rattle.mesh_defs.specs.HeightField.{HeightField, IsHeightField}
 use Rattle.roam_edge.specs.Shelf.{NamedFile, bytes_of}
 use Rattle.roam_edge.specs.Told.{IsPrefix}
@@ -15,9 +18,12 @@ use Rattle.mesh_defs.specs.State.{text_in}
 use Rattle.cert_text.specs.Certificate.{Certificate}
 use Rattle.fit_certificate_laws.specs.Certificate.{FitCertificate}
 use Rattle.run_laws.specs.declared.status.Status.{Status}
-use Rattle.run_laws.specs.declared.status.Status.TheVariants.{Done, NoMemory, Usage, GridRefused, ScriptRefused, ReadFault, WriteFault, Rejected}
+use Rattle.run_laws.specs.declared.status.Status.TheVariants.{Done, NoMemory, Usage, GridRefused, ScriptRefused}
+use Rattle.run_laws.specs.declared.status.Status.TheVariants.{ReadFault, WriteFault, Rejected}
 use Rattle.run_laws.specs.Walk.{AreWhole, HasBegun}
-use Rattle.word_laws.specs.Words.{Scripted, Checking, Job, Frames, Facts, Make, Check, Fit, FitChecking, MakeFit, CheckFit, Command, OnGrid, Generated, names_of, file_count, has_script, is_check, is_of_engine, command_of}
+use Rattle.word_laws.specs.Words.{Scripted, Checking, Job, Frames, Facts, Make, Check, Fit, FitChecking, MakeFit}
+use Rattle.word_laws.specs.Words.{CheckFit, Command, OnGrid, Generated, names_of, file_count, has_script, is_check}
+use Rattle.word_laws.specs.Words.{is_of_engine, command_of}
 use Rattle.run_laws.specs.CertFile.{cert_in, CertHasRead, fit_cert_in, FitCertHasRead}
 use Rattle.run_laws.specs.Certify.{checks_at, IsFaultless, IsFitFaultless}
 use Rattle.run_laws.specs.Fit.{fit_text}
@@ -25,8 +31,8 @@ use Rattle.run_laws.specs.Picture.{Picture, ArePictures}
 use Rattle.run_laws.specs.Act.{Act, Told, Stands, IsCutShort}
 use Rattle.run_laws.specs.Outcome.{Outcome, shown_acts, script_walk, IsOutcome}
 
--- what a shelf tells at one moment: its files, what is unread of the file that was opened last, how often files were opened, and whether
--- the end of the last one was read; so too where no file is open, as after an opening that failed
+-- what a shelf tells at one moment: its files, what is unread of the file that was opened last, how often files were
+-- opened, and whether the end of the last one was read; so too where no file is open, as after an opening that failed
 pub record Seen : Type 0 where
   pub files : Option (List NamedFile)
   pub rest : Option (List ℕ)
@@ -38,7 +44,12 @@ seen all unread count at_end = record { files = all; rest = unread; opens = coun
 
 -- what this shelf tells
 abbrev pub shelf_tells : {F : Type 0} → reading.Ghosts F → F → Seen
-shelf_tells f shelf = record { files = f.files shelf; rest = f.rest shelf; opens = f.opens shelf; ended = f.ended shelf }
+shelf_tells f shelf = record {
+  files = f.files shelf;
+  rest = f.rest shelf;
+  opens = f.opens shelf;
+  ended = f.ended shelf;
+}
 
 -- these are the files that the shelf tells; words that name no file have an outcome over any
 abbrev pub AreFiles : Option (List NamedFile) → Option Command → List NamedFile → Type 0
@@ -69,10 +80,13 @@ pub record EndsAs (before now : Told) (old new : Seen) (end : Outcome) (status :
   pub cut_short : status ≡ WriteFault → IsCutShort before now end.acts
 
 -- Unless memory ran out or a read failed, the run ends as an outcome of its words and files.
-pub record EndsRight (before now : Told) (old new : Seen) (words : List (List ℕ)) (files : List NamedFile) (status : Status) : Type 0 where
-  pub ends : status ≢ NoMemory → status ≢ ReadFault → (end : Outcome) × IsOutcome words files end × EndsAs before now old new end status
+pub record EndsRight (before now : Told) (old new : Seen) (words : List (List ℕ)) (files : List NamedFile)
+    (status : Status) : Type 0 where
+  pub ends : status ≢ NoMemory → status ≢ ReadFault →
+      (end : Outcome) × IsOutcome words files end × EndsAs before now old new end status
 
--- the end of the file was read: nothing is unread where the shelf tells its files, and nothing where it tells what is unread
+-- the end of the file was read: nothing is unread where the shelf tells its files, and nothing where it tells what is
+-- unread
 pub record HasEnded (now : Seen) : Type 0 where
   pub at_end : now.ended ≡ true
   pub nothing_left : (all : List NamedFile) → now.files ≡ Some all → now.rest ≡ Some []
@@ -90,9 +104,9 @@ may_end (Some command) ScriptRefused = has_script command
 may_end (Some command) Rejected = is_check command
 may_end (Some command) _ = true
 
--- How often files were opened, of so many that the words name: each once where the run was done or its script refused, the grid alone
--- where it is refused, none for words that are no command, and else at most each once: at least one where a read failed, and at
--- least two where a check rejects.
+-- How often files were opened, of so many that the words name: each once where the run was done or its script refused,
+-- the grid alone where it is refused, none for words that are no command, and else at most each once: at least one
+-- where a read failed, and at least two where a check rejects.
 pub record OpensForStatus (before now files : ℕ) (status : Status) : Type 0 where
   pub done : status ≡ Done → now ≡ before + files
   pub script_refused : status ≡ ScriptRefused → now ≡ before + files
@@ -120,8 +134,8 @@ pub record ScriptHasRead (s : Scripted) (grid : HeightField) (read : List ℕ) (
   pub shown : ArePictures s.show [] (script_walk s grid lines).frames pictures
   pub done : acts ≡ shown_acts s.show 1 pictures
 
--- So much of a file of a check at this place, counted from 0, was read: of the certificate, and none of its lines is refused; or of
--- the mesh, and it is what the text of the triangles of a certificate without a fault begins with.
+-- So much of a file of a check at this place, counted from 0, was read: of the certificate, and none of its lines is
+-- refused; or of the mesh, and it is what the text of the triangles of a certificate without a fault begins with.
 abbrev pub CheckHasRead : Checking → HeightField → List NamedFile → ℕ → List ℕ → Type 0
 CheckHasRead c grid files zero read = CertHasRead grid.n read
 CheckHasRead c grid files (suc k) read =
@@ -153,9 +167,10 @@ HasRead (OnGrid name job) files (suc k) read acts =
     (grid : HeightField) × (grid_of (bytes_of files name) ≡ Ok grid) × JobHasRead job grid files k read acts
 HasRead (Generated n seed) files k read acts = ⊥
 
--- A read of the command's file at this place failed, or its opening. If its opening failed none of it was read, and the shelf tells
--- that nothing is left to read. What the run has done by then stands, and nothing else.
-pub record FileReadFault (before now : Told) (new : Seen) (command : Command) (files : List NamedFile) (k : ℕ) : Type 0 where
+-- A read of the command's file at this place failed, or its opening. If its opening failed none of it was read, and the
+-- shelf tells that nothing is left to read. What the run has done by then stands, and nothing else.
+pub record FileReadFault (before now : Told) (new : Seen) (command : Command)
+    (files : List NamedFile) (k : ℕ) : Type 0 where
   pub name : List ℕ
   pub read : List ℕ
   pub unread : List ℕ
@@ -167,8 +182,8 @@ pub record FileReadFault (before now : Told) (new : Seen) (command : Command) (f
   pub has_read : HasRead command files k read acts
   pub stands : Stands before now acts
 
--- A read failed, at one of the command's files, counted from 0. Unless it was a script, which is file 1 of a command with one, nothing
--- was done, whether the shelf tells its files or not.
+-- A read failed, at one of the command's files, counted from 0. Unless it was a script, which is file 1 of a command
+-- with one, nothing was done, whether the shelf tells its files or not.
 pub record CommandReadFault (before now : Told) (old new : Seen) (command : Command) : Type 0 where
   pub file : ℕ
   pub opened : new.opens ≡ old.opens + (file + 1)
@@ -209,15 +224,18 @@ HasReadHeader bytes rest =
 -- A check opens its certificate only once the grid is accepted, and its mesh only once the certificate has no fault.
 abbrev pub CheckHasCome : List ℕ → Checking → List NamedFile → ℕ → Type 0
 CheckHasCome name c files opened = 2 ≤ opened → (grid : HeightField) × (grid_of (bytes_of files name) ≡ Ok grid)
-    × (3 ≤ opened → (cert : Certificate) × (cert_in grid.n (bytes_of files c.certificate) ≡ Ok cert) × IsFaultless c grid cert)
+    × (3 ≤ opened → (cert : Certificate) × (cert_in grid.n (bytes_of files c.certificate) ≡ Ok cert)
+    × IsFaultless c grid cert)
 
 -- the same of a check of a fitted mesh
 abbrev pub FitCheckHasCome : List ℕ → FitChecking → List NamedFile → ℕ → Type 0
 FitCheckHasCome name c files opened = 2 ≤ opened → (grid : HeightField) × (grid_of (bytes_of files name) ≡ Ok grid)
-    × (3 ≤ opened → (cert : FitCertificate) × (triangles : List ℕ) × (fit_cert_in grid.n (bytes_of files c.certificate) ≡ Ok cert)
+    × (3 ≤ opened → (cert : FitCertificate) × (triangles : List ℕ)
+    × (fit_cert_in grid.n (bytes_of files c.certificate) ≡ Ok cert)
     × IsFitFaultless c grid cert triangles)
 
--- Memory ran out. Nothing was written, and no script was opened; if the command names a grid, a whole accepted header of it was read;
+-- Memory ran out. Nothing was written, and no script was opened; if the command names a grid, a whole accepted header
+-- of it was read;
 -- and a check opened its later files only behind accepted ones. Within these nothing says that it may not.
 pub record CommandNoMemory (before now : Told) (old new : Seen) (command : Command) : Type 0 where
   pub opened : ℕ
@@ -227,9 +245,11 @@ pub record CommandNoMemory (before now : Told) (old new : Seen) (command : Comma
   pub stands : Stands before now []
   pub header : (name : List ℕ) (job : Job) (files : List NamedFile) → command ≡ OnGrid name job → old.files ≡ Some files
       → opened ≡ 1 → HasReadHeader (bytes_of files name) new.rest
-  pub in_order : (name : List ℕ) (c : Checking) (files : List NamedFile) → command ≡ OnGrid name (Check c) → old.files ≡ Some files
+  pub in_order : (name : List ℕ) (c : Checking) (files : List NamedFile) →
+      command ≡ OnGrid name (Check c) → old.files ≡ Some files
       → CheckHasCome name c files opened
-  pub fit_in_order : (name : List ℕ) (c : FitChecking) (files : List NamedFile) → command ≡ OnGrid name (CheckFit c) → old.files ≡ Some files
+  pub fit_in_order : (name : List ℕ) (c : FitChecking) (files : List NamedFile) →
+      command ≡ OnGrid name (CheckFit c) → old.files ≡ Some files
       → FitCheckHasCome name c files opened
 
 -- so only for words of a command

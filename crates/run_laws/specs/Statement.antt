@@ -1,10 +1,12 @@
--- What a run promises: the meshes, what stands, the causes. Each speaks of the moments before the run and after it (`now`), of the
--- words of its command line or of the command that they are, of its status, and of the engine that it leaves. This project's own.
--- Three words from elsewhere: `Grows old new more` says that what was told before is told with just `more` at its end, and nothing of
--- what is not told; `IsInTime` that what had not failed before was not called again once a call of it had failed; and a count of
--- faults is how often an object has failed, from its beginning on.
+-- What a run promises: the meshes, what stands, the causes. Each speaks of the moments before the run and after it
+-- (`now`), of the words of its command line or of the command that they are, of its status, and of the engine that it
+-- leaves. This project's own.
+-- Three words from elsewhere: `Grows old new more` says that what was told before is told with just `more` at its end,
+-- and nothing of what is not told; `IsInTime` that what had not failed before was not called again once a call of it
+-- had failed; and a count of faults is how often an object has failed, from its beginning on.
 -- Words: KeepsBestMeshes, CertifiesMesh, TellsCertificates, DoesAll, IsCutOff, EndsByStatus, LeavesOutside, IsCaused.
-use Rattle.std.specs.Prelude.{◌≡◌, ◌≢◌, ◌⊎◌, ◌↔◌, ℕ, ◌+◌, ◌<◌, ◌≤◌, false, IsTrue, IsSome, is_some, List, All, Option, Some, None}
+use Rattle.std.specs.Prelude.{◌≡◌, ◌≢◌, ◌⊎◌, ◌↔◌, ℕ, ◌+◌, ◌<◌, ◌≤◌, false, IsTrue, IsSome, is_some, List, All, Option}
+use Rattle.std.specs.Prelude.{Some, None}
 use Rattle.mesh_defs.specs.HeightField.{HeightField}
 use Rattle.roam_edge.specs.MeshSink.{WrittenMesh}
 use Rattle.roam_edge.specs.Shelf.{NamedFile, bytes_of}
@@ -12,18 +14,21 @@ use Rattle.roam_edge.specs.Fault.{IsInTime}
 use Rattle.obj_write.specs.Written.{Grows}
 use Rattle.run_laws.specs.declared.status.Status.{Status}
 use Rattle.run_laws.specs.declared.status.Status.TheVariants.{Done, NoMemory, Usage, ReadFault, WriteFault}
-use Rattle.word_laws.specs.Words.{Scripted, Checking, Fitting, FitChecking, Frames, Check, Fit, CheckFit, Command, prefix_of, file_count}
+use Rattle.word_laws.specs.Words.{Scripted, Checking, Fitting, FitChecking, Frames, Check, Fit, CheckFit, Command}
+use Rattle.word_laws.specs.Words.{prefix_of, file_count}
 use Rattle.run_laws.specs.Act.{Stands, IsCutShort}
 use Rattle.run_laws.specs.Picture.{IsCertified}
 use Rattle.run_laws.specs.Outcome.{EngineEnd, Outcome, IsWordsOutcome, IsOutcome}
-use Rattle.run_laws.specs.Promise.{AreFiles, is_complete, HasEnded, may_end, OpensForStatus, CommandReadFault, CommandNoMemory, leaves_engine}
+use Rattle.run_laws.specs.Promise.{AreFiles, is_complete, HasEnded, may_end, OpensForStatus, CommandReadFault}
+use Rattle.run_laws.specs.Promise.{CommandNoMemory, leaves_engine}
 use Rattle.run_laws.specs.Headline.{IsRunOf, KeepsGoodMeshes, IsCertifiedMesh, IsCertifiedFit, KeepsFitMesh}
 use Rattle.run_laws.specs.Moment.{Moment}
 
 -- The meshes.
 
--- Each mesh that is finished is the right one, whatever the status: of a script the best of the budget, or the least of the tolerance,
--- at its frame line; of a fit that of its error or its budget. (Where the shelf tells its files, and the sink its meshes.)
+-- Each mesh that is finished is the right one, whatever the status: of a script the best of the budget, or the least of
+-- the tolerance, at its frame line; of a fit that of its error or its budget. (Where the shelf tells its files, and the
+-- sink its meshes.)
 pub record KeepsBestMeshes (before now : Moment) (words : List (List ℕ)) (status : Status) : Type 0 where
   pub of_script : (files : List NamedFile) (all : List WrittenMesh) (s : Scripted) (grid : HeightField)
       → before.shelf.files ≡ Some files → before.sinks.meshes ≡ Some all → IsRunOf words files (Frames s) grid
@@ -32,9 +37,9 @@ pub record KeepsBestMeshes (before now : Moment) (words : List (List ℕ)) (stat
       → before.shelf.files ≡ Some files → before.sinks.meshes ≡ Some all → IsRunOf words files (Fit f) grid
       → KeepsFitMesh f grid before.sinks now.sinks all status
 
--- Where a check is done, the report got one line, by which its mesh is certified, whoever made it. One of `certify check` is optimal,
--- though perhaps not the mesh that `mesh` writes; one of `certify check-fit` has the fewest triangles for its error, or the least error
--- for its budget. (Where the shelf tells its files.)
+-- Where a check is done, the report got one line, by which its mesh is certified, whoever made it. One of `certify
+-- check` is optimal, though perhaps not the mesh that `mesh` writes; one of `certify check-fit` has the fewest
+-- triangles for its error, or the least error for its budget. (Where the shelf tells its files.)
 pub record CertifiesMesh (before now : Moment) (words : List (List ℕ)) (status : Status) : Type 0 where
   pub of_check : (files : List NamedFile) (c : Checking) (grid : HeightField) → before.shelf.files ≡ Some files
       → IsRunOf words files (Check c) grid → status ≡ Done → (line : List ℕ)
@@ -43,15 +48,16 @@ pub record CertifiesMesh (before now : Moment) (words : List (List ℕ)) (status
       → IsRunOf words files (CheckFit c) grid → status ≡ Done → (line : List ℕ)
       × Grows before.sinks.report now.sinks.report line × IsCertifiedFit c grid (bytes_of files c.mesh) line
 
--- in each frame of an engine that is in an outcome of the words, what blocks is a worst leaf of its mesh, and a mesh with it split has
--- more triangles than the budget; where nothing blocks, its worst priority is 0
+-- in each frame of an engine that is in an outcome of the words, what blocks is a worst leaf of its mesh, and a mesh
+-- with it split has more triangles than the budget; where nothing blocks, its worst priority is 0
 abbrev pub TellsCertificates : List (List ℕ) → Type 0
 TellsCertificates words = (files : List NamedFile) (end : Outcome) → IsTrue (is_some end.engine)
     → IsOutcome words files end → All IsCertified end.pictures
 
 -- What stands.
 
--- All of an outcome was done: its acts stand and nothing else, this is its status, its files were opened, and its engine is left.
+-- All of an outcome was done: its acts stand and nothing else, this is its status, its files were opened, and its
+-- engine is left.
 pub record DoesAll (before now : Moment) (command : Option Command) (files : List NamedFile) (status : Status)
     (left : Option EngineEnd) : Type 0 where
   pub end : Outcome
@@ -61,17 +67,19 @@ pub record DoesAll (before now : Moment) (command : Option Command) (files : Lis
   pub opened : now.shelf.opens ≡ before.shelf.opens + end.opened
   pub engine : left ≡ end.engine
 
--- The acts of an outcome were cut short: some stand, whole and in order, and of the next one a part. Its files were opened.
+-- The acts of an outcome were cut short: some stand, whole and in order, and of the next one a part. Its files were
+-- opened.
 pub record IsCutOff (before now : Moment) (command : Option Command) (files : List NamedFile) : Type 0 where
   pub end : Outcome
   pub is_outcome : IsWordsOutcome command files end
   pub cut_short : IsCutShort before.sinks now.sinks end.acts
   pub opened : now.shelf.opens ≡ before.shelf.opens + end.opened
 
--- With Done, Usage, the two refusals and Rejected all of an outcome was done, and with WriteFault it was cut off: where the shelf tells
--- its files, or no file is named. With ReadFault what the run had done by then stands (at a script, where the shelf tells its
--- files), and with NoMemory nothing was written.
-pub record EndsByStatus (before now : Moment) (command : Option Command) (status : Status) (left : Option EngineEnd) : Type 0 where
+-- With Done, Usage, the two refusals and Rejected all of an outcome was done, and with WriteFault it was cut off: where
+-- the shelf tells its files, or no file is named. With ReadFault what the run had done by then stands (at a script,
+-- where the shelf tells its files), and with NoMemory nothing was written.
+pub record EndsByStatus (before now : Moment) (command : Option Command) (status : Status)
+    (left : Option EngineEnd) : Type 0 where
   pub complete : IsTrue (is_complete status) → (files : List NamedFile)
       → AreFiles before.shelf.files command files → DoesAll before now command files status left
   pub write_fault : status ≡ WriteFault → (files : List NamedFile)
@@ -83,11 +91,12 @@ pub record EndsByStatus (before now : Moment) (command : Option Command) (status
       → (one : Command) × (command ≡ Some one)
       × CommandNoMemory before.sinks now.sinks before.shelf now.shelf one
 
--- How the outside and the engine are left, also where nothing is told. The shelf's files are as before. No mesh is under way, except
--- perhaps after WriteFault. Files were opened as often as the status allows, and with Done the last one was read to its end. An engine
--- is left with Done and ScriptRefused where one makes the frames. Of shelf, meshes and report, each that had not failed before the run
--- was not called again once a call of it had failed.
-pub record LeavesOutside (before now : Moment) (command : Option Command) (status : Status) (left : Option EngineEnd) : Type 0 where
+-- How the outside and the engine are left, also where nothing is told. The shelf's files are as before. No mesh is
+-- under way, except perhaps after WriteFault. Files were opened as often as the status allows, and with Done the last
+-- one was read to its end. An engine is left with Done and ScriptRefused where one makes the frames. Of shelf, meshes
+-- and report, each that had not failed before the run was not called again once a call of it had failed.
+pub record LeavesOutside (before now : Moment) (command : Option Command) (status : Status)
+    (left : Option EngineEnd) : Type 0 where
   pub files : now.shelf.files ≡ before.shelf.files
   pub idle : status ≢ WriteFault → now.under_way ≡ false
   pub opens :
@@ -100,8 +109,8 @@ pub record LeavesOutside (before now : Moment) (command : Option Command) (statu
 
 -- The causes.
 
--- The command allows the status, and it is Usage exactly where there is none. It is ReadFault exactly where the shelf's count of
--- faults rose, and WriteFault exactly where that of the meshes or of the report rose. No count falls.
+-- The command allows the status, and it is Usage exactly where there is none. It is ReadFault exactly where the shelf's
+-- count of faults rose, and WriteFault exactly where that of the meshes or of the report rose. No count falls.
 pub record IsCaused (before now : Moment) (command : Option Command) (status : Status) : Type 0 where
   pub allowed : IsTrue (may_end command status)
   pub usage : (status ≡ Usage) ↔ (command ≡ None)

@@ -61,7 +61,8 @@ CompleteFollows =
     → now.shelf_faults ≡ before.shelf_faults → now.sinks.mesh_faults ≡ before.sinks.mesh_faults
     → now.sinks.report_faults ≡ before.sinks.report_faults → (status ≡ Done) ⊎ (status ≡ NoMemory)
 
--- a count of faults rose only where the status names it, and then by one at least, unless it stands at its greatest value
+-- a count of faults rose only where the status names it, and then by one at least, unless it stands at its greatest
+-- value
 abbrev pub FaultsFollow : Type 0
 FaultsFollow = (before now : Moment) (command : Option Command) (status : Status)
     → IsCaused before now command status

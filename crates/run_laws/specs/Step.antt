@@ -37,4 +37,5 @@ pub record Refuses (before now : Told) (show : Show) (start : Walk) (read : List
 -- what the script does, whatever follows, was cut short: so its later frames need their pictures, though they
 -- were never made
 pub record Cuts (before now : Told) (show : Show) (files : ℕ) (start : Walk) (read : List ℕ) : Type 0 where
-  pub short : (more : List ℕ) → (end : Outcome) × IsFramesOutcome show files (walk_of start (read ++ more)) end × IsCutShort before now end.acts
+  pub short : (more : List ℕ) →
+      (end : Outcome) × IsFramesOutcome show files (walk_of start (read ++ more)) end × IsCutShort before now end.acts

@@ -1,5 +1,5 @@
--- How many turns a strip takes to either side, as numbers that its triangles determine: out over the edge before the one
--- of the entry is left, over the edge after it right, counterclockwise. This project's own words.
+-- How many turns a strip takes to either side, as numbers that its triangles determine: out over the edge before the
+-- one of the entry is left, over the edge after it right, counterclockwise. This project's own words.
 -- Words: is_edge, has_edge_back, turns_left_from, turns_right_from, is_left_turn, is_right_turn, turns_by,
 -- left_turns, right_turns.
 use Rattle.std.specs.Prelude.{ℕ, ◌+◌, Bool, ◌&&◌, ◌||◌, cond, List, ◌∷◌}
@@ -41,7 +41,8 @@ is_right_turn n before t after =
     || (turns_right_from Base (corners_of n before) (corners_of n t) (corners_of n after)
     || turns_right_from RightLeg (corners_of n before) (corners_of n t) (corners_of n after))
 
--- at how many triangles of a list, of all but its first and last, the test passes of the one before, it, and the one after
+-- at how many triangles of a list, of all but its first and last, the test passes of the one before, it, and the one
+-- after
 abbrev pub turns_by : (ℕ → ℕ → ℕ → Bool) → List ℕ → ℕ
 turns_by test (a ∷ (b ∷ (c ∷ rest))) = cond (test a b c) 1 0 + turns_by test (b ∷ (c ∷ rest))
 turns_by test _ = 0

@@ -2,9 +2,11 @@
 -- This project's own.
 -- Words: Refusal, Walk, start_walk, limits_of, state_after, shown_by, way_of, after_line, refused_walk, after_text,
 -- walk_along, walk_lines, lines_of, walk_of, AreWhole, HasBegun.
-use Rattle.std.specs.Prelude.{◌≡◌, ◌≢◌, ℕ, ◌+◌, ◌==◌, ◌≤◌, ◌⊎◌, cond, List, [], ◌∷◌, ◌++◌, length, All, Option, Some, None, Ok, Err}
+use Rattle.std.specs.Prelude.{◌≡◌, ◌≢◌, ℕ, ◌+◌, ◌==◌, ◌≤◌, ◌⊎◌, cond, List, [], ◌∷◌, ◌++◌, length, All, Option, Some}
+use Rattle.std.specs.Prelude.{None, Ok, Err}
 use Rattle.std.specs.List.{onto_first}
-use Rattle.mesh_defs.specs.State.{State, with_camera, with_height, with_plane, without_planes, with_budget, with_raised, move_length}
+use Rattle.mesh_defs.specs.State.{State, with_camera, with_height, with_plane, without_planes, with_budget, with_raised}
+use Rattle.mesh_defs.specs.State.{move_length}
 use Rattle.roam_script.specs.declared.line.Line.{Line}
 use Rattle.roam_script.specs.declared.line.Line.TheVariants.{Blank, Camera, Set, Plane, NoPlanes, Budget, Raise, Frame}
 use Rattle.roam_script.specs.declared.script_fault.ScriptFault.{ScriptFault}

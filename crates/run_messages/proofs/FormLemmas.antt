@@ -1,15 +1,24 @@
 -- Words that are a command are those of its form, and what is wanted behind words that begin one.
-use Rattle.std.proofs.Common.{◌≡◌, ℕ, Bool, true, false, ◌&&◌, if◌then◌else◌, List, [], ◌∷◌, ◌++◌, take, drop, length, map, get_or, ◌+◌, ◌<◌, ◌≤◌, Option, Some, None, IsSome, IsTrue, is_some, codes, bytes_eq, ℤ, ◌↔◌, refl, sym, subst, ◌∙◌, ap, true≢false}
+use Rattle.std.proofs.Common.{◌≡◌, ℕ, Bool, true, false, ◌&&◌, if◌then◌else◌, List, [], ◌∷◌, ◌++◌, take, drop, length}
+use Rattle.std.proofs.Common.{map, get_or, ◌+◌, ◌<◌, ◌≤◌, Option, Some, None, IsSome, IsTrue, is_some, codes, bytes_eq}
+use Rattle.std.proofs.Common.{ℤ, ◌↔◌, refl, sym, subst, ◌∙◌, ap, true≢false}
 use Rattle.std.proofs.lemmas.Bool.{cond-false}
 use Rattle.std.proofs.lemmas.List.{take-append-drop, take_more, take-map, map-append, take_all}
 use Rattle.std.proofs.lemmas.Slice.Eq.{bytes_eq-Decides}
 use Rattle.std.specs.Option.{option_map}
-use Rattle.word_laws.specs.Words.{is_prefix, number_word, greatest_level, greatest_seed, budget_word, tolerance_word, spacing_word, coordinate_word, frames_command, least_command, meshes_command, try_command, camera_word, make_command, check_command, command_of, Command, Show, error_word, fit_command, fit_make_command, fit_check_command, target_word, Target, AtError, InBudget}
+use Rattle.word_laws.specs.Words.{is_prefix, number_word, greatest_level, greatest_seed, budget_word, tolerance_word}
+use Rattle.word_laws.specs.Words.{spacing_word, coordinate_word, frames_command, least_command, meshes_command}
+use Rattle.word_laws.specs.Words.{try_command, camera_word, make_command, check_command, command_of, Command, Show}
+use Rattle.word_laws.specs.Words.{error_word, fit_command, fit_make_command, fit_check_command, target_word, Target}
+use Rattle.word_laws.specs.Words.{AtError, InBudget}
 use Rattle.text_laws.specs.Numbers.{number_in, signed_in}
 use Rattle.roam_num.specs.Places.{thousandths_in}
 use Rattle.run_messages.specs.declared.wanted.Wanted.{Wanted}
-use Rattle.run_messages.specs.declared.wanted.Wanted.TheVariants.{Command as Name, Task, Goal, Error, Grid, Script, Mesh, Certificate, Prefix, X, Y, Z, Level, Seed, Budget, Tolerance, Spacing}
-use Rattle.run_messages.specs.Form.{command_form, task_form, is_fit, step, walk_words, is_over, first_wanted, may_stand, start, BeginsCommand, BeginsNoCommand, goal_form}
+use Rattle.run_messages.specs.declared.wanted.Wanted.TheVariants.{Command as Name, Task, Goal, Error, Grid, Script}
+use Rattle.run_messages.specs.declared.wanted.Wanted.TheVariants.{Mesh, Certificate, Prefix, X, Y, Z, Level, Seed}
+use Rattle.run_messages.specs.declared.wanted.Wanted.TheVariants.{Budget, Tolerance, Spacing}
+use Rattle.run_messages.specs.Form.{command_form, task_form, is_fit, step, walk_words, is_over, first_wanted, may_stand}
+use Rattle.run_messages.specs.Form.{start, BeginsCommand, BeginsNoCommand, goal_form}
 
 -- a case for each answer of a test, and of an option
 bool : (P : Bool → Type 0) → P true → P false → (b : Bool) → P b
@@ -30,10 +39,13 @@ is_named : (w c : List ℕ) → bytes_eq w c ≡ true → c ≡ w
 is_named w c h = sym ((bytes_eq-Decides w c).0 h)
 
 -- what holds of the name of each command, and of each other word, holds of every word
-by_name : (P : List ℕ → Type 0) → P (codes "info") → P (codes "try") → P (codes "mesh") → P (codes "strip") → P (codes "least")
+by_name : (P : List ℕ → Type 0) → P (codes "info") → P (codes "try") → P (codes "mesh") →
+    P (codes "strip") → P (codes "least")
     → P (codes "measure") → P (codes "certify") → P (codes "fit")
-    → ((w : List ℕ) → bytes_eq w (codes "info") ≡ false → bytes_eq w (codes "try") ≡ false → bytes_eq w (codes "mesh") ≡ false → bytes_eq w (codes "strip") ≡ false
-    → bytes_eq w (codes "least") ≡ false → bytes_eq w (codes "measure") ≡ false → bytes_eq w (codes "certify") ≡ false → bytes_eq w (codes "fit") ≡ false → P w)
+    → ((w : List ℕ) → bytes_eq w (codes "info") ≡ false → bytes_eq w (codes "try") ≡ false →
+    bytes_eq w (codes "mesh") ≡ false → bytes_eq w (codes "strip") ≡ false
+    → bytes_eq w (codes "least") ≡ false → bytes_eq w (codes "measure") ≡ false → bytes_eq w (codes "certify") ≡ false →
+    bytes_eq w (codes "fit") ≡ false → P w)
     → (w : List ℕ) → P w
 by_name P a b c d e f g i other w =
     asked (bytes_eq w (codes "info")) (λ h. subst P (is_named w (codes "info") h) a) (λ h1.
@@ -54,7 +66,8 @@ by_task P a b c d other w =
     asked (bytes_eq w (codes "make")) (λ h. subst P (is_named w (codes "make") h) a) (λ h1.
     asked (bytes_eq w (codes "check")) (λ h. subst P (is_named w (codes "check") h) b) (λ h2.
     asked (bytes_eq w (codes "make-fit")) (λ h. subst P (is_named w (codes "make-fit") h) c) (λ h3.
-    asked (bytes_eq w (codes "check-fit")) (λ h. subst P (is_named w (codes "check-fit") h) d) (λ h4. other w h1 h2 h3 h4))))
+    asked (bytes_eq w (codes "check-fit")) (λ h. subst P (is_named w (codes "check-fit") h) d)
+    (λ h4. other w h1 h2 h3 h4))))
 
 -- no words go on where one was wrong
 walk-none : (ws : List (List ℕ)) → walk_words None ws ≡ None
@@ -64,15 +77,19 @@ walk-none (w ∷ ws) = walk-none ws
 over-none : (ws : List (List ℕ)) → false ≡ is_over (walk_words None ws)
 over-none ws = sym (ap is_over (walk-none ws))
 
-pub walk-append : (s : Option (List Wanted)) (vs ws : List (List ℕ)) → walk_words s (vs ++ ws) ≡ walk_words (walk_words s vs) ws
+pub walk-append : (s : Option (List Wanted)) (vs ws : List (List ℕ)) →
+    walk_words s (vs ++ ws) ≡ walk_words (walk_words s vs) ws
 walk-append s [] ws = refl
 walk-append s (v ∷ vs) ws = walk-append (step s v) vs ws
 
 -- a word that is the name of no command has no form
-formless : (w : List ℕ) → bytes_eq w (codes "info") ≡ false → bytes_eq w (codes "try") ≡ false → bytes_eq w (codes "mesh") ≡ false → bytes_eq w (codes "strip") ≡ false
-    → bytes_eq w (codes "least") ≡ false → bytes_eq w (codes "measure") ≡ false → bytes_eq w (codes "certify") ≡ false → bytes_eq w (codes "fit") ≡ false → command_form w ≡ None
+formless : (w : List ℕ) → bytes_eq w (codes "info") ≡ false → bytes_eq w (codes "try") ≡ false →
+    bytes_eq w (codes "mesh") ≡ false → bytes_eq w (codes "strip") ≡ false
+    → bytes_eq w (codes "least") ≡ false → bytes_eq w (codes "measure") ≡ false → bytes_eq w (codes "certify") ≡ false →
+    bytes_eq w (codes "fit") ≡ false → command_form w ≡ None
 formless w h1 h2 h3 h4 h5 h6 h7 h8 =
-    cond-false _ _ _ h1 ∙ cond-false _ _ _ h2 ∙ cond-false _ _ _ h3 ∙ cond-false _ _ _ h4 ∙ cond-false _ _ _ h5 ∙ cond-false _ _ _ h6 ∙ cond-false _ _ _ h7 ∙ cond-false _ _ _ h8
+    cond-false _ _ _ h1 ∙ cond-false _ _ _ h2 ∙ cond-false _ _ _ h3 ∙ cond-false _ _ _ h4 ∙ cond-false _ _ _ h5
+    ∙ cond-false _ _ _ h6 ∙ cond-false _ _ _ h7 ∙ cond-false _ _ _ h8
 
 -- every word of these is tested by itself: no name of a command or a task is wanted
 abbrev ArePlain : List Wanted → Type 0
@@ -145,7 +162,8 @@ try-fits (Some a) (Some b) = refl
 try-fits (Some a) None = refl
 try-fits None p = refl
 
-frames-fit : (g s : List ℕ) (h : Show) (o p : Option ℕ) → is_some (frames_command g s h o p) ≡ (is_some o && (is_some p && true))
+frames-fit : (g s : List ℕ) (h : Show) (o p : Option ℕ) →
+    is_some (frames_command g s h o p) ≡ (is_some o && (is_some p && true))
 frames-fit g s h (Some a) (Some b) = refl
 frames-fit g s h (Some a) None = refl
 frames-fit g s h None p = refl
@@ -176,10 +194,13 @@ info-fits (a ∷ []) = refl
 info-fits (a ∷ (b ∷ [])) = uneven (Grid ∷ []) (a ∷ (b ∷ [])) refl
 info-fits (a ∷ (b ∷ (c ∷ []))) = uneven (Grid ∷ []) (a ∷ (b ∷ (c ∷ []))) refl
 info-fits (a ∷ (b ∷ (c ∷ (d ∷ [])))) = uneven (Grid ∷ []) (a ∷ (b ∷ (c ∷ (d ∷ [])))) refl
-info-fits (a ∷ (b ∷ (c ∷ (d ∷ (e ∷ []))))) = sides (is_prefix c) ∙ uneven (Grid ∷ []) (a ∷ (b ∷ (c ∷ (d ∷ (e ∷ []))))) refl
+info-fits (a ∷ (b ∷ (c ∷ (d ∷ (e ∷ []))))) =
+    sides (is_prefix c) ∙ uneven (Grid ∷ []) (a ∷ (b ∷ (c ∷ (d ∷ (e ∷ []))))) refl
 info-fits (a ∷ (b ∷ (c ∷ (d ∷ (e ∷ (f ∷ [])))))) = uneven (Grid ∷ []) (a ∷ (b ∷ (c ∷ (d ∷ (e ∷ (f ∷ [])))))) refl
-info-fits (a ∷ (b ∷ (c ∷ (d ∷ (e ∷ (f ∷ (g ∷ []))))))) = uneven (Grid ∷ []) (a ∷ (b ∷ (c ∷ (d ∷ (e ∷ (f ∷ (g ∷ []))))))) refl
-info-fits (a ∷ (b ∷ (c ∷ (d ∷ (e ∷ (f ∷ (g ∷ (h ∷ more)))))))) = uneven (Grid ∷ []) (a ∷ (b ∷ (c ∷ (d ∷ (e ∷ (f ∷ (g ∷ (h ∷ more)))))))) refl
+info-fits (a ∷ (b ∷ (c ∷ (d ∷ (e ∷ (f ∷ (g ∷ []))))))) =
+    uneven (Grid ∷ []) (a ∷ (b ∷ (c ∷ (d ∷ (e ∷ (f ∷ (g ∷ []))))))) refl
+info-fits (a ∷ (b ∷ (c ∷ (d ∷ (e ∷ (f ∷ (g ∷ (h ∷ more)))))))) =
+    uneven (Grid ∷ []) (a ∷ (b ∷ (c ∷ (d ∷ (e ∷ (f ∷ (g ∷ (h ∷ more)))))))) refl
 
 -- of `try`
 tries-fit : (ws : List (List ℕ)) → is_some (command_of (codes "try" ∷ ws)) ≡ all_fit (Level ∷ (Seed ∷ [])) ws
@@ -188,80 +209,125 @@ tries-fit (a ∷ []) = uneven (Level ∷ (Seed ∷ [])) (a ∷ []) refl
 tries-fit (a ∷ (b ∷ [])) = try-fits (number_word 1 greatest_level a) (number_word 0 greatest_seed b)
 tries-fit (a ∷ (b ∷ (c ∷ []))) = uneven (Level ∷ (Seed ∷ [])) (a ∷ (b ∷ (c ∷ []))) refl
 tries-fit (a ∷ (b ∷ (c ∷ (d ∷ [])))) = uneven (Level ∷ (Seed ∷ [])) (a ∷ (b ∷ (c ∷ (d ∷ [])))) refl
-tries-fit (a ∷ (b ∷ (c ∷ (d ∷ (e ∷ []))))) = sides (is_prefix c) ∙ uneven (Level ∷ (Seed ∷ [])) (a ∷ (b ∷ (c ∷ (d ∷ (e ∷ []))))) refl
-tries-fit (a ∷ (b ∷ (c ∷ (d ∷ (e ∷ (f ∷ [])))))) = uneven (Level ∷ (Seed ∷ [])) (a ∷ (b ∷ (c ∷ (d ∷ (e ∷ (f ∷ [])))))) refl
-tries-fit (a ∷ (b ∷ (c ∷ (d ∷ (e ∷ (f ∷ (g ∷ []))))))) = uneven (Level ∷ (Seed ∷ [])) (a ∷ (b ∷ (c ∷ (d ∷ (e ∷ (f ∷ (g ∷ []))))))) refl
-tries-fit (a ∷ (b ∷ (c ∷ (d ∷ (e ∷ (f ∷ (g ∷ (h ∷ more)))))))) = uneven (Level ∷ (Seed ∷ [])) (a ∷ (b ∷ (c ∷ (d ∷ (e ∷ (f ∷ (g ∷ (h ∷ more)))))))) refl
+tries-fit (a ∷ (b ∷ (c ∷ (d ∷ (e ∷ []))))) =
+    sides (is_prefix c) ∙ uneven (Level ∷ (Seed ∷ [])) (a ∷ (b ∷ (c ∷ (d ∷ (e ∷ []))))) refl
+tries-fit (a ∷ (b ∷ (c ∷ (d ∷ (e ∷ (f ∷ [])))))) =
+    uneven (Level ∷ (Seed ∷ [])) (a ∷ (b ∷ (c ∷ (d ∷ (e ∷ (f ∷ [])))))) refl
+tries-fit (a ∷ (b ∷ (c ∷ (d ∷ (e ∷ (f ∷ (g ∷ []))))))) =
+    uneven (Level ∷ (Seed ∷ [])) (a ∷ (b ∷ (c ∷ (d ∷ (e ∷ (f ∷ (g ∷ []))))))) refl
+tries-fit (a ∷ (b ∷ (c ∷ (d ∷ (e ∷ (f ∷ (g ∷ (h ∷ more)))))))) =
+    uneven (Level ∷ (Seed ∷ [])) (a ∷ (b ∷ (c ∷ (d ∷ (e ∷ (f ∷ (g ∷ (h ∷ more)))))))) refl
 
 -- of `mesh`
-mesh-fits : (ws : List (List ℕ)) → is_some (command_of (codes "mesh" ∷ ws)) ≡ all_fit (Grid ∷ (Script ∷ (Prefix ∷ (Budget ∷ (Spacing ∷ []))))) ws
+mesh-fits : (ws : List (List ℕ)) →
+    is_some (command_of (codes "mesh" ∷ ws)) ≡ all_fit (Grid ∷ (Script ∷ (Prefix ∷ (Budget ∷ (Spacing ∷ []))))) ws
 mesh-fits [] = uneven (Grid ∷ (Script ∷ (Prefix ∷ (Budget ∷ (Spacing ∷ []))))) [] refl
 mesh-fits (a ∷ []) = uneven (Grid ∷ (Script ∷ (Prefix ∷ (Budget ∷ (Spacing ∷ []))))) (a ∷ []) refl
 mesh-fits (a ∷ (b ∷ [])) = uneven (Grid ∷ (Script ∷ (Prefix ∷ (Budget ∷ (Spacing ∷ []))))) (a ∷ (b ∷ [])) refl
-mesh-fits (a ∷ (b ∷ (c ∷ []))) = uneven (Grid ∷ (Script ∷ (Prefix ∷ (Budget ∷ (Spacing ∷ []))))) (a ∷ (b ∷ (c ∷ []))) refl
-mesh-fits (a ∷ (b ∷ (c ∷ (d ∷ [])))) = uneven (Grid ∷ (Script ∷ (Prefix ∷ (Budget ∷ (Spacing ∷ []))))) (a ∷ (b ∷ (c ∷ (d ∷ [])))) refl
-mesh-fits (a ∷ (b ∷ (c ∷ (d ∷ (e ∷ []))))) = with-prefix (is_prefix c) _ _ (frames-fit a b _ (budget_word d) (spacing_word e))
-mesh-fits (a ∷ (b ∷ (c ∷ (d ∷ (e ∷ (f ∷ [])))))) = uneven (Grid ∷ (Script ∷ (Prefix ∷ (Budget ∷ (Spacing ∷ []))))) (a ∷ (b ∷ (c ∷ (d ∷ (e ∷ (f ∷ [])))))) refl
-mesh-fits (a ∷ (b ∷ (c ∷ (d ∷ (e ∷ (f ∷ (g ∷ []))))))) = uneven (Grid ∷ (Script ∷ (Prefix ∷ (Budget ∷ (Spacing ∷ []))))) (a ∷ (b ∷ (c ∷ (d ∷ (e ∷ (f ∷ (g ∷ []))))))) refl
-mesh-fits (a ∷ (b ∷ (c ∷ (d ∷ (e ∷ (f ∷ (g ∷ (h ∷ more)))))))) = uneven (Grid ∷ (Script ∷ (Prefix ∷ (Budget ∷ (Spacing ∷ []))))) (a ∷ (b ∷ (c ∷ (d ∷ (e ∷ (f ∷ (g ∷ (h ∷ more)))))))) refl
+mesh-fits (a ∷ (b ∷ (c ∷ []))) =
+    uneven (Grid ∷ (Script ∷ (Prefix ∷ (Budget ∷ (Spacing ∷ []))))) (a ∷ (b ∷ (c ∷ []))) refl
+mesh-fits (a ∷ (b ∷ (c ∷ (d ∷ [])))) =
+    uneven (Grid ∷ (Script ∷ (Prefix ∷ (Budget ∷ (Spacing ∷ []))))) (a ∷ (b ∷ (c ∷ (d ∷ [])))) refl
+mesh-fits (a ∷ (b ∷ (c ∷ (d ∷ (e ∷ []))))) =
+    with-prefix (is_prefix c) _ _ (frames-fit a b _ (budget_word d) (spacing_word e))
+mesh-fits (a ∷ (b ∷ (c ∷ (d ∷ (e ∷ (f ∷ [])))))) =
+    uneven (Grid ∷ (Script ∷ (Prefix ∷ (Budget ∷ (Spacing ∷ []))))) (a ∷ (b ∷ (c ∷ (d ∷ (e ∷ (f ∷ [])))))) refl
+mesh-fits (a ∷ (b ∷ (c ∷ (d ∷ (e ∷ (f ∷ (g ∷ []))))))) =
+    uneven (Grid ∷ (Script ∷ (Prefix ∷ (Budget ∷ (Spacing ∷ []))))) (a ∷ (b ∷ (c ∷ (d ∷ (e ∷ (f ∷ (g ∷ []))))))) refl
+mesh-fits (a ∷ (b ∷ (c ∷ (d ∷ (e ∷ (f ∷ (g ∷ (h ∷ more)))))))) =
+    uneven (Grid ∷ (Script ∷ (Prefix ∷ (Budget ∷ (Spacing ∷ [])))))
+    (a ∷ (b ∷ (c ∷ (d ∷ (e ∷ (f ∷ (g ∷ (h ∷ more)))))))) refl
 
 -- of `strip`
-strip-fits : (ws : List (List ℕ)) → is_some (command_of (codes "strip" ∷ ws)) ≡ all_fit (Grid ∷ (Script ∷ (Prefix ∷ (Budget ∷ (Spacing ∷ []))))) ws
+strip-fits : (ws : List (List ℕ)) →
+    is_some (command_of (codes "strip" ∷ ws)) ≡ all_fit (Grid ∷ (Script ∷ (Prefix ∷ (Budget ∷ (Spacing ∷ []))))) ws
 strip-fits [] = uneven (Grid ∷ (Script ∷ (Prefix ∷ (Budget ∷ (Spacing ∷ []))))) [] refl
 strip-fits (a ∷ []) = uneven (Grid ∷ (Script ∷ (Prefix ∷ (Budget ∷ (Spacing ∷ []))))) (a ∷ []) refl
 strip-fits (a ∷ (b ∷ [])) = uneven (Grid ∷ (Script ∷ (Prefix ∷ (Budget ∷ (Spacing ∷ []))))) (a ∷ (b ∷ [])) refl
-strip-fits (a ∷ (b ∷ (c ∷ []))) = uneven (Grid ∷ (Script ∷ (Prefix ∷ (Budget ∷ (Spacing ∷ []))))) (a ∷ (b ∷ (c ∷ []))) refl
-strip-fits (a ∷ (b ∷ (c ∷ (d ∷ [])))) = uneven (Grid ∷ (Script ∷ (Prefix ∷ (Budget ∷ (Spacing ∷ []))))) (a ∷ (b ∷ (c ∷ (d ∷ [])))) refl
-strip-fits (a ∷ (b ∷ (c ∷ (d ∷ (e ∷ []))))) = with-prefix (is_prefix c) _ _ (frames-fit a b _ (budget_word d) (spacing_word e))
-strip-fits (a ∷ (b ∷ (c ∷ (d ∷ (e ∷ (f ∷ [])))))) = uneven (Grid ∷ (Script ∷ (Prefix ∷ (Budget ∷ (Spacing ∷ []))))) (a ∷ (b ∷ (c ∷ (d ∷ (e ∷ (f ∷ [])))))) refl
-strip-fits (a ∷ (b ∷ (c ∷ (d ∷ (e ∷ (f ∷ (g ∷ []))))))) = uneven (Grid ∷ (Script ∷ (Prefix ∷ (Budget ∷ (Spacing ∷ []))))) (a ∷ (b ∷ (c ∷ (d ∷ (e ∷ (f ∷ (g ∷ []))))))) refl
-strip-fits (a ∷ (b ∷ (c ∷ (d ∷ (e ∷ (f ∷ (g ∷ (h ∷ more)))))))) = uneven (Grid ∷ (Script ∷ (Prefix ∷ (Budget ∷ (Spacing ∷ []))))) (a ∷ (b ∷ (c ∷ (d ∷ (e ∷ (f ∷ (g ∷ (h ∷ more)))))))) refl
+strip-fits (a ∷ (b ∷ (c ∷ []))) =
+    uneven (Grid ∷ (Script ∷ (Prefix ∷ (Budget ∷ (Spacing ∷ []))))) (a ∷ (b ∷ (c ∷ []))) refl
+strip-fits (a ∷ (b ∷ (c ∷ (d ∷ [])))) =
+    uneven (Grid ∷ (Script ∷ (Prefix ∷ (Budget ∷ (Spacing ∷ []))))) (a ∷ (b ∷ (c ∷ (d ∷ [])))) refl
+strip-fits (a ∷ (b ∷ (c ∷ (d ∷ (e ∷ []))))) =
+    with-prefix (is_prefix c) _ _ (frames-fit a b _ (budget_word d) (spacing_word e))
+strip-fits (a ∷ (b ∷ (c ∷ (d ∷ (e ∷ (f ∷ [])))))) =
+    uneven (Grid ∷ (Script ∷ (Prefix ∷ (Budget ∷ (Spacing ∷ []))))) (a ∷ (b ∷ (c ∷ (d ∷ (e ∷ (f ∷ [])))))) refl
+strip-fits (a ∷ (b ∷ (c ∷ (d ∷ (e ∷ (f ∷ (g ∷ []))))))) =
+    uneven (Grid ∷ (Script ∷ (Prefix ∷ (Budget ∷ (Spacing ∷ []))))) (a ∷ (b ∷ (c ∷ (d ∷ (e ∷ (f ∷ (g ∷ []))))))) refl
+strip-fits (a ∷ (b ∷ (c ∷ (d ∷ (e ∷ (f ∷ (g ∷ (h ∷ more)))))))) =
+    uneven (Grid ∷ (Script ∷ (Prefix ∷ (Budget ∷ (Spacing ∷ [])))))
+    (a ∷ (b ∷ (c ∷ (d ∷ (e ∷ (f ∷ (g ∷ (h ∷ more)))))))) refl
 
 -- of `least`
-leasts-fit : (ws : List (List ℕ)) → is_some (command_of (codes "least" ∷ ws)) ≡ all_fit (Grid ∷ (Script ∷ (Prefix ∷ (Tolerance ∷ (Spacing ∷ []))))) ws
+leasts-fit : (ws : List (List ℕ)) →
+    is_some (command_of (codes "least" ∷ ws)) ≡ all_fit (Grid ∷ (Script ∷ (Prefix ∷ (Tolerance ∷ (Spacing ∷ []))))) ws
 leasts-fit [] = uneven (Grid ∷ (Script ∷ (Prefix ∷ (Tolerance ∷ (Spacing ∷ []))))) [] refl
 leasts-fit (a ∷ []) = uneven (Grid ∷ (Script ∷ (Prefix ∷ (Tolerance ∷ (Spacing ∷ []))))) (a ∷ []) refl
 leasts-fit (a ∷ (b ∷ [])) = uneven (Grid ∷ (Script ∷ (Prefix ∷ (Tolerance ∷ (Spacing ∷ []))))) (a ∷ (b ∷ [])) refl
-leasts-fit (a ∷ (b ∷ (c ∷ []))) = uneven (Grid ∷ (Script ∷ (Prefix ∷ (Tolerance ∷ (Spacing ∷ []))))) (a ∷ (b ∷ (c ∷ []))) refl
-leasts-fit (a ∷ (b ∷ (c ∷ (d ∷ [])))) = uneven (Grid ∷ (Script ∷ (Prefix ∷ (Tolerance ∷ (Spacing ∷ []))))) (a ∷ (b ∷ (c ∷ (d ∷ [])))) refl
-leasts-fit (a ∷ (b ∷ (c ∷ (d ∷ (e ∷ []))))) = with-prefix (is_prefix c) _ _ (least-fits a b c (tolerance_word d) (spacing_word e))
-leasts-fit (a ∷ (b ∷ (c ∷ (d ∷ (e ∷ (f ∷ [])))))) = uneven (Grid ∷ (Script ∷ (Prefix ∷ (Tolerance ∷ (Spacing ∷ []))))) (a ∷ (b ∷ (c ∷ (d ∷ (e ∷ (f ∷ [])))))) refl
-leasts-fit (a ∷ (b ∷ (c ∷ (d ∷ (e ∷ (f ∷ (g ∷ []))))))) = uneven (Grid ∷ (Script ∷ (Prefix ∷ (Tolerance ∷ (Spacing ∷ []))))) (a ∷ (b ∷ (c ∷ (d ∷ (e ∷ (f ∷ (g ∷ []))))))) refl
-leasts-fit (a ∷ (b ∷ (c ∷ (d ∷ (e ∷ (f ∷ (g ∷ (h ∷ more)))))))) = uneven (Grid ∷ (Script ∷ (Prefix ∷ (Tolerance ∷ (Spacing ∷ []))))) (a ∷ (b ∷ (c ∷ (d ∷ (e ∷ (f ∷ (g ∷ (h ∷ more)))))))) refl
+leasts-fit (a ∷ (b ∷ (c ∷ []))) =
+    uneven (Grid ∷ (Script ∷ (Prefix ∷ (Tolerance ∷ (Spacing ∷ []))))) (a ∷ (b ∷ (c ∷ []))) refl
+leasts-fit (a ∷ (b ∷ (c ∷ (d ∷ [])))) =
+    uneven (Grid ∷ (Script ∷ (Prefix ∷ (Tolerance ∷ (Spacing ∷ []))))) (a ∷ (b ∷ (c ∷ (d ∷ [])))) refl
+leasts-fit (a ∷ (b ∷ (c ∷ (d ∷ (e ∷ []))))) =
+    with-prefix (is_prefix c) _ _ (least-fits a b c (tolerance_word d) (spacing_word e))
+leasts-fit (a ∷ (b ∷ (c ∷ (d ∷ (e ∷ (f ∷ [])))))) =
+    uneven (Grid ∷ (Script ∷ (Prefix ∷ (Tolerance ∷ (Spacing ∷ []))))) (a ∷ (b ∷ (c ∷ (d ∷ (e ∷ (f ∷ [])))))) refl
+leasts-fit (a ∷ (b ∷ (c ∷ (d ∷ (e ∷ (f ∷ (g ∷ []))))))) =
+    uneven (Grid ∷ (Script ∷ (Prefix ∷ (Tolerance ∷ (Spacing ∷ []))))) (a ∷ (b ∷ (c ∷ (d ∷ (e ∷ (f ∷ (g ∷ []))))))) refl
+leasts-fit (a ∷ (b ∷ (c ∷ (d ∷ (e ∷ (f ∷ (g ∷ (h ∷ more)))))))) =
+    uneven (Grid ∷ (Script ∷ (Prefix ∷ (Tolerance ∷ (Spacing ∷ [])))))
+    (a ∷ (b ∷ (c ∷ (d ∷ (e ∷ (f ∷ (g ∷ (h ∷ more)))))))) refl
 
 -- of `measure`
-measure-fits : (ws : List (List ℕ)) → is_some (command_of (codes "measure" ∷ ws)) ≡ all_fit (Grid ∷ (Script ∷ (Budget ∷ (Spacing ∷ [])))) ws
+measure-fits : (ws : List (List ℕ)) →
+    is_some (command_of (codes "measure" ∷ ws)) ≡ all_fit (Grid ∷ (Script ∷ (Budget ∷ (Spacing ∷ [])))) ws
 measure-fits [] = uneven (Grid ∷ (Script ∷ (Budget ∷ (Spacing ∷ [])))) [] refl
 measure-fits (a ∷ []) = uneven (Grid ∷ (Script ∷ (Budget ∷ (Spacing ∷ [])))) (a ∷ []) refl
 measure-fits (a ∷ (b ∷ [])) = uneven (Grid ∷ (Script ∷ (Budget ∷ (Spacing ∷ [])))) (a ∷ (b ∷ [])) refl
 measure-fits (a ∷ (b ∷ (c ∷ []))) = uneven (Grid ∷ (Script ∷ (Budget ∷ (Spacing ∷ [])))) (a ∷ (b ∷ (c ∷ []))) refl
 measure-fits (a ∷ (b ∷ (c ∷ (d ∷ [])))) = frames-fit a b _ (budget_word c) (spacing_word d)
-measure-fits (a ∷ (b ∷ (c ∷ (d ∷ (e ∷ []))))) = sides (is_prefix c) ∙ uneven (Grid ∷ (Script ∷ (Budget ∷ (Spacing ∷ [])))) (a ∷ (b ∷ (c ∷ (d ∷ (e ∷ []))))) refl
-measure-fits (a ∷ (b ∷ (c ∷ (d ∷ (e ∷ (f ∷ [])))))) = uneven (Grid ∷ (Script ∷ (Budget ∷ (Spacing ∷ [])))) (a ∷ (b ∷ (c ∷ (d ∷ (e ∷ (f ∷ [])))))) refl
-measure-fits (a ∷ (b ∷ (c ∷ (d ∷ (e ∷ (f ∷ (g ∷ []))))))) = uneven (Grid ∷ (Script ∷ (Budget ∷ (Spacing ∷ [])))) (a ∷ (b ∷ (c ∷ (d ∷ (e ∷ (f ∷ (g ∷ []))))))) refl
-measure-fits (a ∷ (b ∷ (c ∷ (d ∷ (e ∷ (f ∷ (g ∷ (h ∷ more)))))))) = uneven (Grid ∷ (Script ∷ (Budget ∷ (Spacing ∷ [])))) (a ∷ (b ∷ (c ∷ (d ∷ (e ∷ (f ∷ (g ∷ (h ∷ more)))))))) refl
+measure-fits (a ∷ (b ∷ (c ∷ (d ∷ (e ∷ []))))) =
+    sides (is_prefix c) ∙ uneven (Grid ∷ (Script ∷ (Budget ∷ (Spacing ∷ [])))) (a ∷ (b ∷ (c ∷ (d ∷ (e ∷ []))))) refl
+measure-fits (a ∷ (b ∷ (c ∷ (d ∷ (e ∷ (f ∷ [])))))) =
+    uneven (Grid ∷ (Script ∷ (Budget ∷ (Spacing ∷ [])))) (a ∷ (b ∷ (c ∷ (d ∷ (e ∷ (f ∷ [])))))) refl
+measure-fits (a ∷ (b ∷ (c ∷ (d ∷ (e ∷ (f ∷ (g ∷ []))))))) =
+    uneven (Grid ∷ (Script ∷ (Budget ∷ (Spacing ∷ [])))) (a ∷ (b ∷ (c ∷ (d ∷ (e ∷ (f ∷ (g ∷ []))))))) refl
+measure-fits (a ∷ (b ∷ (c ∷ (d ∷ (e ∷ (f ∷ (g ∷ (h ∷ more)))))))) =
+    uneven (Grid ∷ (Script ∷ (Budget ∷ (Spacing ∷ [])))) (a ∷ (b ∷ (c ∷ (d ∷ (e ∷ (f ∷ (g ∷ (h ∷ more)))))))) refl
 
 -- of `certify make`
-make-words : (ws : List (List ℕ)) → is_some (command_of (codes "certify" ∷ (codes "make" ∷ ws))) ≡ all_fit (Grid ∷ (X ∷ (Y ∷ (Z ∷ (Budget ∷ (Spacing ∷ [])))))) ws
+make-words : (ws : List (List ℕ)) → is_some (command_of (codes "certify" ∷ (codes "make" ∷ ws)))
+    ≡ all_fit (Grid ∷ (X ∷ (Y ∷ (Z ∷ (Budget ∷ (Spacing ∷ [])))))) ws
 make-words [] = uneven (Grid ∷ (X ∷ (Y ∷ (Z ∷ (Budget ∷ (Spacing ∷ [])))))) [] refl
 make-words (a ∷ []) = uneven (Grid ∷ (X ∷ (Y ∷ (Z ∷ (Budget ∷ (Spacing ∷ [])))))) (a ∷ []) refl
 make-words (a ∷ (b ∷ [])) = uneven (Grid ∷ (X ∷ (Y ∷ (Z ∷ (Budget ∷ (Spacing ∷ [])))))) (a ∷ (b ∷ [])) refl
 make-words (a ∷ (b ∷ (c ∷ []))) = uneven (Grid ∷ (X ∷ (Y ∷ (Z ∷ (Budget ∷ (Spacing ∷ [])))))) (a ∷ (b ∷ (c ∷ []))) refl
-make-words (a ∷ (b ∷ (c ∷ (d ∷ [])))) = sides (is_prefix b) ∙ uneven (Grid ∷ (X ∷ (Y ∷ (Z ∷ (Budget ∷ (Spacing ∷ [])))))) (a ∷ (b ∷ (c ∷ (d ∷ [])))) refl
-make-words (a ∷ (b ∷ (c ∷ (d ∷ (e ∷ []))))) = uneven (Grid ∷ (X ∷ (Y ∷ (Z ∷ (Budget ∷ (Spacing ∷ [])))))) (a ∷ (b ∷ (c ∷ (d ∷ (e ∷ []))))) refl
-make-words (a ∷ (b ∷ (c ∷ (d ∷ (e ∷ (f ∷ [])))))) = make-fits a (coordinate_word b) (coordinate_word c) (coordinate_word d) (budget_word e) (spacing_word f)
-make-words (a ∷ (b ∷ (c ∷ (d ∷ (e ∷ (f ∷ (g ∷ more))))))) = uneven (Grid ∷ (X ∷ (Y ∷ (Z ∷ (Budget ∷ (Spacing ∷ [])))))) (a ∷ (b ∷ (c ∷ (d ∷ (e ∷ (f ∷ (g ∷ more))))))) refl
+make-words (a ∷ (b ∷ (c ∷ (d ∷ [])))) =
+    sides (is_prefix b) ∙ uneven (Grid ∷ (X ∷ (Y ∷ (Z ∷ (Budget ∷ (Spacing ∷ [])))))) (a ∷ (b ∷ (c ∷ (d ∷ [])))) refl
+make-words (a ∷ (b ∷ (c ∷ (d ∷ (e ∷ []))))) =
+    uneven (Grid ∷ (X ∷ (Y ∷ (Z ∷ (Budget ∷ (Spacing ∷ [])))))) (a ∷ (b ∷ (c ∷ (d ∷ (e ∷ []))))) refl
+make-words (a ∷ (b ∷ (c ∷ (d ∷ (e ∷ (f ∷ [])))))) =
+    make-fits a (coordinate_word b) (coordinate_word c) (coordinate_word d) (budget_word e) (spacing_word f)
+make-words (a ∷ (b ∷ (c ∷ (d ∷ (e ∷ (f ∷ (g ∷ more))))))) =
+    uneven (Grid ∷ (X ∷ (Y ∷ (Z ∷ (Budget ∷ (Spacing ∷ [])))))) (a ∷ (b ∷ (c ∷ (d ∷ (e ∷ (f ∷ (g ∷ more))))))) refl
 
 -- of `certify check`
-check-words : (ws : List (List ℕ)) → is_some (command_of (codes "certify" ∷ (codes "check" ∷ ws))) ≡ all_fit (Grid ∷ (Mesh ∷ (Certificate ∷ (Budget ∷ (Spacing ∷ []))))) ws
+check-words : (ws : List (List ℕ)) → is_some (command_of (codes "certify" ∷ (codes "check" ∷ ws)))
+    ≡ all_fit (Grid ∷ (Mesh ∷ (Certificate ∷ (Budget ∷ (Spacing ∷ []))))) ws
 check-words [] = uneven (Grid ∷ (Mesh ∷ (Certificate ∷ (Budget ∷ (Spacing ∷ []))))) [] refl
 check-words (a ∷ []) = uneven (Grid ∷ (Mesh ∷ (Certificate ∷ (Budget ∷ (Spacing ∷ []))))) (a ∷ []) refl
 check-words (a ∷ (b ∷ [])) = uneven (Grid ∷ (Mesh ∷ (Certificate ∷ (Budget ∷ (Spacing ∷ []))))) (a ∷ (b ∷ [])) refl
-check-words (a ∷ (b ∷ (c ∷ []))) = uneven (Grid ∷ (Mesh ∷ (Certificate ∷ (Budget ∷ (Spacing ∷ []))))) (a ∷ (b ∷ (c ∷ []))) refl
-check-words (a ∷ (b ∷ (c ∷ (d ∷ [])))) = sides (is_prefix b) ∙ uneven (Grid ∷ (Mesh ∷ (Certificate ∷ (Budget ∷ (Spacing ∷ []))))) (a ∷ (b ∷ (c ∷ (d ∷ [])))) refl
+check-words (a ∷ (b ∷ (c ∷ []))) =
+    uneven (Grid ∷ (Mesh ∷ (Certificate ∷ (Budget ∷ (Spacing ∷ []))))) (a ∷ (b ∷ (c ∷ []))) refl
+check-words (a ∷ (b ∷ (c ∷ (d ∷ [])))) =
+    sides (is_prefix b)
+    ∙ uneven (Grid ∷ (Mesh ∷ (Certificate ∷ (Budget ∷ (Spacing ∷ []))))) (a ∷ (b ∷ (c ∷ (d ∷ [])))) refl
 check-words (a ∷ (b ∷ (c ∷ (d ∷ (e ∷ []))))) = check-fits a b c (budget_word d) (spacing_word e)
-check-words (a ∷ (b ∷ (c ∷ (d ∷ (e ∷ (f ∷ [])))))) = uneven (Grid ∷ (Mesh ∷ (Certificate ∷ (Budget ∷ (Spacing ∷ []))))) (a ∷ (b ∷ (c ∷ (d ∷ (e ∷ (f ∷ [])))))) refl
-check-words (a ∷ (b ∷ (c ∷ (d ∷ (e ∷ (f ∷ (g ∷ more))))))) = uneven (Grid ∷ (Mesh ∷ (Certificate ∷ (Budget ∷ (Spacing ∷ []))))) (a ∷ (b ∷ (c ∷ (d ∷ (e ∷ (f ∷ (g ∷ more))))))) refl
+check-words (a ∷ (b ∷ (c ∷ (d ∷ (e ∷ (f ∷ [])))))) =
+    uneven (Grid ∷ (Mesh ∷ (Certificate ∷ (Budget ∷ (Spacing ∷ []))))) (a ∷ (b ∷ (c ∷ (d ∷ (e ∷ (f ∷ [])))))) refl
+check-words (a ∷ (b ∷ (c ∷ (d ∷ (e ∷ (f ∷ (g ∷ more))))))) =
+    uneven (Grid ∷ (Mesh ∷ (Certificate ∷ (Budget ∷ (Spacing ∷ [])))))
+    (a ∷ (b ∷ (c ∷ (d ∷ (e ∷ (f ∷ (g ∷ more))))))) refl
 
 -- `certify` with another word is no command
 taskless : (t : List ℕ) → bytes_eq t (codes "make") ≡ false → bytes_eq t (codes "check") ≡ false
@@ -271,7 +337,8 @@ taskless t h1 h2 h3 h4 [] = refl
 taskless t h1 h2 h3 h4 (a ∷ []) = refl
 taskless t h1 h2 h3 h4 (a ∷ (b ∷ [])) = refl
 taskless t h1 h2 h3 h4 (a ∷ (b ∷ (c ∷ []))) = refl
-taskless t h1 h2 h3 h4 (a ∷ (b ∷ (c ∷ (d ∷ [])))) = ap is_some (cond-false (bytes_eq t (codes "make-fit")) _ _ h3) ∙ sides (is_prefix b)
+taskless t h1 h2 h3 h4 (a ∷ (b ∷ (c ∷ (d ∷ [])))) =
+    ap is_some (cond-false (bytes_eq t (codes "make-fit")) _ _ h3) ∙ sides (is_prefix b)
 taskless t h1 h2 h3 h4 (a ∷ (b ∷ (c ∷ (d ∷ (e ∷ []))))) = ap is_some (cond-false (bytes_eq t (codes "check")) _ _ h2)
 taskless t h1 h2 h3 h4 (a ∷ (b ∷ (c ∷ (d ∷ (e ∷ (f ∷ [])))))) =
     ap is_some (cond-false (bytes_eq t (codes "make")) _ _ h1 ∙ cond-false (bytes_eq t (codes "check-fit")) _ _ h4)
@@ -279,7 +346,8 @@ taskless t h1 h2 h3 h4 (a ∷ (b ∷ (c ∷ (d ∷ (e ∷ (f ∷ (g ∷ more))))
 
 -- what holds of `error`, of `budget` and of each other word
 by_goal : (P : List ℕ → Type 0) → P (codes "error") → P (codes "budget")
-    → ((w : List ℕ) → bytes_eq w (codes "error") ≡ false → bytes_eq w (codes "budget") ≡ false → P w) → (w : List ℕ) → P w
+    → ((w : List ℕ) → bytes_eq w (codes "error") ≡ false → bytes_eq w (codes "budget") ≡ false → P w) →
+    (w : List ℕ) → P w
 by_goal P a b other w =
     asked (bytes_eq w (codes "error")) (λ h. subst P (is_named w (codes "error") h) a) (λ h1.
     asked (bytes_eq w (codes "budget")) (λ h. subst P (is_named w (codes "budget") h) b) (λ h2. other w h1 h2))
@@ -357,7 +425,8 @@ no-words true = refl
 no-words false = refl
 
 fit-words : (a b c : List ℕ) (ws : List (List ℕ))
-    → is_some (command_of (codes "fit" ∷ (a ∷ (b ∷ (c ∷ ws))))) ≡ (is_prefix b && is_some (goal_words (fit_command a b) c ws))
+    → is_some (command_of (codes "fit" ∷ (a ∷ (b ∷ (c ∷ ws)))))
+    ≡ (is_prefix b && is_some (goal_words (fit_command a b) c ws))
 fit-words a b c [] = no-words (is_prefix b)
 fit-words a b c (d ∷ []) = no-words (is_prefix b)
 fit-words a b c (d ∷ (e ∷ [])) = with-prefix (is_prefix b) (fit_command a b (target_word c d) (spacing_word e)) _ refl
@@ -366,18 +435,21 @@ fit-words a b c (d ∷ (e ∷ (f ∷ (g ∷ [])))) = no-words (is_prefix b)
 fit-words a b c (d ∷ (e ∷ (f ∷ (g ∷ (h ∷ more))))) = no-words (is_prefix b)
 
 -- of `fit`
-fit-fits : (ws : List (List ℕ)) → is_some (command_of (codes "fit" ∷ ws)) ≡ is_over (walk_words (Some (Grid ∷ (Prefix ∷ (Goal ∷ [])))) ws)
+fit-fits : (ws : List (List ℕ)) →
+    is_some (command_of (codes "fit" ∷ ws)) ≡ is_over (walk_words (Some (Grid ∷ (Prefix ∷ (Goal ∷ [])))) ws)
 fit-fits [] = refl
 fit-fits (a ∷ []) = refl
 fit-fits (a ∷ (b ∷ [])) = bool (λ t. false ≡ is_over (if t then Some (Goal ∷ []) else None)) refl refl (is_prefix b)
 fit-fits (a ∷ (b ∷ (c ∷ ws))) =
     fit-words a b c ws
-    ∙ bool (λ t. (t && is_some (goal_words (fit_command a b) c ws)) ≡ is_over (walk_words (step (if t then Some (Goal ∷ []) else None) c) ws))
+    ∙ bool (λ t. (t && is_some (goal_words (fit_command a b) c ws))
+    ≡ is_over (walk_words (step (if t then Some (Goal ∷ []) else None) c) ws))
     (goal-fits (fit_command a b) (fit-both a b) c ws) (over-none ws) (is_prefix b)
 
 -- of `certify make-fit`
 make_fit-words : (a c : List ℕ) (ws : List (List ℕ))
-    → is_some (command_of (codes "certify" ∷ (codes "make-fit" ∷ (a ∷ (c ∷ ws))))) ≡ is_some (goal_words (fit_make_command a) c ws)
+    → is_some (command_of (codes "certify" ∷ (codes "make-fit" ∷ (a ∷ (c ∷ ws)))))
+    ≡ is_some (goal_words (fit_make_command a) c ws)
 make_fit-words a c [] = refl
 make_fit-words a c (d ∷ []) = refl
 make_fit-words a c (d ∷ (e ∷ [])) = refl
@@ -386,7 +458,8 @@ make_fit-words a c (d ∷ (e ∷ (f ∷ (g ∷ [])))) = refl
 make_fit-words a c (d ∷ (e ∷ (f ∷ (g ∷ (h ∷ more))))) = refl
 
 make_fit-fits : (ws : List (List ℕ))
-    → is_some (command_of (codes "certify" ∷ (codes "make-fit" ∷ ws))) ≡ is_over (walk_words (Some (Grid ∷ (Goal ∷ []))) ws)
+    → is_some (command_of (codes "certify" ∷ (codes "make-fit" ∷ ws)))
+    ≡ is_over (walk_words (Some (Grid ∷ (Goal ∷ []))) ws)
 make_fit-fits [] = refl
 make_fit-fits (a ∷ []) = refl
 make_fit-fits (a ∷ (c ∷ ws)) = make_fit-words a c ws ∙ goal-fits (fit_make_command a) (make_fit-both a) c ws
@@ -410,7 +483,8 @@ check_fit-fits (a ∷ (b ∷ (c ∷ (d ∷ ws)))) =
     check_fit-words a b c d ws ∙ goal-fits (fit_check_command a b c) (check_fit-both a b c) d ws
 
 -- of `certify`
-certify-fits : (ws : List (List ℕ)) → is_some (command_of (codes "certify" ∷ ws)) ≡ is_over (walk_words (Some (Task ∷ [])) ws)
+certify-fits : (ws : List (List ℕ)) →
+    is_some (command_of (codes "certify" ∷ ws)) ≡ is_over (walk_words (Some (Task ∷ [])) ws)
 certify-fits [] = refl
 certify-fits (t ∷ ws) =
     by_task (λ t. is_some (command_of (codes "certify" ∷ (t ∷ ws))) ≡ is_over (walk_words (task_form t) ws))
@@ -419,12 +493,15 @@ certify-fits (t ∷ ws) =
     (make_fit-fits ws)
     (check_fit-fits ws)
     (λ t h1 h2 h3 h4. taskless t h1 h2 h3 h4 ws ∙ over-none ws
-    ∙ ap (λ s. is_over (walk_words s ws)) (sym (cond-false _ _ _ h1 ∙ cond-false _ _ _ h2 ∙ cond-false _ _ _ h3 ∙ cond-false _ _ _ h4)))
+    ∙ ap (λ s. is_over (walk_words s ws))
+    (sym (cond-false _ _ _ h1 ∙ cond-false _ _ _ h2 ∙ cond-false _ _ _ h3 ∙ cond-false _ _ _ h4)))
     t
 
 -- another first word is that of no command
-nameless : (w : List ℕ) → bytes_eq w (codes "info") ≡ false → bytes_eq w (codes "try") ≡ false → bytes_eq w (codes "mesh") ≡ false → bytes_eq w (codes "strip") ≡ false
-    → bytes_eq w (codes "least") ≡ false → bytes_eq w (codes "measure") ≡ false → bytes_eq w (codes "certify") ≡ false → bytes_eq w (codes "fit") ≡ false
+nameless : (w : List ℕ) → bytes_eq w (codes "info") ≡ false → bytes_eq w (codes "try") ≡ false →
+    bytes_eq w (codes "mesh") ≡ false → bytes_eq w (codes "strip") ≡ false
+    → bytes_eq w (codes "least") ≡ false → bytes_eq w (codes "measure") ≡ false → bytes_eq w (codes "certify") ≡ false →
+    bytes_eq w (codes "fit") ≡ false
     → (ws : List (List ℕ)) → command_of (w ∷ ws) ≡ None
 nameless w h1 h2 h3 h4 h5 h6 h7 h8 [] = refl
 nameless w h1 h2 h3 h4 h5 h6 h7 h8 (a ∷ []) = cond-false _ _ _ h1
@@ -434,10 +511,13 @@ nameless w h1 h2 h3 h4 h5 h6 h7 h8 (a ∷ (b ∷ (c ∷ (d ∷ [])))) = cond-fal
 nameless w h1 h2 h3 h4 h5 h6 h7 h8 (a ∷ (b ∷ (c ∷ (d ∷ (e ∷ []))))) =
     cond-false _ _ _ h8
     ∙ cond-false _ _ _ (ap (λ t. t && bytes_eq a (codes "make-fit")) h7)
-    ∙ bool (λ t. (if t then meshes_command w a b c d e else None) ≡ None) (cond-false _ _ _ h3 ∙ cond-false _ _ _ h4 ∙ cond-false _ _ _ h5) refl (is_prefix c)
-nameless w h1 h2 h3 h4 h5 h6 h7 h8 (a ∷ (b ∷ (c ∷ (d ∷ (e ∷ (f ∷ [])))))) = cond-false _ _ _ (ap (λ t. t && bytes_eq a (codes "check")) h7)
+    ∙ bool (λ t. (if t then meshes_command w a b c d e else None) ≡ None) (cond-false _ _ _ h3 ∙ cond-false _ _ _ h4
+    ∙ cond-false _ _ _ h5) refl (is_prefix c)
+nameless w h1 h2 h3 h4 h5 h6 h7 h8 (a ∷ (b ∷ (c ∷ (d ∷ (e ∷ (f ∷ [])))))) =
+    cond-false _ _ _ (ap (λ t. t && bytes_eq a (codes "check")) h7)
 nameless w h1 h2 h3 h4 h5 h6 h7 h8 (a ∷ (b ∷ (c ∷ (d ∷ (e ∷ (f ∷ (g ∷ []))))))) =
-    cond-false _ _ _ (ap (λ t. t && bytes_eq a (codes "make")) h7) ∙ cond-false _ _ _ (ap (λ t. t && bytes_eq a (codes "check-fit")) h7)
+    cond-false _ _ _ (ap (λ t. t && bytes_eq a (codes "make")) h7)
+    ∙ cond-false _ _ _ (ap (λ t. t && bytes_eq a (codes "check-fit")) h7)
 nameless w h1 h2 h3 h4 h5 h6 h7 h8 (a ∷ (b ∷ (c ∷ (d ∷ (e ∷ (f ∷ (g ∷ (h ∷ more)))))))) = refl
 
 -- words are a command exactly where the walk over them is over
@@ -540,7 +620,8 @@ begins ws xs h = (
 pub begins-none : (ws : List (List ℕ)) → walk_words start ws ≡ None → BeginsNoCommand ws
 begins-none ws h behind =
     none_of (command_of (ws ++ behind))
-    (commands-are (ws ++ behind) ∙ ap is_over (walk-append start ws behind ∙ ap (λ s. walk_words s behind) h ∙ walk-none behind))
+    (commands-are (ws ++ behind)
+    ∙ ap is_over (walk-append start ws behind ∙ ap (λ s. walk_words s behind) h ∙ walk-none behind))
   where
     none_of : (c : Option Command) → is_some c ≡ false → c ≡ None
     none_of None e = refl
@@ -555,7 +636,8 @@ begins-wanted ws xs w h = (there, back)
     one_more = walk-append start ws (w ∷ []) ∙ ap (λ s. step s w) h
 
     there : BeginsCommand (ws ++ w ∷ []) → IsTrue (may_stand (first_wanted xs) w)
-    there b = sym (step-fits xs w) ∙ is_going (step (Some xs) w) (λ e. some-none (begins-none (ws ++ w ∷ []) (one_more ∙ e) b.0) b.1)
+    there b = sym (step-fits xs w)
+        ∙ is_going (step (Some xs) w) (λ e. some-none (begins-none (ws ++ w ∷ []) (one_more ∙ e) b.0) b.1)
       where
         is_going : (s : Option (List Wanted)) → (s ≡ None → ⊥) → is_some s ≡ true
         is_going (Some s) e = refl
@@ -572,11 +654,13 @@ begins-wanted ws xs w h = (there, back)
         goes None e u = absurd (true≢false (sym u))
 
 -- words of which nothing more is wanted are a command, and others are none
-pub whole-command : (ws : List (List ℕ)) (xs : List Wanted) → walk_words start ws ≡ Some xs → first_wanted xs ≡ None → IsSome (command_of ws)
+pub whole-command : (ws : List (List ℕ)) (xs : List Wanted) → walk_words start ws ≡ Some xs →
+    first_wanted xs ≡ None → IsSome (command_of ws)
 whole-command ws [] h e = commands-are ws ∙ ap is_over h
 whole-command ws (x ∷ xs) h e = absurd (true≢false (ap is_some e))
 
-pub part-command : (ws : List (List ℕ)) (xs : List Wanted) (wanted : Wanted) → walk_words start ws ≡ Some xs → first_wanted xs ≡ Some wanted → IsSome (command_of ws) → ⊥
+pub part-command : (ws : List (List ℕ)) (xs : List Wanted) (wanted : Wanted) → walk_words start ws ≡ Some xs →
+    first_wanted xs ≡ Some wanted → IsSome (command_of ws) → ⊥
 part-command ws [] wanted h e t = true≢false (ap is_some (sym e))
 part-command ws (x ∷ xs) wanted h e t = true≢false (sym t ∙ commands-are ws ∙ ap is_over h)
 
@@ -586,7 +670,8 @@ no-command-behind k ws h t =
     true≢false (sym t ∙ ap is_some (ap command_of (sym (take-append-drop k ws)) ∙ h (drop k ws)))
 
 -- the walk goes on by one word
-pub one-more : {A : Type 0} (f : A → List ℕ) (ws : List A) (k : ℕ) (w : A) (xs : List Wanted) (behind : Option (List Wanted))
+pub one-more : {A : Type 0} (f : A → List ℕ) (ws : List A) (k : ℕ) (w : A) (xs : List Wanted)
+    (behind : Option (List Wanted))
     → k < length ws → w ≡ get_or ws k w → walk_words start (map f (take k ws)) ≡ Some xs → step (Some xs) (f w) ≡ behind
     → walk_words start (map f (take (k + 1) ws)) ≡ behind
 one-more f ws k w xs behind inside is before goes =
@@ -597,11 +682,13 @@ one-more f ws k w xs behind inside is before goes =
     ∙ ap (λ v. step (Some xs) (f v)) (sym is) ∙ goes
 
 -- the same, told of the texts
-pub of-texts : {A : Type 0} (f : A → List ℕ) (ws : List A) (k : ℕ) (s : Option (List Wanted)) → walk_words start (map f (take k ws)) ≡ s
+pub of-texts : {A : Type 0} (f : A → List ℕ) (ws : List A) (k : ℕ) (s : Option (List Wanted)) →
+    walk_words start (map f (take k ws)) ≡ s
     → walk_words start (take k (map f ws)) ≡ s
 of-texts f ws k s h = ap (walk_words start) (take-map f k ws) ∙ h
 
 -- all of them
-pub of-all : {A : Type 0} (f : A → List ℕ) (ws : List A) (k : ℕ) (s : Option (List Wanted)) → length ws ≤ k → walk_words start (map f (take k ws)) ≡ s
+pub of-all : {A : Type 0} (f : A → List ℕ) (ws : List A) (k : ℕ) (s : Option (List Wanted)) → length ws ≤ k →
+    walk_words start (map f (take k ws)) ≡ s
     → walk_words start (map f ws) ≡ s
 of-all f ws k s all h = ap (λ l. walk_words start (map f l)) (sym (take_all k ws all)) ∙ h

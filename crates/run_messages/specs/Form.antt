@@ -1,9 +1,14 @@
 -- What the words of a command are one after the other, and which words begin a command. This project's own.
--- Words: command_form, task_form, goal_form, is_fit, may_stand, next_stage, step, walk_words, is_over, first_wanted, start, BeginsCommand, BeginsNoCommand.
-use Rattle.std.specs.Prelude.{◌≡◌, ℕ, Bool, true, false, if◌then◌else◌, List, [], ◌∷◌, ◌++◌, Option, Some, None, IsTrue, is_some, codes, bytes_eq}
-use Rattle.word_laws.specs.Words.{is_prefix, number_word, greatest_level, greatest_seed, budget_word, tolerance_word, spacing_word, error_word, coordinate_word, command_of}
+-- Words: command_form, task_form, goal_form, is_fit, may_stand, next_stage, step, walk_words, is_over, first_wanted,
+-- start, BeginsCommand, BeginsNoCommand.
+use Rattle.std.specs.Prelude.{◌≡◌, ℕ, Bool, true, false, if◌then◌else◌, List, [], ◌∷◌, ◌++◌, Option, Some, None, IsTrue}
+use Rattle.std.specs.Prelude.{is_some, codes, bytes_eq}
+use Rattle.word_laws.specs.Words.{is_prefix, number_word, greatest_level, greatest_seed, budget_word, tolerance_word}
+use Rattle.word_laws.specs.Words.{spacing_word, error_word, coordinate_word, command_of}
 use Rattle.run_messages.specs.declared.wanted.Wanted.{Wanted}
-use Rattle.run_messages.specs.declared.wanted.Wanted.TheVariants.{Command, Task, Goal, Error, Grid, Script, Mesh, Certificate, Prefix, X, Y, Z, Level, Seed, Budget, Tolerance, Spacing}
+use Rattle.run_messages.specs.declared.wanted.Wanted.TheVariants.{Command, Task, Goal, Error, Grid, Script, Mesh}
+use Rattle.run_messages.specs.declared.wanted.Wanted.TheVariants.{Certificate, Prefix, X, Y, Z, Level, Seed, Budget}
+use Rattle.run_messages.specs.declared.wanted.Wanted.TheVariants.{Tolerance, Spacing}
 
 -- what stands behind the name of a command; None of a word that is none
 abbrev pub command_form : List ℕ → Option (List Wanted)

@@ -1,5 +1,6 @@
 -- What the calls of a script leave as it was, one call after another.
-use Rattle.std.proofs.Common.{◌≡◌, ◌≢◌, ◌⊎◌, ℕ, Bool, true, false, List, [], Option, Result, Ok, Err, inl, inr, refl, sym, ◌∙◌, ap, subst}
+use Rattle.std.proofs.Common.{◌≡◌, ◌≢◌, ◌⊎◌, ℕ, Bool, true, false, List, [], Option, Result, Ok, Err, inl, inr, refl}
+use Rattle.std.proofs.Common.{sym, ◌∙◌, ap, subst}
 use Rattle.roam_edge.specs.Fault.{Rose, IsInTime, next_count}
 use Rattle.run_laws.specs.declared.status.Status.{Status}
 use Rattle.run_laws.specs.declared.status.Status.TheVariants as ends
@@ -36,7 +37,8 @@ only-nothing now = record {
 
 module _ {T E : Type 0} (before now : Moment) where
   -- acts were done, and the line was carried out or refused
-  only-did : (answer : Result (Unit {0}) Stop) (one : T) → answer ≢ stopped Failed → OnlyWrites {T = T} {E = E} before now (Ok one)
+  only-did : (answer : Result (Unit {0}) Stop) (one : T) → answer ≢ stopped Failed →
+      OnlyWrites {T = T} {E = E} before now (Ok one)
       → OnlyTakes before now answer
   only-did answer one not did = record {
     shelf = did.shelf;
@@ -77,10 +79,14 @@ takes-then before middle now answer one two =
       shelf_late = two.shelf_late ∙ one.shelf_late;
       idle = λ not. two.idle not ∙ one.idle (λ e. cc);
       faults =
-          subst (λ (k : ℕ). StopsHaveCause k now.sinks.mesh_faults before.sinks.report_faults now.sinks.report_faults answer) none.meshes_same
-          (subst (λ (k : ℕ). StopsHaveCause middle.sinks.mesh_faults now.sinks.mesh_faults k now.sinks.report_faults answer) none.report_same two.faults);
-      meshes_in_time = λ not_late no_fault. two.meshes_in_time (one.meshes_in_time not_late no_fault) (none.meshes_same ∙ no_fault);
-      report_in_time = λ not_late no_fault. two.report_in_time (one.report_in_time not_late no_fault) (none.report_same ∙ no_fault);
+          subst (λ (k : ℕ). StopsHaveCause k now.sinks.mesh_faults before.sinks.report_faults now.sinks.report_faults
+          answer) none.meshes_same
+          (subst (λ (k : ℕ). StopsHaveCause middle.sinks.mesh_faults now.sinks.mesh_faults k now.sinks.report_faults
+          answer) none.report_same two.faults);
+      meshes_in_time =
+          λ not_late no_fault. two.meshes_in_time (one.meshes_in_time not_late no_fault) (none.meshes_same ∙ no_fault);
+      report_in_time =
+          λ not_late no_fault. two.report_in_time (one.report_in_time not_late no_fault) (none.report_same ∙ no_fault);
     }
 
 -- a script ended with its bytes
@@ -96,7 +102,8 @@ ends-taken before now takes = record {
 }
 
 -- or with a stop
-pub ends-stopped : (before now : Moment) (stop : Stop) → OnlyTakes before now (stopped stop) → OnlyEnds before now (status_for stop)
+pub ends-stopped : (before now : Moment) (stop : Stop) → OnlyTakes before now (stopped stop) →
+    OnlyEnds before now (status_for stop)
 ends-stopped before now Refused takes = record {
   shelf = takes.shelf;
   shelf_faults = takes.shelf_faults;
@@ -116,12 +123,17 @@ ends-stopped before now Failed takes = record {
   report_in_time = takes.report_in_time;
 }
 
-none-failed : (before now : Told) → now ≡ before → NoFault before.mesh_faults now.mesh_faults before.report_faults now.report_faults
-none-failed before now same = record { meshes_same = ap (λ (t : Told). t.mesh_faults) same; report_same = ap (λ (t : Told). t.report_faults) same }
+none-failed : (before now : Told) → now ≡ before →
+    NoFault before.mesh_faults now.mesh_faults before.report_faults now.report_faults
+none-failed before now same = record {
+  meshes_same = ap (λ (t : Told). t.mesh_faults) same;
+  report_same = ap (λ (t : Told). t.report_faults) same;
+}
 
 -- the script was opened
 pub goes-opened : (before now : Moment) → OnlyReads before now → now.shelf.opens ≡ next_count before.shelf.opens
-    → now.shelf_faults ≡ before.shelf_faults → IsInTime before.shelf_late before.shelf_faults now.shelf_late → GoesOn before now
+    → now.shelf_faults ≡ before.shelf_faults →
+    IsInTime before.shelf_late before.shelf_faults now.shelf_late → GoesOn before now
 goes-opened before now only opens calm in_time = record {
   files = only.files;
   opens = opens;
@@ -136,7 +148,8 @@ goes-opened before now only opens calm in_time = record {
 module _ (before middle : Moment) (goes : GoesOn before middle) where
   -- a piece was read
   pub goes-read : (now : Moment) → OnlyReads middle now → now.shelf.opens ≡ middle.shelf.opens
-      → now.shelf_faults ≡ middle.shelf_faults → IsInTime middle.shelf_late middle.shelf_faults now.shelf_late → GoesOn before now
+      → now.shelf_faults ≡ middle.shelf_faults →
+      IsInTime middle.shelf_late middle.shelf_faults now.shelf_late → GoesOn before now
   goes-read now only opens calm in_time =
       let none = none-failed middle.sinks now.sinks only.sinks in
       record {
@@ -144,8 +157,12 @@ module _ (before middle : Moment) (goes : GoesOn before middle) where
         opens = opens ∙ goes.opens;
         shelf_faults = calm ∙ goes.shelf_faults;
         idle = only.under_way ∙ goes.idle;
-        faults = record { meshes_same = none.meshes_same ∙ goes.faults.meshes_same; report_same = none.report_same ∙ goes.faults.report_same };
-        shelf_in_time = λ not_late no_fault. in_time (goes.shelf_in_time not_late no_fault) (goes.shelf_faults ∙ no_fault);
+        faults = record {
+          meshes_same = none.meshes_same ∙ goes.faults.meshes_same;
+          report_same = none.report_same ∙ goes.faults.report_same;
+        };
+        shelf_in_time =
+            λ not_late no_fault. in_time (goes.shelf_in_time not_late no_fault) (goes.shelf_faults ∙ no_fault);
         meshes_in_time = λ not_late no_fault. only.mesh_late ∙ goes.meshes_in_time not_late no_fault;
         report_in_time = λ not_late no_fault. only.report_late ∙ goes.report_in_time not_late no_fault;
       }
@@ -159,14 +176,20 @@ module _ (before middle : Moment) (goes : GoesOn before middle) where
         opens = ap (λ (s : Seen). s.opens) takes.shelf ∙ goes.opens;
         shelf_faults = takes.shelf_faults ∙ goes.shelf_faults;
         idle = takes.idle (λ e. cc) ∙ goes.idle;
-        faults = record { meshes_same = none.meshes_same ∙ goes.faults.meshes_same; report_same = none.report_same ∙ goes.faults.report_same };
+        faults = record {
+          meshes_same = none.meshes_same ∙ goes.faults.meshes_same;
+          report_same = none.report_same ∙ goes.faults.report_same;
+        };
         shelf_in_time = λ not_late no_fault. takes.shelf_late ∙ goes.shelf_in_time not_late no_fault;
-        meshes_in_time = λ not_late no_fault. takes.meshes_in_time (goes.meshes_in_time not_late no_fault) (goes.faults.meshes_same ∙ no_fault);
-        report_in_time = λ not_late no_fault. takes.report_in_time (goes.report_in_time not_late no_fault) (goes.faults.report_same ∙ no_fault);
+        meshes_in_time = λ not_late no_fault.
+            takes.meshes_in_time (goes.meshes_in_time not_late no_fault) (goes.faults.meshes_same ∙ no_fault);
+        report_in_time = λ not_late no_fault.
+            takes.report_in_time (goes.report_in_time not_late no_fault) (goes.faults.report_same ∙ no_fault);
       }
 
   -- the script ended
-  pub goes-ended : (now : Moment) (status : Status) → IsScriptEnd status → OnlyEnds middle now status → (status ≡ ends.Done → HasEnded middle.shelf)
+  pub goes-ended : (now : Moment) (status : Status) → IsScriptEnd status → OnlyEnds middle now status →
+      (status ≡ ends.Done → HasEnded middle.shelf)
       → LeavesByScript before now status
   goes-ended now status is only ended = record {
     files = ap (λ (s : Seen). s.files) only.shelf ∙ goes.files;
@@ -177,12 +200,16 @@ module _ (before middle : Moment) (goes : GoesOn before middle) where
       read = λ e. absurd (not-read status is e);
       not_read = λ not. only.shelf_faults ∙ goes.shelf_faults;
       writes =
-          subst (λ (k : ℕ). StatusWritesHaveCause k now.sinks.mesh_faults before.sinks.report_faults now.sinks.report_faults status) goes.faults.meshes_same
-          (subst (λ (k : ℕ). StatusWritesHaveCause middle.sinks.mesh_faults now.sinks.mesh_faults k now.sinks.report_faults status) goes.faults.report_same only.faults);
+          subst (λ (k : ℕ). StatusWritesHaveCause k now.sinks.mesh_faults before.sinks.report_faults
+          now.sinks.report_faults status) goes.faults.meshes_same
+          (subst (λ (k : ℕ). StatusWritesHaveCause middle.sinks.mesh_faults now.sinks.mesh_faults k
+          now.sinks.report_faults status) goes.faults.report_same only.faults);
     };
     shelf_in_time = λ not_late no_fault. only.shelf_late ∙ goes.shelf_in_time not_late no_fault;
-    meshes_in_time = λ not_late no_fault. only.meshes_in_time (goes.meshes_in_time not_late no_fault) (goes.faults.meshes_same ∙ no_fault);
-    report_in_time = λ not_late no_fault. only.report_in_time (goes.report_in_time not_late no_fault) (goes.faults.report_same ∙ no_fault);
+    meshes_in_time = λ not_late no_fault.
+        only.meshes_in_time (goes.meshes_in_time not_late no_fault) (goes.faults.meshes_same ∙ no_fault);
+    report_in_time = λ not_late no_fault.
+        only.report_in_time (goes.report_in_time not_late no_fault) (goes.faults.report_same ∙ no_fault);
   }
     where
       not-read : (status : Status) → IsScriptEnd status → status ≡ ends.ReadFault → ⊥
@@ -191,10 +218,13 @@ module _ (before middle : Moment) (goes : GoesOn before middle) where
       not-read status (inr (inr a)) e = cc
 
 -- a call of the shelf failed
-leaves-failed : (before now : Moment) → now.shelf.files ≡ before.shelf.files → now.shelf.opens ≡ next_count before.shelf.opens
-    → now.under_way ≡ before.under_way → NoFault before.sinks.mesh_faults now.sinks.mesh_faults before.sinks.report_faults now.sinks.report_faults
+leaves-failed : (before now : Moment) → now.shelf.files ≡ before.shelf.files →
+    now.shelf.opens ≡ next_count before.shelf.opens
+    → now.under_way ≡ before.under_way →
+    NoFault before.sinks.mesh_faults now.sinks.mesh_faults before.sinks.report_faults now.sinks.report_faults
     → Rose before.shelf_faults now.shelf_faults → IsInTime before.shelf_late before.shelf_faults now.shelf_late
-    → IsInTime before.mesh_late before.sinks.mesh_faults now.mesh_late → IsInTime before.report_late before.sinks.report_faults now.report_late
+    → IsInTime before.mesh_late before.sinks.mesh_faults now.mesh_late →
+    IsInTime before.report_late before.sinks.report_faults now.report_late
     → LeavesByScript before now ends.ReadFault
 leaves-failed before now files opens idle none rose shelf meshes report = record {
   files = files;
@@ -216,17 +246,22 @@ pub leaves-unopened : (before now : Moment) → OnlyReads before now → now.she
     → Rose before.shelf_faults now.shelf_faults → IsInTime before.shelf_late before.shelf_faults now.shelf_late
     → LeavesByScript before now ends.ReadFault
 leaves-unopened before now only opens rose in_time =
-    leaves-failed before now only.files opens only.under_way (none-failed before.sinks now.sinks only.sinks) rose in_time
+    leaves-failed before now only.files opens only.under_way
+    (none-failed before.sinks now.sinks only.sinks) rose in_time
     (λ not_late none. only.mesh_late ∙ not_late) (λ not_late none. only.report_late ∙ not_late)
 
 -- or not be read further
-pub leaves-unread : (before middle now : Moment) → GoesOn before middle → OnlyReads middle now → now.shelf.opens ≡ middle.shelf.opens
+pub leaves-unread : (before middle now : Moment) → GoesOn before middle → OnlyReads middle now →
+    now.shelf.opens ≡ middle.shelf.opens
     → Rose middle.shelf_faults now.shelf_faults → IsInTime middle.shelf_late middle.shelf_faults now.shelf_late
     → LeavesByScript before now ends.ReadFault
 leaves-unread before middle now goes only opens rose in_time =
     let none = none-failed middle.sinks now.sinks only.sinks in
     leaves-failed before now (only.files ∙ goes.files) (opens ∙ goes.opens) (only.under_way ∙ goes.idle)
-    (record { meshes_same = none.meshes_same ∙ goes.faults.meshes_same; report_same = none.report_same ∙ goes.faults.report_same })
+    (record {
+      meshes_same = none.meshes_same ∙ goes.faults.meshes_same;
+      report_same = none.report_same ∙ goes.faults.report_same;
+    })
     (subst (λ (k : ℕ). Rose k now.shelf_faults) goes.shelf_faults rose)
     (λ not_late no_fault. in_time (goes.shelf_in_time not_late no_fault) (goes.shelf_faults ∙ no_fault))
     (λ not_late no_fault. only.mesh_late ∙ goes.meshes_in_time not_late no_fault)

@@ -51,4 +51,5 @@ least_numbers number triangles vertices worst =
 -- the acts of the frame that was made last: its mesh, and then its line
 abbrev pub least_acts : LeastFrames → LeastNote → List Act
 least_acts f note =
-    WholeMesh f.prefix.now f.frames (text_in (state_seen f) f.least.leaves) ∷ (ReportText (least_numbers f.frames note.triangles note.vertices note.worst) ∷ [])
+    WholeMesh f.prefix.now f.frames (text_in (state_seen f) f.least.leaves)
+    ∷ (ReportText (least_numbers f.frames note.triangles note.vertices note.worst) ∷ [])

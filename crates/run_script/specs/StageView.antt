@@ -16,13 +16,15 @@ pub record IsScriptStage (stage : Stage) : Type 0 where
   pub short : length stage.part.items ≤ MOST_LINE_BYTES
 
 -- the stage holds what the place says, and what makes the frames has followed its walk
-pub record Shows (show : Show) (follows : Show → Walk → List Picture → Type 0) (stage : Stage) (here : Place) : Type 0 where
+pub record Shows (show : Show) (follows : Show → Walk → List Picture → Type 0) (stage : Stage)
+    (here : Place) : Type 0 where
   pub followed : follows show here.walk here.pictures
   pub lines : stage.lines ≡ here.walk.lines
   pub begun : stage.part.items ≡ here.begun
 
 -- a script was carried out as far as it was read, and the stage shows the place that was reached
-pub record IsScriptAt (before now : Told) (show : Show) (follows : Show → Walk → List Picture → Type 0) (start : Walk) (read : List ℕ) (stage : Stage) : Type 0 where
+pub record IsScriptAt (before now : Told) (show : Show) (follows : Show → Walk → List Picture → Type 0) (start : Walk)
+    (read : List ℕ) (stage : Stage) : Type 0 where
   pub here : Place
   pub come : HasCome before now show start read here
   pub shows : Shows show follows stage here

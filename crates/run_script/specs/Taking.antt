@@ -64,16 +64,18 @@ pub record GoesOn (before now : Moment) : Type 0 where
   pub meshes_in_time : IsInTime before.mesh_late before.sinks.mesh_faults now.mesh_late
   pub report_in_time : IsInTime before.report_late before.sinks.report_faults now.report_late
 
--- A line that was read is refused, whatever follows. What makes the frames has followed the walk of the lines before it, behind
--- which the same engine is left.
-pub record IsRefused (before now : Told) (show : Show) (follows : Show → Walk → List Picture → Type 0) (start : Walk) (read : List ℕ) : Type 0 where
+-- A line that was read is refused, whatever follows. What makes the frames has followed the walk of the lines before
+-- it, behind which the same engine is left.
+pub record IsRefused (before now : Told) (show : Show) (follows : Show → Walk → List Picture → Type 0) (start : Walk)
+    (read : List ℕ) : Type 0 where
   pub refuses : Refuses before now show start read
   pub gone : Walk
   pub followed : follows show gone refuses.pictures
   pub same_end : engine_for show refuses.walk refuses.pictures ≡ engine_for show gone refuses.pictures
 
 -- what taking bytes does, by its answer
-pub record TakesBytes {T : Type 0} (before now : Told) (show : Show) (follows : Show → Walk → List Picture → Type 0) (start : Walk) (read : List ℕ) (stage : Stage) (answer : Result T Stop) : Type 0 where
+pub record TakesBytes {T : Type 0} (before now : Told) (show : Show) (follows : Show → Walk → List Picture → Type 0)
+    (start : Walk) (read : List ℕ) (stage : Stage) (answer : Result T Stop) : Type 0 where
   pub ok : OnOk answer (IsScriptAt before now show follows start read stage)
   pub refused : answer ≡ Err Refused → IsRefused before now show follows start read
   pub failed : answer ≡ Err Failed → Cuts before now show 2 start read

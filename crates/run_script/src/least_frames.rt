@@ -149,7 +149,13 @@ impl<'a> LeastFrames<'a> {
         ensures does { Does (O.moment outside.old) (O.moment outside.new) (least_acts self.now note.now) result }
     {
         let line = least_report(self.frames, note);
-        show_mesh(&self.view(), self.prefix, self.frames, line.as_slice(), outside)
+        show_mesh(
+            &self.view(),
+            self.prefix,
+            self.frames,
+            line.as_slice(),
+            outside,
+        )
     }
 }
 

@@ -3,7 +3,8 @@ use Rattle.std.proofs.Common.{◌≡◌, ℕ, ◌<◌, List, [], ◌∷◌, leng
 use Rattle.word_laws.specs.Words.{command_of, eight_command}
 
 -- the entries of a list of eight
-pub eight-words : {W : Type 0} (f : W → List ℕ) (ws : List W) (a b c d e h i j : W) → 8 ≤ length ws → length ws < 9 → a ≡ get_or ws 0 a → b ≡ get_or ws 1 b → c ≡ get_or ws 2 c → d ≡ get_or ws 3 d
+pub eight-words : {W : Type 0} (f : W → List ℕ) (ws : List W) (a b c d e h i j : W) → 8 ≤ length ws → length ws < 9 →
+    a ≡ get_or ws 0 a → b ≡ get_or ws 1 b → c ≡ get_or ws 2 c → d ≡ get_or ws 3 d
     → e ≡ get_or ws 4 e → h ≡ get_or ws 5 h → i ≡ get_or ws 6 i → j ≡ get_or ws 7 j
     → command_of (map f ws) ≡ eight_command (f a) (f b) (f c) (f d) (f e) (f h) (f i) (f j)
 eight-words f [] a b c d e h i j low high p q r s t u v w = absurd (omega (arith, low))
@@ -12,10 +13,14 @@ eight-words f (k ∷ (l ∷ [])) a b c d e h i j low high p q r s t u v w = absu
 eight-words f (k ∷ (l ∷ (m ∷ []))) a b c d e h i j low high p q r s t u v w = absurd (omega (arith, low))
 eight-words f (k ∷ (l ∷ (m ∷ (n ∷ [])))) a b c d e h i j low high p q r s t u v w = absurd (omega (arith, low))
 eight-words f (k ∷ (l ∷ (m ∷ (n ∷ (o ∷ []))))) a b c d e h i j low high p q r s t u v w = absurd (omega (arith, low))
-eight-words f (k ∷ (l ∷ (m ∷ (n ∷ (o ∷ (x ∷ [])))))) a b c d e h i j low high p q r s t u v w = absurd (omega (arith, low))
-eight-words f (k ∷ (l ∷ (m ∷ (n ∷ (o ∷ (x ∷ (y ∷ []))))))) a b c d e h i j low high p q r s t u v w = absurd (omega (arith, low))
-eight-words f (k ∷ (l ∷ (m ∷ (n ∷ (o ∷ (x ∷ (y ∷ (z ∷ [])))))))) a b c d e h i j low high p q r s t u v w = rw (p, q, r, s, t, u, v, w) refl
-eight-words f (k ∷ (l ∷ (m ∷ (n ∷ (o ∷ (x ∷ (y ∷ (z ∷ (more ∷ rest))))))))) a b c d e h i j low high p q r s t u v w = absurd (omega (arith, high))
+eight-words f (k ∷ (l ∷ (m ∷ (n ∷ (o ∷ (x ∷ [])))))) a b c d e h i j low high p q r s t u v w =
+    absurd (omega (arith, low))
+eight-words f (k ∷ (l ∷ (m ∷ (n ∷ (o ∷ (x ∷ (y ∷ []))))))) a b c d e h i j low high p q r s t u v w =
+    absurd (omega (arith, low))
+eight-words f (k ∷ (l ∷ (m ∷ (n ∷ (o ∷ (x ∷ (y ∷ (z ∷ [])))))))) a b c d e h i j low high p q r s t u v w =
+    rw (p, q, r, s, t, u, v, w) refl
+eight-words f (k ∷ (l ∷ (m ∷ (n ∷ (o ∷ (x ∷ (y ∷ (z ∷ (more ∷ rest))))))))) a b c d e h i j low high p q r s t u v w =
+    absurd (omega (arith, high))
 
 -- nine words are none, and no list of eight has fewer
 pub none-of-nine : {W : Type 0} (f : W → List ℕ) (ws : List W) → 8 < length ws → command_of (map f ws) ≡ None
@@ -30,7 +35,8 @@ none-of-nine f (k ∷ (l ∷ (m ∷ (n ∷ (o ∷ (x ∷ (y ∷ []))))))) many =
 none-of-nine f (k ∷ (l ∷ (m ∷ (n ∷ (o ∷ (x ∷ (y ∷ (z ∷ [])))))))) many = absurd (omega (arith, many))
 none-of-nine f (k ∷ (l ∷ (m ∷ (n ∷ (o ∷ (x ∷ (y ∷ (z ∷ (more ∷ rest))))))))) many = refl
 
-pub none-of-eight : {W : Type 0} (f : W → List ℕ) (ws : List W) → 8 ≤ length ws → length ws < 8 → command_of (map f ws) ≡ None
+pub none-of-eight : {W : Type 0} (f : W → List ℕ) (ws : List W) → 8 ≤ length ws → length ws < 8 →
+    command_of (map f ws) ≡ None
 none-of-eight f ws many few = absurd (omega (arith, many, few))
 
 -- there are too few or too many
@@ -40,7 +46,8 @@ none-of-few f [] few = refl
 none-of-few f (a ∷ []) few = refl
 none-of-few f (a ∷ (b ∷ words)) few = absurd (omega arith)
 
-pub none-of-four : {A : Type 0} (f : A → List ℕ) (words : List A) → 3 < length words → length words < 5 → command_of (map f words) ≡ None
+pub none-of-four : {A : Type 0} (f : A → List ℕ) (words : List A) → 3 < length words → length words < 5 →
+    command_of (map f words) ≡ None
 none-of-four f [] low high = absurd (omega arith)
 none-of-four f (a ∷ []) low high = absurd (omega arith)
 none-of-four f (a ∷ (b ∷ [])) low high = absurd (omega arith)
@@ -48,5 +55,6 @@ none-of-four f (a ∷ (b ∷ (c ∷ []))) low high = absurd (omega arith)
 none-of-four f (a ∷ (b ∷ (c ∷ (d ∷ [])))) low high = refl
 none-of-four f (a ∷ (b ∷ (c ∷ (d ∷ (e ∷ words))))) low high = absurd (omega arith)
 
-pub none-of-many : {A : Type 0} (f : A → List ℕ) (words : List A) → 6 < length words → length words < 7 → command_of (map f words) ≡ None
+pub none-of-many : {A : Type 0} (f : A → List ℕ) (words : List A) → 6 < length words → length words < 7 →
+    command_of (map f words) ≡ None
 none-of-many f words many few = absurd (omega (arith, many, few))

@@ -38,7 +38,12 @@ fit_making_seen w = record { target = target_seen w.target; spacing = w.spacing 
 
 -- what a fitted mesh is checked by
 abbrev pub fit_checking_seen : FitCheckWords → FitChecking
-fit_checking_seen w = record { mesh = w.mesh.now; certificate = w.certificate.now; target = target_seen w.target; spacing = w.spacing }
+fit_checking_seen w = record {
+  mesh = w.mesh.now;
+  certificate = w.certificate.now;
+  target = target_seen w.target;
+  spacing = w.spacing;
+}
 
 -- the numbers of such words lie within their bounds
 pub record AreFitBounds (target : Target) (spacing : ℕ) : Type 0 where

@@ -50,7 +50,8 @@ pub record IsFrameCommand (command : FrameWords) : Type 0 where
   pub spacing_low : 1 ≤ command.spacing
   pub spacing_high : command.spacing ≤ GREATEST_SPACING
 
--- a command lies within its bounds: of frames its words, of `try` its level, of `certify` its numbers, of `fit` its words
+-- a command lies within its bounds: of frames its words, of `try` its level, of `certify` its numbers, of `fit` its
+-- words
 abbrev pub IsCommandInBounds : Command → Type 0
 IsCommandInBounds (Frames command) = IsFrameCommand command
 IsCommandInBounds (Info grid) = Unit {0}

@@ -34,41 +34,58 @@ AllLeft c = TurnLeft c.apex c.v0 c.v1
 two_backs : (d : Corners) (p q r : Point) → AllLeft d → TurnLeft p q r → IsEdge d r q → IsEdge d q p → ⊥
 two_backs d p q r all h (inl x) (inl y) = not_last p q (subst (λ z. TurnLeft p q z) (x.0 ∙ sym y.0) h)
 two_backs d p q r all h (inl x) (inr (inl y)) =
-    not_backwards p q r h (subst (λ z. TurnLeft z q p) (sym x.0) (subst (λ z. TurnLeft d.apex z p) (sym x.1) (subst (λ z. TurnLeft d.apex d.v0 z) (sym y.1) all)))
+    not_backwards p q r h (subst (λ z. TurnLeft z q p) (sym x.0)
+    (subst (λ z. TurnLeft d.apex z p) (sym x.1) (subst (λ z. TurnLeft d.apex d.v0 z) (sym y.1) all)))
 two_backs d p q r all h (inl x) (inr (inr y)) = not_same p q (subst (λ z. TurnLeft p q z) (x.0 ∙ sym y.1) h)
 two_backs d p q r all h (inr (inl x)) (inl y) = not_same p q (subst (λ z. TurnLeft p q z) (x.0 ∙ sym y.1) h)
 two_backs d p q r all h (inr (inl x)) (inr (inl y)) = not_last p q (subst (λ z. TurnLeft p q z) (x.0 ∙ sym y.0) h)
 two_backs d p q r all h (inr (inl x)) (inr (inr y)) =
     let turned : TurnLeft d.v0 d.v1 d.apex = omega arith in
-    not_backwards p q r h (subst (λ z. TurnLeft z q p) (sym x.0) (subst (λ z. TurnLeft d.v0 z p) (sym x.1) (subst (λ z. TurnLeft d.v0 d.v1 z) (sym y.1) turned)))
+    not_backwards p q r h (subst (λ z. TurnLeft z q p) (sym x.0)
+    (subst (λ z. TurnLeft d.v0 z p) (sym x.1) (subst (λ z. TurnLeft d.v0 d.v1 z) (sym y.1) turned)))
 two_backs d p q r all h (inr (inr x)) (inl y) =
     let turned : TurnLeft d.v1 d.apex d.v0 = omega arith in
-    not_backwards p q r h (subst (λ z. TurnLeft z q p) (sym x.0) (subst (λ z. TurnLeft d.v1 z p) (sym x.1) (subst (λ z. TurnLeft d.v1 d.apex z) (sym y.1) turned)))
+    not_backwards p q r h (subst (λ z. TurnLeft z q p) (sym x.0)
+    (subst (λ z. TurnLeft d.v1 z p) (sym x.1) (subst (λ z. TurnLeft d.v1 d.apex z) (sym y.1) turned)))
 two_backs d p q r all h (inr (inr x)) (inr (inl y)) = not_same p q (subst (λ z. TurnLeft p q z) (x.0 ∙ sym y.1) h)
 two_backs d p q r all h (inr (inr x)) (inr (inr y)) = not_last p q (subst (λ z. TurnLeft p q z) (x.0 ∙ sym y.0) h)
 
 -- so a triangle has not an edge of another one and the next backwards
 not_next_too : (e : Edge) (c d : Corners) → AllLeft c → AllLeft d → HasEdgeBack e c d → HasEdgeBack (next e) c d → ⊥
 not_next_too LeftLeg c d h all x y = two_backs d c.apex c.v0 c.v1 all h y x
-not_next_too Base c d h all x y = let turned : TurnLeft c.v0 c.v1 c.apex = omega arith in two_backs d c.v0 c.v1 c.apex all turned y x
-not_next_too RightLeg c d h all x y = let turned : TurnLeft c.v1 c.apex c.v0 = omega arith in two_backs d c.v1 c.apex c.v0 all turned y x
+not_next_too Base c d h all x y =
+    let turned : TurnLeft c.v0 c.v1 c.apex = omega arith in
+    two_backs d c.v0 c.v1 c.apex all turned y x
+not_next_too RightLeg c d h all x y =
+    let turned : TurnLeft c.v1 c.apex c.v0 = omega arith in
+    two_backs d c.v1 c.apex c.v0 all turned y x
 
 -- ---- turns
 
 module _ (n before t after : ℕ) (has : ℕ → Bool) (closed : IsClosed n has) (other : before ≢ after)
-    (in_before : Contains (leaves_of n has) before) (in_middle : Contains (leaves_of n has) t) (in_after : Contains (leaves_of n has) after) where
+    (in_before : Contains (leaves_of n has) before) (in_middle : Contains (leaves_of n has) t)
+    (in_after : Contains (leaves_of n has) after) where
   all_left : (a : ℕ) → Contains (leaves_of n has) a → AllLeft (corners_of n a)
-  all_left a listed = counterclockwise n a (All-contains (IsAddress n) (leaves_of n has) a (IsAddress-leaves_of n has) listed)
+  all_left a listed =
+      counterclockwise n a (All-contains (IsAddress n) (leaves_of n has) a (IsAddress-leaves_of n has) listed)
 
   -- by the edges of the two entries
-  not_both_by : (e f : Edge) → HasEdgeBack e (corners_of n t) (corners_of n before) → HasEdgeBack (last e) (corners_of n t) (corners_of n after) →
-      HasEdgeBack f (corners_of n t) (corners_of n before) → HasEdgeBack (next f) (corners_of n t) (corners_of n after) → ⊥
-  not_both_by LeftLeg LeftLeg h k i j = not_next_too Base (corners_of n t) (corners_of n after) (all_left t in_middle) (all_left after in_after) j k
-  not_both_by Base Base h k i j = not_next_too RightLeg (corners_of n t) (corners_of n after) (all_left t in_middle) (all_left after in_after) j k
-  not_both_by RightLeg RightLeg h k i j = not_next_too LeftLeg (corners_of n t) (corners_of n after) (all_left t in_middle) (all_left after in_after) j k
-  not_both_by LeftLeg Base h k i j = not_next_too LeftLeg (corners_of n t) (corners_of n before) (all_left t in_middle) (all_left before in_before) h i
-  not_both_by Base RightLeg h k i j = not_next_too Base (corners_of n t) (corners_of n before) (all_left t in_middle) (all_left before in_before) h i
-  not_both_by RightLeg LeftLeg h k i j = not_next_too RightLeg (corners_of n t) (corners_of n before) (all_left t in_middle) (all_left before in_before) h i
+  not_both_by : (e f : Edge) → HasEdgeBack e (corners_of n t) (corners_of n before) →
+      HasEdgeBack (last e) (corners_of n t) (corners_of n after) →
+      HasEdgeBack f (corners_of n t) (corners_of n before) →
+      HasEdgeBack (next f) (corners_of n t) (corners_of n after) → ⊥
+  not_both_by LeftLeg LeftLeg h k i j =
+      not_next_too Base (corners_of n t) (corners_of n after) (all_left t in_middle) (all_left after in_after) j k
+  not_both_by Base Base h k i j =
+      not_next_too RightLeg (corners_of n t) (corners_of n after) (all_left t in_middle) (all_left after in_after) j k
+  not_both_by RightLeg RightLeg h k i j =
+      not_next_too LeftLeg (corners_of n t) (corners_of n after) (all_left t in_middle) (all_left after in_after) j k
+  not_both_by LeftLeg Base h k i j =
+      not_next_too LeftLeg (corners_of n t) (corners_of n before) (all_left t in_middle) (all_left before in_before) h i
+  not_both_by Base RightLeg h k i j =
+      not_next_too Base (corners_of n t) (corners_of n before) (all_left t in_middle) (all_left before in_before) h i
+  not_both_by RightLeg LeftLeg h k i j = not_next_too RightLeg (corners_of n t) (corners_of n before)
+      (all_left t in_middle) (all_left before in_before) h i
   not_both_by LeftLeg RightLeg h k i j = not_back n before t after has LeftLeg closed in_before in_after other h j
   not_both_by Base LeftLeg h k i j = not_back n before t after has Base closed in_before in_after other h j
   not_both_by RightLeg Base h k i j = not_back n before t after has RightLeg closed in_before in_after other h j

@@ -1,5 +1,6 @@
 -- The strip has the leaves, each once.
-use Rattle.std.proofs.Common.{◌≡◌, ℕ, zero, suc, ◌+◌, ◌*◌, ◌≤◌, Bool, true, false, cond, eqb, List, [], ◌∷◌, ◌++◌, Contains, refl, sym, subst, arith, count_by, eq-eqb}
+use Rattle.std.proofs.Common.{◌≡◌, ℕ, zero, suc, ◌+◌, ◌*◌, ◌≤◌, Bool, true, false, cond, eqb, List, [], ◌∷◌, ◌++◌}
+use Rattle.std.proofs.Common.{Contains, refl, sym, subst, arith, count_by, eq-eqb}
 use Rattle.std.proofs.lemmas.Bool.{eqb-true}
 use Rattle.std.proofs.lemmas.List.Sums.{sum_by-append}
 use Rattle.mesh_defs.specs.ClosedSet.{leaves_under, leaves_of}
@@ -20,12 +21,16 @@ count_step : (member even : Bool) (test : ℕ → Bool) (left right first second
     ≡ count_by test (elim member as (λ _. List ℕ) [ true ↦ first ++ second | false ↦ a ∷ [] ])
 count_step false even test left right first second a e f = refl
 count_step true true test left right first second a e f =
-    let g : count_by test (left ++ right) ≡ count_by test left + count_by test right = sum_by-append (λ t. cond (test t) 1 0) left right in
-    let h : count_by test (first ++ second) ≡ count_by test first + count_by test second = sum_by-append (λ t. cond (test t) 1 0) first second in
+    let g : count_by test (left ++ right) ≡ count_by test left + count_by test right =
+    sum_by-append (λ t. cond (test t) 1 0) left right in
+    let h : count_by test (first ++ second) ≡ count_by test first + count_by test second =
+    sum_by-append (λ t. cond (test t) 1 0) first second in
     omega arith
 count_step true false test left right first second a e f =
-    let g : count_by test (right ++ left) ≡ count_by test right + count_by test left = sum_by-append (λ t. cond (test t) 1 0) right left in
-    let h : count_by test (first ++ second) ≡ count_by test first + count_by test second = sum_by-append (λ t. cond (test t) 1 0) first second in
+    let g : count_by test (right ++ left) ≡ count_by test right + count_by test left =
+    sum_by-append (λ t. cond (test t) 1 0) right left in
+    let h : count_by test (first ++ second) ≡ count_by test first + count_by test second =
+    sum_by-append (λ t. cond (test t) 1 0) first second in
     omega arith
 
 -- below each triangle as many entries of the strip pass a test as of the leaves
@@ -42,9 +47,11 @@ count-strip_under test has (suc levels) a =
 pub count-strip_of : (n : ℕ) (test has : ℕ → Bool) → count_by test (leaves_of n has) ≡ count_by test (strip_of n has)
 unfolding leaves_of strip_of
 count-strip_of n test has =
-    let g : count_by test (leaves_of n has) ≡ count_by test (leaves_under (2 * n) has 2) + count_by test (leaves_under (2 * n) has 3) =
+    let g : count_by test (leaves_of n has) ≡ count_by test (leaves_under (2 * n) has 2) + count_by test
+    (leaves_under (2 * n) has 3) =
     sum_by-append (λ t. cond (test t) 1 0) (leaves_under (2 * n) has 2) (leaves_under (2 * n) has 3) in
-    let h : count_by test (strip_of n has) ≡ count_by test (strip_under (2 * n) has 2) + count_by test (strip_under (2 * n) has 3) =
+    let h : count_by test (strip_of n has) ≡ count_by test (strip_under (2 * n) has 2) + count_by test
+    (strip_under (2 * n) has 3) =
     sum_by-append (λ t. cond (test t) 1 0) (strip_under (2 * n) has 2) (strip_under (2 * n) has 3) in
     let lower = count-strip_under test has (2 * n) 2 in let upper = count-strip_under test has (2 * n) 3 in
     omega arith
@@ -58,7 +65,8 @@ AreLeaves-strip_of n has = record { counts = λ a. count-strip_of n (λ t. eqb t
 -- an entry of the strip is a leaf
 pub leaf-strip_of : (n a : ℕ) (has : ℕ → Bool) → IsIn a (strip_of n has) → IsIn a (leaves_of n has)
 leaf-strip_of n a has h =
-    let some : 1 ≤ count_by (λ t. eqb t a) (strip_of n has) = count-some (λ t. eqb t a) a (strip_of n has) h (eq-eqb a a refl) in
+    let some : 1 ≤ count_by (λ t. eqb t a) (strip_of n has) =
+    count-some (λ t. eqb t a) a (strip_of n has) h (eq-eqb a a refl) in
     let same = count-strip_of n (λ t. eqb t a) has in
     let e = some-count (λ t. eqb t a) (leaves_of n has) (omega arith) in
     subst (λ z. IsIn z (leaves_of n has)) (eqb-true e.0 a e.2) e.1
@@ -76,7 +84,8 @@ once-leaf n a has h =
     let most = strip-once n has a in omega arith
 
 -- and all that stand in it are leaves
-pub once-strip_of : (n a : ℕ) (has : ℕ → Bool) → Contains (strip_of n has) a → count_by (λ t. eqb t a) (strip_of n has) ≡ 1
+pub once-strip_of : (n a : ℕ) (has : ℕ → Bool) → Contains (strip_of n has) a →
+    count_by (λ t. eqb t a) (strip_of n has) ≡ 1
 once-strip_of n a has h =
     let some : 1 ≤ count_by (λ t. eqb t a) (strip_of n has) =
     count-some (λ t. eqb t a) a (strip_of n has) (IsIn-contains a (strip_of n has) h) (eq-eqb a a refl) in

@@ -2,7 +2,8 @@
 -- leaf has a corner at the one end, with edges along the base and along the leg there, and so has its last
 -- leaf at the other end. The strips of the two children meet at the apex, where both have an edge along the
 -- leg that the children share.
-use Rattle.std.proofs.Common.{◌≡◌, ℕ, zero, suc, ◌+◌, ◌*◌, ◌%◌, ◌^◌, ◌<◌, ◌≤◌, ◌⊎◌, inl, inr, Bool, true, false, not, eqb, List, [], ◌∷◌, ◌++◌, Contains, refl, sym, subst, arith, ⊎_elim, pow_pos}
+use Rattle.std.proofs.Common.{◌≡◌, ℕ, zero, suc, ◌+◌, ◌*◌, ◌%◌, ◌^◌, ◌<◌, ◌≤◌, ◌⊎◌, inl, inr, Bool, true, false, not}
+use Rattle.std.proofs.Common.{eqb, List, [], ◌∷◌, ◌++◌, Contains, refl, sym, subst, arith, ⊎_elim, pow_pos}
 use Rattle.std.proofs.lemmas.Bool.{cases_lt, false≢true}
 use Rattle.mesh_defs.specs.declared.point.Point.{Point}
 use Rattle.mesh_defs.specs.declared.point.Corners.{Corners}
@@ -11,7 +12,10 @@ use Rattle.mesh_defs.specs.Tiling.{IsStrictlyBetween, IsConforming}
 use Rattle.mesh_defs.specs.ClosedSet.{IsClosed, leaves_of}
 use Rattle.bintree_laws.proofs.LevelLemmas.{level_of-left, level_of-right}
 use Rattle.bintree_laws.proofs.CornerLemmas.{corners_of-left, corners_of-right}
-use Rattle.tiling_laws.proofs.WayLemmas.{Way, north_west, south_east, point, IsRun, IsInside-between, IsStrictlyBetween-inside, IsRun-first_half, IsRun-second_half, IsInside-first_half, IsInside-second_half, IsInside-middle, IsStrictlyBetween-reversed}
+use Rattle.tiling_laws.proofs.WayLemmas.{Way, north_west, south_east, point, IsRun, IsInside-between}
+use Rattle.tiling_laws.proofs.WayLemmas.{IsStrictlyBetween-inside, IsRun-first_half, IsRun-second_half}
+use Rattle.tiling_laws.proofs.WayLemmas.{IsInside-first_half, IsInside-second_half, IsInside-middle}
+use Rattle.tiling_laws.proofs.WayLemmas.{IsStrictlyBetween-reversed}
 use Rattle.tiling_laws.proofs.TurnLemmas.{three, six, IsTurned, leg, IsRun-base, IsRun-right_leg, IsTurned-right}
 use Rattle.tiling_laws.proofs.DescentLemmas.{IsDown, IsDown-left, IsDown-right, IsDown-2, IsDown-3, forked_of}
 use Rattle.tiling_laws.proofs.ConformityLemmas.{IsConforming-leaves_of}
@@ -32,7 +36,8 @@ IsIn-last n first last xs (one a) = inl refl
 IsIn-last n first last xs (more a b z rest shares chain) = inr (IsIn-last n b z rest chain)
 
 -- a chain after a chain
-IsChain-append : (n a b c d : ℕ) (xs ys : List ℕ) → IsStripChain n a b xs → SharesEdge n b c → IsStripChain n c d ys → IsStripChain n a d (xs ++ ys)
+IsChain-append : (n a b c d : ℕ) (xs ys : List ℕ) → IsStripChain n a b xs → SharesEdge n b c → IsStripChain n c d ys →
+    IsStripChain n a d (xs ++ ys)
 IsChain-append n a b c d xs ys (one e) shares chain = more e c d ys shares chain
 IsChain-append n a b c d xs ys (more e f z rest next front) shares chain =
     more e f d (rest ++ ys) next (IsChain-append n f z c d rest ys front shares chain)
@@ -75,17 +80,20 @@ IsFolded-turned from to apex middle f = record {
 }
 
 -- a triangle that can be halved is folded so
-IsFolded-turn : (w : Way) (k : ℕ) (c : Corners) → 0 < k → IsTurned w (leg w k) c → IsFolded c.v0 c.v1 c.apex (midpoint c.v0 c.v1)
+IsFolded-turn : (w : Way) (k : ℕ) (c : Corners) → 0 < k → IsTurned w (leg w k) c →
+    IsFolded c.v0 c.v1 c.apex (midpoint c.v0 c.v1)
 IsFolded-turn w k c some t =
     let base = IsRun-base w k c t in
     let middle : Point = midpoint c.v0 c.v1 in
     let first = IsRun-first_half (three w) k c.v0 c.v1 base in
     let second = IsRun-second_half (three w) k c.v0 c.v1 base in
     record {
-      inside = IsStrictlyBetween-inside (three w) (2 * k) c.v0 c.v1 middle base (IsInside-middle (three w) k c.v0 middle some first);
+      inside = IsStrictlyBetween-inside (three w) (2 * k) c.v0 c.v1 middle base
+          (IsInside-middle (three w) k c.v0 middle some first);
       near_part = λ r b. IsStrictlyBetween-inside (three w) (2 * k) c.v0 c.v1 r base
           (IsInside-first_half (three w) k c.v0 r (IsInside-between (three w) k c.v0 middle r some first b));
-      far_part = λ r b. IsStrictlyBetween-reversed c.v0 c.v1 r (IsStrictlyBetween-inside (three w) (2 * k) c.v0 c.v1 r base
+      far_part =
+          λ r b. IsStrictlyBetween-reversed c.v0 c.v1 r (IsStrictlyBetween-inside (three w) (2 * k) c.v0 c.v1 r base
           (IsInside-second_half (three w) k c.v0 middle r first
           (IsInside-between (three w) k middle c.v1 r some second (IsStrictlyBetween-reversed c.v1 middle r b))));
       way = six (three w);
@@ -95,7 +103,8 @@ IsFolded-turn w k c some t =
     }
 
 IsFolded-down : (n levels a : ℕ) → IsDown n (suc levels) a →
-    IsFolded (corners_of n a).v0 (corners_of n a).v1 (corners_of n a).apex (midpoint (corners_of n a).v0 (corners_of n a).v1)
+    IsFolded (corners_of n a).v0 (corners_of n a).v1 (corners_of n a).apex
+    (midpoint (corners_of n a).v0 (corners_of n a).v1)
 IsFolded-down n levels a d = let f = forked_of n levels a d in IsFolded-turn f.0 f.1 (corners_of n a) f.2 f.3
 
 -- a strip crosses a triangle of even level from v0 to v1, one of odd level from v1 to v0
@@ -149,12 +158,14 @@ joined member even left right a = elim member as (λ _. List ℕ) [
 ]
 
 -- it has the entries of both
-IsIn-joined_left : (member even : Bool) (left right : List ℕ) (a e : ℕ) → member ≡ true → IsIn e left → IsIn e (joined member even left right a)
+IsIn-joined_left : (member even : Bool) (left right : List ℕ) (a e : ℕ) → member ≡ true → IsIn e left →
+    IsIn e (joined member even left right a)
 IsIn-joined_left true true left right a e is h = IsIn-append-left e left right h
 IsIn-joined_left true false left right a e is h = IsIn-append-right e right left h
 IsIn-joined_left false even left right a e is h = absurd (false≢true is)
 
-IsIn-joined_right : (member even : Bool) (left right : List ℕ) (a e : ℕ) → member ≡ true → IsIn e right → IsIn e (joined member even left right a)
+IsIn-joined_right : (member even : Bool) (left right : List ℕ) (a e : ℕ) → member ≡ true → IsIn e right →
+    IsIn e (joined member even left right a)
 IsIn-joined_right true true left right a e is h = IsIn-append-right e left right h
 IsIn-joined_right true false left right a e is h = IsIn-append-left e right left h
 IsIn-joined_right false even left right a e is h = absurd (false≢true is)
@@ -167,12 +178,15 @@ module _ (n : ℕ) (list : List ℕ) (conforming : IsConforming n list) where
   -- the strips of the children, one after the other
   Crosses-both : (out back : Bool) (from to apex middle : Point) (near far : List ℕ) → not out ≡ back →
       IsFolded from to apex middle → AreListed list (near ++ far) →
-      Crosses n back out from apex middle near → Crosses n back out apex to middle far → Crosses n out back from to apex (near ++ far)
+      Crosses n back out from apex middle near → Crosses n back out apex to middle far →
+      Crosses n out back from to apex (near ++ far)
   Crosses-both out back from to apex middle near far opposite f listed x y =
       let in_near : Contains list x.last =
-      Contains-in x.last list (listed x.last (IsIn-append-left x.last near far (IsIn-last n x.first x.last near x.chain))) in
+      Contains-in x.last list
+      (listed x.last (IsIn-append-left x.last near far (IsIn-last n x.first x.last near x.chain))) in
       let in_far : Contains list y.first =
-      Contains-in y.first list (listed y.first (IsIn-append-right y.first near far (IsIn-first n y.first y.last far y.chain))) in
+      Contains-in y.first list (listed y.first
+      (IsIn-append-right y.first near far (IsIn-first n y.first y.last far y.chain))) in
       let shared : SharesEdge n x.last y.first =
       SharesEdge-along n list conforming out x.last y.first f.way f.steps apex middle f.some f.run in_near in_far
       (subst (λ z. HasEdgeAlong n z x.last apex middle) (sym opposite) x.exit.leg) y.entry.leg in
@@ -185,14 +199,16 @@ module _ (n : ℕ) (list : List ℕ) (conforming : IsConforming n list) where
           leg = x.entry.base;
         };
         exit = record {
-          base = HasEdgeAlong-longer n back y.last to middle from (IsStrictlyBetween-reversed from to middle f.inside) f.far_part y.exit.leg;
+          base = HasEdgeAlong-longer n back y.last to middle from
+              (IsStrictlyBetween-reversed from to middle f.inside) f.far_part y.exit.leg;
           leg = y.exit.base;
         };
       }
 
   -- one step, whether a is a member or not, and at a level of either kind
   Crosses-step : (member even : Bool) (a : ℕ) (left right : List ℕ) →
-      IsFolded (corners_of n a).v0 (corners_of n a).v1 (corners_of n a).apex (midpoint (corners_of n a).v0 (corners_of n a).v1) →
+      IsFolded (corners_of n a).v0 (corners_of n a).v1 (corners_of n a).apex
+      (midpoint (corners_of n a).v0 (corners_of n a).v1) →
       AreListed list (joined member even left right a) →
       (member ≡ true → CrossesTriangle n (not even) (child 0 (corners_of n a)) left) →
       (member ≡ true → CrossesTriangle n (not even) (child 1 (corners_of n a)) right) →
@@ -207,7 +223,8 @@ module _ (n : ℕ) (list : List ℕ) (conforming : IsConforming n list) where
       (IsFolded-turned c.v0 c.v1 c.apex (midpoint c.v0 c.v1) f) listed (y refl) (x refl)
 
   -- the strip of each triangle crosses it
-  Crosses-strip_under : (has : ℕ → Bool) (levels a : ℕ) → IsDown n levels a → AreListed list (strip_under levels has a) →
+  Crosses-strip_under : (has : ℕ → Bool) (levels a : ℕ) → IsDown n levels a →
+      AreListed list (strip_under levels has a) →
       CrossesTriangle n (has_even_level a) (corners_of n a) (strip_under levels has a)
   Crosses-strip_under has zero a d listed = Crosses-one n (has_even_level a) a
   Crosses-strip_under has (suc levels) a d listed =
@@ -226,12 +243,14 @@ module _ (n : ℕ) (list : List ℕ) (conforming : IsConforming n list) where
 -- ---- the whole strip
 
 -- the strips of 2 and of 3 cross them along the falling diagonal, there and back
-Crosses-lower : (n : ℕ) (list : List ℕ) → IsConforming n list → (has : ℕ → Bool) → AreListed list (strip_under (2 * n) has 2) →
+Crosses-lower : (n : ℕ) (list : List ℕ) → IsConforming n list → (has : ℕ → Bool) →
+    AreListed list (strip_under (2 * n) has 2) →
     Crosses n true false (point (2 ^ n) 0) (point 0 (2 ^ n)) (point 0 0) (strip_under (2 * n) has 2)
 unfolding corners_of level_of
 Crosses-lower n list conforming has listed = Crosses-strip_under n list conforming has (2 * n) 2 (IsDown-2 n) listed
 
-Crosses-upper : (n : ℕ) (list : List ℕ) → IsConforming n list → (has : ℕ → Bool) → AreListed list (strip_under (2 * n) has 3) →
+Crosses-upper : (n : ℕ) (list : List ℕ) → IsConforming n list → (has : ℕ → Bool) →
+    AreListed list (strip_under (2 * n) has 3) →
     Crosses n true false (point 0 (2 ^ n)) (point (2 ^ n) 0) (point (2 ^ n) (2 ^ n)) (strip_under (2 * n) has 3)
 unfolding corners_of level_of
 Crosses-upper n list conforming has listed = Crosses-strip_under n list conforming has (2 * n) 3 (IsDown-3 n) listed
@@ -242,18 +261,22 @@ IsRing-both : (n : ℕ) (list : List ℕ) → IsConforming n list → (near far 
     Crosses n true false (point (2 ^ n) 0) (point 0 (2 ^ n)) apex near →
     Crosses n true false (point 0 (2 ^ n)) (point (2 ^ n) 0) other far → IsRing n (near ++ far)
 IsRing-both n list conforming near far listed apex other x y =
-    let in_near : (e : ℕ) → IsIn e near → Contains list e = λ e h. Contains-in e list (listed e (IsIn-append-left e near far h)) in
-    let in_far : (e : ℕ) → IsIn e far → Contains list e = λ e h. Contains-in e list (listed e (IsIn-append-right e near far h)) in
+    let in_near : (e : ℕ) → IsIn e near → Contains list e =
+    λ e h. Contains-in e list (listed e (IsIn-append-left e near far h)) in
+    let in_far : (e : ℕ) → IsIn e far → Contains list e =
+    λ e h. Contains-in e list (listed e (IsIn-append-right e near far h)) in
     let some : 0 < 2 ^ n = pow_pos n in
     record {
       first = x.first;
       last = y.last;
       chain = IsChain-append n x.first x.last y.first y.last near far x.chain
-          (SharesEdge-along n list conforming true x.last y.first south_east (2 ^ n) (point 0 (2 ^ n)) (point (2 ^ n) 0) some
+          (SharesEdge-along n list conforming true x.last y.first south_east (2 ^ n)
+          (point 0 (2 ^ n)) (point (2 ^ n) 0) some
           (omega arith, omega arith) (in_near x.last (IsIn-last n x.first x.last near x.chain))
           (in_far y.first (IsIn-first n y.first y.last far y.chain)) x.exit.base y.entry.base)
           y.chain;
-      closing = SharesEdge-along n list conforming true y.last x.first north_west (2 ^ n) (point (2 ^ n) 0) (point 0 (2 ^ n)) some
+      closing = SharesEdge-along n list conforming true y.last x.first north_west (2 ^ n)
+          (point (2 ^ n) 0) (point 0 (2 ^ n)) some
           (omega arith, omega arith) (in_far y.last (IsIn-last n y.first y.last far y.chain))
           (in_near x.first (IsIn-first n x.first x.last near x.chain)) y.exit.base x.entry.base;
     }

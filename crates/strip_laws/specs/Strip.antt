@@ -43,7 +43,8 @@ pub record SharesEdge (n a b : ℕ) : Type 0 where
 -- a list of triangles from the first to the last, of which each two neighbours share an edge
 pub data IsStripChain (n : ℕ) : ℕ → ℕ → List ℕ → Type 0 where
   one : (a : ℕ) → IsStripChain n a a (a ∷ [])
-  more : (a b last : ℕ) (rest : List ℕ) → SharesEdge n a b → IsStripChain n b last rest → IsStripChain n a last (a ∷ rest)
+  more : (a b last : ℕ) (rest : List ℕ) → SharesEdge n a b → IsStripChain n b last rest →
+      IsStripChain n a last (a ∷ rest)
 
 -- a chain whose last and first triangle share an edge, too
 pub record IsRing (n : ℕ) (triangles : List ℕ) : Type 0 where

@@ -10,7 +10,8 @@ HasTurns-none n order i d e =
     let second = drop_more order (i + 1) d (omega arith) in
     let rest : drop (i + 1 + 1) order ≡ [] = drop_all (i + 1 + 1) order (omega arith) in
     subst (λ (xs : List ℕ). HasTurns n xs 0 0)
-    (sym (first ∙ ap (λ (xs : List ℕ). get_or order i d ∷ xs) (second ∙ ap (λ (xs : List ℕ). get_or order (i + 1) d ∷ xs) rest)))
+    (sym (first ∙ ap (λ (xs : List ℕ). get_or order i d ∷ xs) (second
+    ∙ ap (λ (xs : List ℕ). get_or order (i + 1) d ∷ xs) rest)))
     (none (get_or order i d) (get_or order (i + 1) d))
 
 -- three in a row
@@ -42,8 +43,10 @@ pub HasTurns-left : (n : ℕ) (order : List ℕ) (i d lefts rights : ℕ) → i 
 HasTurns-left n order i d lefts rights h turn more =
     let tail = subst (λ (xs : List ℕ). HasTurns n xs lefts rights) (two_first order i d h) more in
     let e : suc lefts ≡ lefts + 1 = omega arith in
-    subst (λ k. HasTurns n (drop i order) k rights) e (subst (λ (xs : List ℕ). HasTurns n xs (suc lefts) rights) (sym (three_first order i d h))
-    (left (get_or order i d) (get_or order (i + 1) d) (get_or order (i + 2) d) (drop (i + 3) order) lefts rights turn tail))
+    subst (λ k. HasTurns n (drop i order) k rights) e
+    (subst (λ (xs : List ℕ). HasTurns n xs (suc lefts) rights) (sym (three_first order i d h))
+    (left (get_or order i d) (get_or order (i + 1) d) (get_or order (i + 2) d)
+    (drop (i + 3) order) lefts rights turn tail))
 
 -- a right turn more
 pub HasTurns-right : (n : ℕ) (order : List ℕ) (i d lefts rights : ℕ) → i + 2 < length order →
@@ -52,5 +55,7 @@ pub HasTurns-right : (n : ℕ) (order : List ℕ) (i d lefts rights : ℕ) → i
 HasTurns-right n order i d lefts rights h turn more =
     let tail = subst (λ (xs : List ℕ). HasTurns n xs lefts rights) (two_first order i d h) more in
     let e : suc rights ≡ rights + 1 = omega arith in
-    subst (λ k. HasTurns n (drop i order) lefts k) e (subst (λ (xs : List ℕ). HasTurns n xs lefts (suc rights)) (sym (three_first order i d h))
-    (right (get_or order i d) (get_or order (i + 1) d) (get_or order (i + 2) d) (drop (i + 3) order) lefts rights turn tail))
+    subst (λ k. HasTurns n (drop i order) lefts k) e
+    (subst (λ (xs : List ℕ). HasTurns n xs lefts (suc rights)) (sym (three_first order i d h))
+    (right (get_or order i d) (get_or order (i + 1) d) (get_or order (i + 2) d)
+    (drop (i + 3) order) lefts rights turn tail))

@@ -1,5 +1,6 @@
 -- A strip by the places of its triangles, as a loop goes over it.
-use Rattle.std.proofs.Common.{◌≡◌, ◌≢◌, ℕ, zero, suc, ◌+◌, ◌*◌, ◌^◌, ◌<◌, ◌≤◌, inl, inr, Bool, eqb, List, [], ◌∷◌, ◌++◌, length, get_or, Contains, refl, sym, subst, arith, count_by, length-append, eq-eqb}
+use Rattle.std.proofs.Common.{◌≡◌, ◌≢◌, ℕ, zero, suc, ◌+◌, ◌*◌, ◌^◌, ◌<◌, ◌≤◌, inl, inr, Bool, eqb, List, [], ◌∷◌, ◌++◌}
+use Rattle.std.proofs.Common.{length, get_or, Contains, refl, sym, subst, arith, count_by, length-append, eq-eqb}
 use Rattle.std.proofs.Math.Nat.{pow-le-pow_right}
 use Rattle.std.proofs.lemmas.List.Elements.{All-contains}
 use Rattle.mesh_defs.specs.Triangle.{level_of, IsAddress}
@@ -27,13 +28,16 @@ SharesEdge-at : (n first last : ℕ) (xs : List ℕ) (i d : ℕ) → IsStripChai
 SharesEdge-at n first last xs i d (one a) h = absurd (omega arith)
 SharesEdge-at n first last xs zero d (more a b z rest shares chain) h = first_of_rest n b z rest d a chain shares
   where
-    first_of_rest : (n b z : ℕ) (rest : List ℕ) (d a : ℕ) → IsStripChain n b z rest → SharesEdge n a b → SharesEdge n a (get_or rest 0 d)
+    first_of_rest : (n b z : ℕ) (rest : List ℕ) (d a : ℕ) → IsStripChain n b z rest → SharesEdge n a b →
+        SharesEdge n a (get_or rest 0 d)
     first_of_rest n b z rest d a (one e) shares = shares
     first_of_rest n b z rest d a (more e f y others next chain) shares = shares
-SharesEdge-at n first last xs (suc i) d (more a b z rest shares chain) h = SharesEdge-at n b z rest i d chain (omega arith)
+SharesEdge-at n first last xs (suc i) d (more a b z rest shares chain) h =
+    SharesEdge-at n b z rest i d chain (omega arith)
 
 -- each number at most once: entries at two places differ
-places_differ : (xs : List ℕ) (i j d : ℕ) → ((a : ℕ) → count_by (λ t. eqb t a) xs ≤ 1) → i < j → j < length xs → get_or xs i d ≢ get_or xs j d
+places_differ : (xs : List ℕ) (i j d : ℕ) → ((a : ℕ) → count_by (λ t. eqb t a) xs ≤ 1) → i < j → j < length xs →
+    get_or xs i d ≢ get_or xs j d
 places_differ [] i j d once less h = λ e. absurd (omega arith)
 places_differ (x ∷ xs) i zero d once less h = λ e. absurd (omega arith)
 places_differ (x ∷ xs) zero (suc j) d once less h = λ e.
@@ -42,11 +46,13 @@ places_differ (x ∷ xs) zero (suc j) d once less h = λ e.
     let some = count-some (λ t. eqb t x) x xs again (eq-eqb x x refl) in
     let most = once x in omega arith
 places_differ (x ∷ xs) (suc i) (suc j) d once less h =
-    places_differ xs i j d (λ a. let c = count-cons (λ t. eqb t a) x xs in let most = once a in omega arith) (omega arith) (omega arith)
+    places_differ xs i j d (λ a. let c = count-cons (λ t. eqb t a) x xs in let most = once a in omega arith)
+    (omega arith) (omega arith)
 
 -- ---- how many leaves
 
-few-leaves_of : (n : ℕ) (has : ℕ → Bool) → n ≤ 11 → (2 ≤ length (leaves_of n has)) × (length (leaves_of n has) ≤ 8388608)
+few-leaves_of : (n : ℕ) (has : ℕ → Bool) → n ≤ 11 →
+    (2 ≤ length (leaves_of n has)) × (length (leaves_of n has) ≤ 8388608)
 unfolding leaves_of
 few-leaves_of n has small =
     let x = leaves_under-some (2 * n) has 2 in
@@ -83,7 +89,8 @@ IsStrip-strip_of n has small closed =
       few = omega arith;
       listed = in_leaves;
       level = λ i d h. level-le n (get_or (strip_of n has) i d)
-          (All-contains (IsAddress n) (leaves_of n has) (get_or (strip_of n has) i d) (IsAddress-leaves_of n has) (in_leaves i d h));
+          (All-contains (IsAddress n) (leaves_of n has) (get_or (strip_of n has) i d)
+          (IsAddress-leaves_of n has) (in_leaves i d h));
       shared = λ i d h. let e : i + 1 ≡ suc i = omega arith in
           subst (λ k. SharesEdge n (get_or (strip_of n has) i d) (get_or (strip_of n has) k d)) (sym e)
           (SharesEdge-at n ring.first ring.last (strip_of n has) i d ring.chain (omega arith));
@@ -91,5 +98,7 @@ IsStrip-strip_of n has small closed =
     }
 
 -- the same of a list that is that strip
-pub IsStrip-order : (n : ℕ) (has : ℕ → Bool) (order : List ℕ) → n ≤ 11 → IsClosed n has → order ≡ strip_of n has → IsStrip n has order
-IsStrip-order n has order small closed is = subst (λ (xs : List ℕ). IsStrip n has xs) (sym is) (IsStrip-strip_of n has small closed)
+pub IsStrip-order : (n : ℕ) (has : ℕ → Bool) (order : List ℕ) → n ≤ 11 → IsClosed n has →
+    order ≡ strip_of n has → IsStrip n has order
+IsStrip-order n has order small closed is =
+    subst (λ (xs : List ℕ). IsStrip n has xs) (sym is) (IsStrip-strip_of n has small closed)

@@ -1,5 +1,7 @@
 -- What turning runs round does: the strips of the children, turned round, are the strip of the triangle.
-use Rattle.std.proofs.Common.{◌≡◌, ◌≢◌, ℕ, zero, suc, ◌+◌, ◌*◌, ◌<◌, ◌≤◌, ◌⊎◌, inl, inr, Bool, true, false, not, eqb, List, [], ◌∷◌, ◌++◌, length, reverse, take, drop, get_or, refl, sym, ◌∙◌, ap, ap₂, subst, arith, ⊎_elim, append_assoc, length-append}
+use Rattle.std.proofs.Common.{◌≡◌, ◌≢◌, ℕ, zero, suc, ◌+◌, ◌*◌, ◌<◌, ◌≤◌, ◌⊎◌, inl, inr, Bool, true, false, not, eqb}
+use Rattle.std.proofs.Common.{List, [], ◌∷◌, ◌++◌, length, reverse, take, drop, get_or, refl, sym, ◌∙◌, ap, ap₂, subst}
+use Rattle.std.proofs.Common.{arith, ⊎_elim, append_assoc, length-append}
 use Rattle.std.proofs.lemmas.Bool.{eqb-false}
 use Rattle.std.proofs.lemmas.List.{append-nil, reverse-append, reverse-reverse, length-reverse, take_at, drop_at}
 use Rattle.mesh_defs.specs.Triangle.{level_of}
@@ -40,7 +42,8 @@ turned_both true left right = rw (reverse-reverse left, reverse-reverse right) r
 turned_both false left right = reverse-append right left
 
 -- one step, whether a is a member or not
-cases_step : (member : Bool) (has : ℕ → Bool) (levels a : ℕ) → has a ≡ member → 2 ≤ a → IsSingle (suc levels) has a ⊎ IsForked levels has a
+cases_step : (member : Bool) (has : ℕ → Bool) (levels a : ℕ) → has a ≡ member → 2 ≤ a →
+    IsSingle (suc levels) has a ⊎ IsForked levels has a
 cases_step true has levels a is low =
     let left : List ℕ = strip_under levels has (2 * a) in
     let right : List ℕ = strip_under levels has (2 * a + 1) in
@@ -81,16 +84,19 @@ length-turned false strip = length-reverse strip
 length-facing : (has : ℕ → Bool) (levels a : ℕ) → length (facing levels has a) ≡ length (leaves_under levels has a)
 length-facing has levels a =
     length-turned (has_even_level a) (strip_under levels has a)
-    ∙ sym (length-counts (leaves_under levels has a) (strip_under levels has a) (λ e. count-strip_under (λ t. eqb t e) has levels a))
+    ∙ sym (length-counts (leaves_under levels has a) (strip_under levels has a)
+    (λ e. count-strip_under (λ t. eqb t e) has levels a))
 
 -- ---- the first leaf tells the case
 
 -- the first leaf is a or lies below it
-first-le : (has : ℕ → Bool) (levels a d : ℕ) (rest : List ℕ) → 2 ≤ a → a ≤ get_or (leaves_under levels has a ++ rest) 0 d
+first-le : (has : ℕ → Bool) (levels a d : ℕ) (rest : List ℕ) → 2 ≤ a →
+    a ≤ get_or (leaves_under levels has a ++ rest) 0 d
 first-le has zero a d rest low = omega arith
 first-le has (suc levels) a d rest low = ⊎_elim
     (λ single. rw single.leaves (omega arith))
-    (λ forked. rw (forked.leaves, append_assoc (leaves_under levels has (2 * a)) (leaves_under levels has (2 * a + 1)) rest)
+    (λ forked.
+    rw (forked.leaves, append_assoc (leaves_under levels has (2 * a)) (leaves_under levels has (2 * a + 1)) rest)
     (omega (arith, first-le has levels (2 * a) d (leaves_under levels has (2 * a + 1) ++ rest) (omega arith))))
     (cases_of has (suc levels) a low)
 
@@ -101,11 +107,13 @@ first-lt has levels a d rest run low forked e =
     let is : run ≡ leaves_under levels has (2 * a) ++ (leaves_under levels has (2 * a + 1) ++ rest) =
     e ∙ ap (λ (xs : List ℕ). xs ++ rest) forked.leaves
     ∙ append_assoc (leaves_under levels has (2 * a)) (leaves_under levels has (2 * a + 1)) rest in
-    let le : 2 * a ≤ get_or run 0 d = rw is (first-le has levels (2 * a) d (leaves_under levels has (2 * a + 1) ++ rest) (omega arith)) in
+    let le : 2 * a ≤ get_or run 0 d =
+    rw is (first-le has levels (2 * a) d (leaves_under levels has (2 * a + 1) ++ rest) (omega arith)) in
     omega arith
 
 -- so a run that begins with the leaves of a has an entry
-pub IsFront-some : (levels : ℕ) (has : ℕ → Bool) (a : ℕ) (rest run : List ℕ) → IsFront levels has a rest run → 0 < length run
+pub IsFront-some : (levels : ℕ) (has : ℕ → Bool) (a : ℕ) (rest run : List ℕ) →
+    IsFront levels has a rest run → 0 < length run
 IsFront-some levels has a rest run front =
     let some = leaves_under-some levels has a in
     let both = ap length front.is ∙ length-append (leaves_under levels has a) rest in omega arith
@@ -122,10 +130,13 @@ IsArranged-single has levels a rest run single e = record {
 
 pub IsArranged-leaf : (levels : ℕ) (has : ℕ → Bool) (a d : ℕ) (rest run : List ℕ) → a ≡ get_or run 0 d →
     IsFront levels has a rest run → IsArranged levels has a rest run 1
-IsArranged-leaf zero has a d rest run first front = IsArranged-single has zero a rest run (cases_of has zero a front.low) front.is
+IsArranged-leaf zero has a d rest run first front =
+    IsArranged-single has zero a rest run (cases_of has zero a front.low) front.is
 IsArranged-leaf (suc levels) has a d rest run first front = ⊎_elim
     (λ single. IsArranged-single has (suc levels) a rest run single front.is)
-    (λ forked. let below : a < get_or run 0 d = first-lt has levels a d rest run front.low forked front.is in absurd (omega arith))
+    (λ forked.
+    let below : a < get_or run 0 d = first-lt has levels a d rest run front.low forked front.is in
+    absurd (omega arith))
     (cases_of has (suc levels) a front.low)
 
 -- ---- where it begins with another leaf
@@ -141,7 +152,8 @@ pub IsParted-other : (levels : ℕ) (has : ℕ → Bool) (a d : ℕ) (rest run :
     IsFront levels has a rest run → IsParted levels has a rest run
 IsParted-other zero has a d rest run other front = absurd (other (sym (ap (λ (xs : List ℕ). get_or xs 0 d) front.is)))
 IsParted-other (suc levels) has a d rest run other front = ⊎_elim
-    (λ single. absurd (other (sym (ap (λ (xs : List ℕ). get_or xs 0 d) (front.is ∙ ap (λ (xs : List ℕ). xs ++ rest) single.leaves)))))
+    (λ single. absurd
+    (other (sym (ap (λ (xs : List ℕ). get_or xs 0 d) (front.is ∙ ap (λ (xs : List ℕ). xs ++ rest) single.leaves)))))
     (λ forked. record {
       below = levels;
       deeper = refl;
@@ -156,30 +168,37 @@ IsParted-other (suc levels) has a d rest run other front = ⊎_elim
     (cases_of has (suc levels) a front.low)
 
 -- the same from the test of the first leaf
-pub IsParted-unequal : (levels : ℕ) (has : ℕ → Bool) (a d : ℕ) (rest run : List ℕ) (equal : Bool) → equal ≡ eqb (get_or run 0 d) a →
+pub IsParted-unequal : (levels : ℕ) (has : ℕ → Bool) (a d : ℕ) (rest run : List ℕ) (equal : Bool) →
+    equal ≡ eqb (get_or run 0 d) a →
     equal ≡ false → IsFront levels has a rest run → IsParted levels has a rest run
 IsParted-unequal levels has a d rest run equal test is front =
     IsParted-other levels has a d rest run (λ e. eqb-false (get_or run 0 d) a (sym test ∙ is) (sym e)) front
 
 -- what a call promises of the triangle x, by another name
 pub IsArranged-same : (x a : ℕ) (run new : List ℕ) (count : ℕ) → x ≡ a →
-    ((levels : ℕ) (has : ℕ → Bool) (rest : List ℕ) → IsFront levels has x rest run → IsArranged levels has x rest new count) →
-    (levels : ℕ) (has : ℕ → Bool) (rest : List ℕ) → IsFront levels has a rest run → IsArranged levels has a rest new count
+    ((levels : ℕ) (has : ℕ → Bool) (rest : List ℕ) → IsFront levels has x rest run →
+    IsArranged levels has x rest new count) →
+    (levels : ℕ) (has : ℕ → Bool) (rest : List ℕ) → IsFront levels has a rest run →
+    IsArranged levels has a rest new count
 IsArranged-same x a run new count same call levels has rest front =
-    subst (λ z. IsArranged levels has z rest new count) same (call levels has rest (subst (λ z. IsFront levels has z rest run) (sym same) front))
+    subst (λ z. IsArranged levels has z rest new count) same
+    (call levels has rest (subst (λ z. IsFront levels has z rest run) (sym same) front))
 
 -- ---- a run after both steps
 
 -- the right child's leaves are next
-pub IsFront-right : (levels : ℕ) (has : ℕ → Bool) (a count : ℕ) (rest run back : List ℕ) → IsFront levels has a rest run →
-    (p : IsParted levels has a rest run) → (new : List ℕ) → IsArranged p.below has (2 * a) (leaves_under p.below has (2 * a + 1) ++ rest) new count →
+pub IsFront-right : (levels : ℕ) (has : ℕ → Bool) (a count : ℕ) (rest run back : List ℕ) →
+    IsFront levels has a rest run →
+    (p : IsParted levels has a rest run) → (new : List ℕ) →
+    IsArranged p.below has (2 * a) (leaves_under p.below has (2 * a + 1) ++ rest) new count →
     back ≡ drop count new → IsFront p.below has (2 * a + 1) rest back
 IsFront-right levels has a count rest run back front p new arranged e =
     let low = front.low in
     let deep = front.deep in
     let next = level_of-right a front.low in
     let deeper = p.deeper in
-    let counted : length (facing p.below has (2 * a)) ≡ count = length-facing has p.below (2 * a) ∙ sym arranged.counted in
+    let counted : length (facing p.below has (2 * a)) ≡ count =
+    length-facing has p.below (2 * a) ∙ sym arranged.counted in
     record {
       low = omega arith;
       deep = omega arith;
@@ -192,19 +211,22 @@ IsArranged-both : (levels : ℕ) (has : ℕ → Bool) (a : ℕ) (rest run : List
     (first second : List ℕ) (left right : ℕ) →
     IsArranged p.below has (2 * a) (leaves_under p.below has (2 * a + 1) ++ rest) first left →
     IsArranged p.below has (2 * a + 1) rest second right →
-    IsArranged levels has a rest (reverse (take left first) ++ (reverse (take right second) ++ drop right second)) (left + right)
+    IsArranged levels has a rest (reverse (take left first) ++ (reverse (take right second) ++ drop right second))
+    (left + right)
 IsArranged-both levels has a rest run p first second left right x y =
     let near : List ℕ = facing p.below has (2 * a) in
     let far : List ℕ = facing p.below has (2 * a + 1) in
     let near_count : length near ≡ left = length-facing has p.below (2 * a) ∙ sym x.counted in
     let far_count : length far ≡ right = length-facing has p.below (2 * a + 1) ∙ sym y.counted in
-    let a0 : take left first ≡ near = ap (take left) x.is ∙ take_at near (leaves_under p.below has (2 * a + 1) ++ rest) left near_count in
+    let a0 : take left first ≡ near =
+    ap (take left) x.is ∙ take_at near (leaves_under p.below has (2 * a + 1) ++ rest) left near_count in
     let a1 : take right second ≡ far = ap (take right) y.is ∙ take_at far rest right far_count in
     let a2 : drop right second ≡ rest = ap (drop right) y.is ∙ drop_at far rest right far_count in
     let count : length (leaves_under (suc p.below) has a) ≡ left + right =
     ap length p.forked.leaves ∙ length-append (leaves_under p.below has (2 * a)) (leaves_under p.below has (2 * a + 1))
     ∙ sym (ap₂ (λ i j. i + j) x.counted y.counted) in
-    subst (λ k. IsArranged k has a rest (reverse (take left first) ++ (reverse (take right second) ++ drop right second)) (left + right))
+    subst (λ k. IsArranged k has a rest
+    (reverse (take left first) ++ (reverse (take right second) ++ drop right second)) (left + right))
     (sym p.deeper)
     record {
       counted = sym count;
@@ -212,7 +234,8 @@ IsArranged-both levels has a rest run p first second left right x y =
     }
 
 -- as the code has the two parts of the run
-pub IsArranged-parts : (levels : ℕ) (has : ℕ → Bool) (a : ℕ) (rest run : List ℕ) → (p : IsParted levels has a rest run) →
+pub IsArranged-parts : (levels : ℕ) (has : ℕ → Bool) (a : ℕ) (rest run : List ℕ) →
+    (p : IsParted levels has a rest run) →
     (first second near far : List ℕ) (left right : ℕ) →
     IsArranged p.below has (2 * a) (leaves_under p.below has (2 * a + 1) ++ rest) first left →
     IsArranged p.below has (2 * a + 1) rest second right →
@@ -244,7 +267,8 @@ IsFront-lower n has leaves run of e = record {
 
 -- then come those of 3
 pub IsFront-upper : (n : ℕ) (has : ℕ → Bool) (leaves new back : List ℕ) (count : ℕ) → AreLeavesInOrder n has leaves →
-    IsArranged (2 * n) has 2 (leaves_under (2 * n) has 3) new count → back ≡ drop count new → IsFront (2 * n) has 3 [] back
+    IsArranged (2 * n) has 2 (leaves_under (2 * n) has 3) new count → back ≡ drop count new →
+    IsFront (2 * n) has 3 [] back
 unfolding level_of
 IsFront-upper n has leaves new back count of x e = record {
   low = omega arith;

@@ -19,6 +19,7 @@ pub ok-err : {A E : Type 0} (value : A) (fault : E) → ◌≡◌ {A = Result A 
 ok-err value fault e = cc
 
 -- what two clauses of a refusal say, taken together
-pub both-err : {A E : Type 0} (answer : Result A E) (P Q R : E → Type 0) → ((fault : E) → P fault → Q fault → R fault) → IfErr answer P → IfErr answer Q → IfErr answer R
+pub both-err : {A E : Type 0} (answer : Result A E) (P Q R : E → Type 0) → ((fault : E) → P fault → Q fault → R fault) →
+    IfErr answer P → IfErr answer Q → IfErr answer R
 both-err (Ok value) P Q R proof p q = tt
 both-err (Err fault) P Q R proof p q = proof fault p q

@@ -1,5 +1,6 @@
 -- Whitespace and its test.
-use Rattle.std.proofs.Common.{◌≡◌, ℕ, suc, ◌≤◌, true, false, List, [], ◌∷◌, ◌++◌, length, All, inl, inr, sym, ap, ◌∙◌, subst, arith, length-append}
+use Rattle.std.proofs.Common.{◌≡◌, ℕ, suc, ◌≤◌, true, false, List, [], ◌∷◌, ◌++◌, length, All, inl, inr, sym, ap, ◌∙◌}
+use Rattle.std.proofs.Common.{subst, arith, length-append}
 use Rattle.std.specs.Char.{is_ascii_digit}
 use Rattle.std.proofs.lemmas.Bool.Decides.{nat_tests}
 use Rattle.std.proofs.lemmas.List.Elements.{All-head}
@@ -43,14 +44,17 @@ pub digit-not_white : (byte : ℕ) → is_ascii_digit byte ≡ true → is_white
 digit-not_white byte h = digit-no_white byte (digit-yes byte h)
 
 -- a text that ends with a digit does not end with whitespace
-pub digits-no_white : (front text before : List ℕ) (space : ℕ) → All IsDigit text → 1 ≤ length text → IsWhite space → before ++ space ∷ [] ≡ front ++ text → ⊥
+pub digits-no_white : (front text before : List ℕ) (space : ℕ) → All IsDigit text → 1 ≤ length text → IsWhite space →
+    before ++ space ∷ [] ≡ front ++ text → ⊥
 digits-no_white [] text before space are some is whole =
-    let digit : IsDigit space = All-head IsDigit space [] (All-back IsDigit before (space ∷ []) (subst (All IsDigit) (sym whole) are)) in
+    let digit : IsDigit space =
+    All-head IsDigit space [] (All-back IsDigit before (space ∷ []) (subst (All IsDigit) (sym whole) are)) in
     let e : true ≡ false = sym (white-is space is) ∙ digit-no_white space digit in cc
 digits-no_white (byte ∷ front) text [] space are some is whole =
     let size : 1 ≡ suc (length (front ++ text)) = ap length whole in omega (arith, size, length-append front text)
 digits-no_white (byte ∷ front) text (other ∷ before) space are some is whole =
-    digits-no_white front text before space are some is (same-rest (before ++ space ∷ []) (front ++ text) other byte whole)
+    digits-no_white front text before space are some is
+    (same-rest (before ++ space ∷ []) (front ++ text) other byte whole)
   where
     same-rest : (xs ys : List ℕ) (x y : ℕ) → x ∷ xs ≡ y ∷ ys → xs ≡ ys
     same-rest xs ys x y e = cc

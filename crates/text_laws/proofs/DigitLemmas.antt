@@ -1,5 +1,6 @@
 -- Digits, their test, and the number that they are.
-use Rattle.std.proofs.Common.{◌≡◌, ℕ, ◌+◌, ◌-◌, ◌*◌, ◌/◌, ◌%◌, ◌^◌, ◌<◌, ◌≤◌, true, false, ◌==◌, List, [], ◌∷◌, ◌++◌, length, refl, ap, ◌∙◌, arith, lit<, add-one, ne_eqb}
+use Rattle.std.proofs.Common.{◌≡◌, ℕ, ◌+◌, ◌-◌, ◌*◌, ◌/◌, ◌%◌, ◌^◌, ◌<◌, ◌≤◌, true, false, ◌==◌, List, [], ◌∷◌, ◌++◌}
+use Rattle.std.proofs.Common.{length, refl, ap, ◌∙◌, arith, lit<, add-one, ne_eqb}
 use Rattle.std.specs.Char.{is_ascii_digit}
 use Rattle.std.specs.Fmt.{decimal}
 use Rattle.std.specs.List.{list_all}
@@ -15,8 +16,10 @@ use Rattle.text_laws.proofs.TestLemmas.{by_bool}
 pub value-push : (digits : List ℕ) (byte : ℕ) → value_of (digits ++ byte ∷ []) ≡ 10 * value_of digits + (byte - 48)
 value-push [] byte = omega arith
 value-push (digit ∷ digits) byte =
-    let power : 10 ^ length (digits ++ byte ∷ []) ≡ 10 * 10 ^ length digits = ap (λ (n : ℕ). 10 ^ n) (length_push digits byte ∙ add-one (length digits)) ∙ pow-succ' 10 (length digits) in
-    let first : (digit - 48) * 10 ^ length (digits ++ byte ∷ []) ≡ (digit - 48) * (10 * 10 ^ length digits) = ap (λ (n : ℕ). (digit - 48) * n) power in
+    let power : 10 ^ length (digits ++ byte ∷ []) ≡ 10 * 10 ^ length digits =
+    ap (λ (n : ℕ). 10 ^ n) (length_push digits byte ∙ add-one (length digits)) ∙ pow-succ' 10 (length digits) in
+    let first : (digit - 48) * 10 ^ length (digits ++ byte ∷ []) ≡ (digit - 48) * (10 * 10 ^ length digits) =
+    ap (λ (n : ℕ). (digit - 48) * n) power in
     omega (arith, first, value-push digits byte)
 
 -- a byte that passes the test is a digit
@@ -59,10 +62,12 @@ IsDecimal n digits = (list_all is_ascii_digit digits ≡ true) × (n ≡ value_o
 one_digit : (n : ℕ) → n < 10 → IsDecimal n ((48 + n) ∷ [])
 one_digit n small = (and_from (is_ascii_digit (48 + n)) true (digit-of n small) refl, omega arith)
 
-more_digits : (n : ℕ) (digits : List ℕ) → 10 ≤ n → IsDecimal (n / 10) digits → IsDecimal n (digits ++ (48 + n % 10) ∷ [])
+more_digits : (n : ℕ) (digits : List ℕ) → 10 ≤ n → IsDecimal (n / 10) digits →
+    IsDecimal n (digits ++ (48 + n % 10) ∷ [])
 more_digits n digits large d = (
   list_all-append is_ascii_digit digits ((48 + n % 10) ∷ [])
-      ∙ and_from (list_all is_ascii_digit digits) (list_all is_ascii_digit ((48 + n % 10) ∷ [])) d.0 (and_from (is_ascii_digit (48 + n % 10)) true (digit-of (n % 10) (omega arith)) refl),
+      ∙ and_from (list_all is_ascii_digit digits) (list_all is_ascii_digit ((48 + n % 10) ∷ [])) d.0
+      (and_from (is_ascii_digit (48 + n % 10)) true (digit-of (n % 10) (omega arith)) refl),
   omega (arith, d.1, value-push digits (48 + n % 10)),
 )
 

@@ -1,5 +1,6 @@
 -- Lists that are joined and cut.
-use Rattle.std.proofs.Common.{◌≡◌, ℕ, zero, suc, ◌+◌, ◌<◌, List, [], ◌∷◌, ◌++◌, length, take, drop, get_or, All, refl, sym, ap, ap₂, ◌∙◌, subst, arith, append_assoc, take-append-drop}
+use Rattle.std.proofs.Common.{◌≡◌, ℕ, zero, suc, ◌+◌, ◌<◌, List, [], ◌∷◌, ◌++◌, length, take, drop, get_or, All, refl}
+use Rattle.std.proofs.Common.{sym, ap, ap₂, ◌∙◌, subst, arith, append_assoc, take-append-drop}
 use Rattle.std.specs.List.{range_with_len}
 use Rattle.std.proofs.lemmas.List.{length_push, take_at, drop_at, take_more}
 use Rattle.std.proofs.lemmas.List.Elements.{All-take, All-drop}
@@ -10,8 +11,10 @@ use Rattle.std.proofs.lemmas.List.Elements.{All-take, All-drop}
 pub last-same : (a c : List ℕ) (x y : ℕ) → a ++ x ∷ [] ≡ c ++ y ∷ [] → (a ≡ c) × (x ≡ y)
 last-same a c x y e =
     let size : length c ≡ length a = omega (arith, ap length e, length_push a x, length_push c y) in
-    let before : a ≡ c = sym (take_at a (x ∷ []) (length a) refl) ∙ ap (take (length a)) e ∙ take_at c (y ∷ []) (length a) size in
-    let last : x ∷ [] ≡ y ∷ [] = sym (drop_at a (x ∷ []) (length a) refl) ∙ ap (drop (length a)) e ∙ drop_at c (y ∷ []) (length a) size in
+    let before : a ≡ c =
+    sym (take_at a (x ∷ []) (length a) refl) ∙ ap (take (length a)) e ∙ take_at c (y ∷ []) (length a) size in
+    let last : x ∷ [] ≡ y ∷ [] =
+    sym (drop_at a (x ∷ []) (length a) refl) ∙ ap (drop (length a)) e ∙ drop_at c (y ∷ []) (length a) size in
     (before, cc)
 
 -- what holds of each entry of a joined list holds of each of the first part
@@ -35,7 +38,8 @@ range-append a (suc b) c =
 
 -- a list and its two parts
 pub cut-parts : (xs front back : List ℕ) (n : ℕ) → front ≡ take n xs → back ≡ drop n xs → xs ≡ front ++ back
-cut-parts xs front back n f b = sym (take-append-drop n xs) ∙ ap₂ (λ (ys : List ℕ) (zs : List ℕ). ys ++ zs) (sym f) (sym b)
+cut-parts xs front back n f b =
+    sym (take-append-drop n xs) ∙ ap₂ (λ (ys : List ℕ) (zs : List ℕ). ys ++ zs) (sym f) (sym b)
 
 -- a list around the entry at a place
 pub cut-at : (xs : List ℕ) (i : ℕ) → i < length xs → xs ≡ take i xs ++ (get_or xs i 0 ∷ drop (i + 1) xs)

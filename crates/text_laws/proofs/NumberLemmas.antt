@@ -1,5 +1,7 @@
 -- Texts of numbers, and the numbers that they are.
-use Rattle.std.proofs.Common.{suc, negsuc, [], inl, inr, unsigned_abs, decimal, ◌≡◌, ◌≢◌, ◌↔◌, ℤ, pos, neg_ℤ, Option, Some, None, IsSome, IfSome, IsTrue, ◌∷◌, cond, ℕ, ◌^◌, ◌<◌, ◌≤◌, Bool, true, false, List, length, get_or, refl, sym, ◌∙◌, ap, subst, arith, rules, lit<, All}
+use Rattle.std.proofs.Common.{suc, negsuc, [], inl, inr, unsigned_abs, decimal, ◌≡◌, ◌≢◌, ◌↔◌, ℤ, pos, neg_ℤ, Option}
+use Rattle.std.proofs.Common.{Some, None, IsSome, IfSome, IsTrue, ◌∷◌, cond, ℕ, ◌^◌, ◌<◌, ◌≤◌, Bool, true, false, List}
+use Rattle.std.proofs.Common.{length, get_or, refl, sym, ◌∙◌, ap, subst, arith, rules, lit<, All}
 use Rattle.std.specs.Str.{all_ascii_digits}
 use Rattle.std.specs.Char.{is_ascii_digit}
 use Rattle.std.specs.Bool.{Decides}
@@ -34,7 +36,8 @@ text-valid longest bs h =
       digits = (digits-decide bs).0 (grind arith);
     }
 
-valid-text : (longest : ℕ) (bs : List ℕ) → 1 ≤ length bs → length bs ≤ longest → all_ascii_digits bs ≡ true → is_dec_text longest bs ≡ true
+valid-text : (longest : ℕ) (bs : List ℕ) → 1 ≤ length bs → length bs ≤ longest → all_ascii_digits bs ≡ true →
+    is_dec_text longest bs ≡ true
 valid-text longest bs some short digits = grind arith
 
 -- an option that stands on a test has the value that stands there
@@ -48,7 +51,8 @@ unfolding number_in
 number-refused longest bs refused = grind arith
 
 -- the number that the code reads from a text of such a length
-pub number-read : (longest : ℕ) (bs : List ℕ) (result : Option ℕ) → length bs ≢ 0 → length bs ≤ longest → SomeIff result (IsTrue (all_ascii_digits bs)) (value_of bs) → result ≡ number_in longest bs
+pub number-read : (longest : ℕ) (bs : List ℕ) (result : Option ℕ) → length bs ≢ 0 → length bs ≤ longest →
+    SomeIff result (IsTrue (all_ascii_digits bs)) (value_of bs) → result ≡ number_in longest bs
 unfolding number_in
 number-read longest bs None some short h = number-refused longest bs (λ t. h (grind arith))
 number-read longest bs (Some v) some short h = rw (valid-text longest bs (omega arith) short h.0) (ap Some h.1)
@@ -72,7 +76,8 @@ unfolding number_in
 number-from longest bs h = rw (valid-text longest bs h.some h.short ((digits-decide bs).1 h.digits)) refl
 
 -- and back
-pub number-to : (longest : ℕ) (bs : List ℕ) (n : ℕ) → number_in longest bs ≡ Some n → IsDecText longest bs × (n ≡ value_of bs)
+pub number-to : (longest : ℕ) (bs : List ℕ) (n : ℕ) → number_in longest bs ≡ Some n →
+    IsDecText longest bs × (n ≡ value_of bs)
 number-to longest bs n h =
     let value = number-value longest bs in
     ((number-valid longest bs).0 (rw h refl), rw h at value)
@@ -119,9 +124,11 @@ digit-first bs h e = let first = All-get_or IsDigit bs 0 0 h.some h.digits in om
 
 signed-from : (bs : List ℕ) (v : ℤ) → IsSignedTextOf bs v → signed_in bs ≡ Some v
 signed-from bs v (inl h) =
-    signed-plain bs (digit-first bs h.valid) ∙ ap (option_map (λ n. pos n)) (number-from 18 bs h.valid) ∙ ap Some (sym h.value)
+    signed-plain bs (digit-first bs h.valid)
+    ∙ ap (option_map (λ n. pos n)) (number-from 18 bs h.valid) ∙ ap Some (sym h.value)
 signed-from bs v (inr h) =
-    ap signed_in h.text ∙ signed-minus h.digits ∙ ap (option_map (λ n. neg_ℤ (pos n))) (number-from 18 h.digits h.valid) ∙ ap Some (sym h.value)
+    ap signed_in h.text ∙ signed-minus h.digits
+    ∙ ap (option_map (λ n. neg_ℤ (pos n))) (number-from 18 h.digits h.valid) ∙ ap Some (sym h.value)
 
 -- a number of which a text is one is that of each such
 pub one-number : (bs : List ℕ) (v w : ℤ) → IsSignedTextOf bs v → IsSignedTextOf bs w → v ≡ w
@@ -137,9 +144,11 @@ decimal-text longest n positive small fits =
     }
 
 -- the number that these digits are is that of which they are the text
-pub decimal-back : (longest n : ℕ) → 0 < longest → n < 10 ^ longest → n < 2 ^ 64 → number_in longest (decimal n) ≡ Some n
+pub decimal-back : (longest n : ℕ) → 0 < longest → n < 10 ^ longest → n < 2 ^ 64 →
+    number_in longest (decimal n) ≡ Some n
 decimal-back longest n positive small fits =
-    number-from longest (decimal n) (decimal-text longest n positive small fits) ∙ ap Some (digits_value-decimal numerals n fits)
+    number-from longest (decimal n) (decimal-text longest n positive small fits)
+    ∙ ap Some (digits_value-decimal numerals n fits)
 
 -- the same of a signed number
 pub signed-back : (v : ℤ) → unsigned_abs v < 10 ^ 18 → signed_in (signed_decimal v) ≡ Some v
@@ -147,8 +156,10 @@ signed-back (pos n) small =
     signed-plain (decimal n) (digit-first (decimal n) (decimal-text 18 n (lit< tt) small (omega arith)))
     ∙ ap (option_map (λ k. pos k)) (decimal-back 18 n (lit< tt) small (omega arith))
 signed-back (negsuc n) small =
-    signed-minus (decimal (suc n)) ∙ ap (option_map (λ k. neg_ℤ (pos k))) (decimal-back 18 (suc n) (lit< tt) small (omega arith))
+    signed-minus (decimal (suc n))
+    ∙ ap (option_map (λ k. neg_ℤ (pos k))) (decimal-back 18 (suc n) (lit< tt) small (omega arith))
 
 -- what is answered is the number of which the bytes are a text
-pub reads-as : (bs : List ℕ) (result : Option ℤ) → result ≡ signed_in bs → (v : ℤ) → (result ≡ Some v) ↔ IsSignedTextOf bs v
+pub reads-as : (bs : List ℕ) (result : Option ℤ) → result ≡ signed_in bs → (v : ℤ) →
+    (result ≡ Some v) ↔ IsSignedTextOf bs v
 reads-as bs result same v = ((λ h. signed-to bs v (sym same ∙ h)), (λ h. same ∙ signed-from bs v h))

@@ -1,6 +1,7 @@
 -- The fields of a line, as the lines of a script and of a certificate are cut. This project's own format.
 -- Words: without_last_cr, is_gap, begins_with_gap, fields_of, IsCutInto.
-use Rattle.std.specs.Prelude.{◌≡◌, ℕ, ◌-◌, Bool, true, false, ◌==◌, ◌||◌, if◌then◌else◌, List, [], ◌∷◌, ◌++◌, length, take, slice_index}
+use Rattle.std.specs.Prelude.{◌≡◌, ℕ, ◌-◌, Bool, true, false, ◌==◌, ◌||◌, if◌then◌else◌, List, [], ◌∷◌, ◌++◌, length}
+use Rattle.std.specs.Prelude.{take, slice_index}
 use Rattle.std.specs.List.{All, onto_first}
 
 -- a line without the CR (13) that is its last byte
@@ -26,7 +27,11 @@ fields_of (byte ∷ bytes) =
 -- the bytes are these fields, runs of other bytes with separating bytes before, between and behind them
 pub data IsCutInto : List ℕ → List (List ℕ) → Type 0 where
   NoField : IsCutInto [] []
-  Gap : (byte : ℕ) (bytes : List ℕ) (fields : List (List ℕ)) (gap : is_gap byte ≡ true) (more : IsCutInto bytes fields) → IsCutInto (byte ∷ bytes) fields
-  LastField : (byte : ℕ) (run : List ℕ) (other : is_gap byte ≡ false) (others : All (λ b. is_gap b ≡ false) run) → IsCutInto (byte ∷ run) ((byte ∷ run) ∷ [])
-  Field : (byte : ℕ) (run : List ℕ) (behind : ℕ) (bytes : List ℕ) (fields : List (List ℕ)) (other : is_gap byte ≡ false) (others : All (λ b. is_gap b ≡ false) run)
-      (gap : is_gap behind ≡ true) (more : IsCutInto bytes fields) → IsCutInto (byte ∷ (run ++ behind ∷ bytes)) ((byte ∷ run) ∷ fields)
+  Gap : (byte : ℕ) (bytes : List ℕ) (fields : List (List ℕ)) (gap : is_gap byte ≡ true)
+      (more : IsCutInto bytes fields) → IsCutInto (byte ∷ bytes) fields
+  LastField : (byte : ℕ) (run : List ℕ) (other : is_gap byte ≡ false) (others : All (λ b. is_gap b ≡ false) run) →
+      IsCutInto (byte ∷ run) ((byte ∷ run) ∷ [])
+  Field : (byte : ℕ) (run : List ℕ) (behind : ℕ) (bytes : List ℕ) (fields : List (List ℕ)) (other : is_gap byte ≡ false)
+      (others : All (λ b. is_gap b ≡ false) run)
+      (gap : is_gap behind ≡ true) (more : IsCutInto bytes fields) →
+      IsCutInto (byte ∷ (run ++ behind ∷ bytes)) ((byte ∷ run) ∷ fields)

@@ -2,7 +2,8 @@
 -- this project's own: which lengths are accepted, and one optional `-`.
 --
 -- Words: IsDecText, is_dec_text, number_in, IsPlainText, IsMinusText, IsSignedTextOf, signed_in.
-use Rattle.std.specs.Prelude.{◌≡◌, ℕ, ◌≤◌, Bool, ◌&&◌, ◌==◌, if◌then◌else◌, List, [], ◌∷◌, length, All, ◌⊎◌, Option, Some, None, ℤ, pos, neg_ℤ, nat_le}
+use Rattle.std.specs.Prelude.{◌≡◌, ℕ, ◌≤◌, Bool, ◌&&◌, ◌==◌, if◌then◌else◌, List, [], ◌∷◌, length, All, ◌⊎◌, Option}
+use Rattle.std.specs.Prelude.{Some, None, ℤ, pos, neg_ℤ, nat_le}
 use Rattle.std.specs.Option.{option_map}
 use Rattle.std.specs.Str.{all_ascii_digits}
 use Rattle.text_laws.specs.Digits.{IsDigit, value_of}
@@ -41,4 +42,5 @@ IsSignedTextOf bytes v = IsPlainText bytes v ⊎ IsMinusText bytes v
 unfoldable pub signed_in : List ℕ → Option ℤ
 signed_in [] = None
 signed_in (first ∷ rest) =
-    if first == 45 then option_map (λ n. neg_ℤ (pos n)) (number_in 18 rest) else option_map (λ n. pos n) (number_in 18 (first ∷ rest))
+    if first == 45 then option_map (λ n. neg_ℤ (pos n)) (number_in 18 rest)
+    else option_map (λ n. pos n) (number_in 18 (first ∷ rest))

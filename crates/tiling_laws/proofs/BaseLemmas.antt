@@ -1,6 +1,7 @@
 -- The two base triangles tile the square: a sample lies strictly inside 2 below the falling diagonal, and
 -- strictly inside 3 above it.
-use Rattle.std.proofs.Common.{◌≡◌, ℕ, zero, suc, ◌+◌, ◌*◌, ◌%◌, ◌^◌, ◌<◌, ◌≤◌, inl, inr, [], ◌∷◌, true, ap, arith, ⊎_elim, pow_pos, mul-le-mul_left}
+use Rattle.std.proofs.Common.{◌≡◌, ℕ, zero, suc, ◌+◌, ◌*◌, ◌%◌, ◌^◌, ◌<◌, ◌≤◌, inl, inr, [], ◌∷◌, true, ap, arith}
+use Rattle.std.proofs.Common.{⊎_elim, pow_pos, mul-le-mul_left}
 use Rattle.std.proofs.lemmas.Bool.{cases_lt}
 use Rattle.mesh_defs.specs.Triangle.{level_of, base_triangle, corners_of}
 use Rattle.mesh_defs.specs.Tiling.{IsSample, is_inside, Tiles}

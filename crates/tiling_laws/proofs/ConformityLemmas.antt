@@ -1,19 +1,24 @@
 -- The leaves of a closed set are conforming: a grid point inside an edge of a leaf would be the midpoint of a
 -- base at or below it, and a corner of a leaf is a corner of the square or the midpoint of a member's base.
-use Rattle.std.proofs.Common.{◌≡◌, ℕ, zero, suc, ◌+◌, ◌*◌, ◌/◌, ◌^◌, ◌<◌, ◌≤◌, ◌⊎◌, inl, inr, Bool, true, false, All, IsTrue, refl, sym, ◌∙◌, ap, subst, arith, ⊎_elim}
+use Rattle.std.proofs.Common.{◌≡◌, ℕ, zero, suc, ◌+◌, ◌*◌, ◌/◌, ◌^◌, ◌<◌, ◌≤◌, ◌⊎◌, inl, inr, Bool, true, false, All}
+use Rattle.std.proofs.Common.{IsTrue, refl, sym, ◌∙◌, ap, subst, arith, ⊎_elim}
 use Rattle.std.proofs.lemmas.Bool.{both_ways}
 use Rattle.std.proofs.lemmas.List.Elements.{All-contains, All-weaker}
 use Rattle.mesh_defs.specs.declared.point.Point.{Point}
 use Rattle.mesh_defs.specs.declared.point.Corners.{Corners}
-use Rattle.mesh_defs.specs.Triangle.{level_of, base_triangle, IsAddress, IsSplittable, midpoint, child, corners_of, IsCorner, IsEdge}
+use Rattle.mesh_defs.specs.Triangle.{level_of, base_triangle, IsAddress, IsSplittable, midpoint, child, corners_of}
+use Rattle.mesh_defs.specs.Triangle.{IsCorner, IsEdge}
 use Rattle.mesh_defs.specs.Tiling.{IsBetween, IsStrictlyBetween, IsConforming}
 use Rattle.mesh_defs.specs.ClosedSet.{IsClosed, leaves_of}
 use Rattle.bintree_laws.specs.Corners.{IsWithin}
 use Rattle.bintree_laws.proofs.CornerLemmas.{corners_of-left, corners_of-right, IsWithin-corners_of}
 use Rattle.bintree_laws.proofs.CentreLemmas.{same_centre}
-use Rattle.tiling_laws.proofs.WayLemmas.{Way, IsInside-between, IsStrictlyBetween-inside, IsRun-first_half, IsRun-second_half, inside_halves, not_inside_one}
-use Rattle.tiling_laws.proofs.TurnLemmas.{IsTurned, leg, IsAxis, three, six, IsRun-base, IsRun-short_base, IsRun-right_leg}
-use Rattle.tiling_laws.proofs.DescentLemmas.{IsDown, IsDown-left, IsDown-right, IsSplittable-down, IsAddress-down, forked_of, finest_of, All-leaves_of, Tiles-leaves_of}
+use Rattle.tiling_laws.proofs.WayLemmas.{Way, IsInside-between, IsStrictlyBetween-inside, IsRun-first_half}
+use Rattle.tiling_laws.proofs.WayLemmas.{IsRun-second_half, inside_halves, not_inside_one}
+use Rattle.tiling_laws.proofs.TurnLemmas.{IsTurned, leg, IsAxis, three, six, IsRun-base, IsRun-short_base}
+use Rattle.tiling_laws.proofs.TurnLemmas.{IsRun-right_leg}
+use Rattle.tiling_laws.proofs.DescentLemmas.{IsDown, IsDown-left, IsDown-right, IsSplittable-down, IsAddress-down}
+use Rattle.tiling_laws.proofs.DescentLemmas.{forked_of, finest_of, All-leaves_of, Tiles-leaves_of}
 
 -- at and below a triangle
 
@@ -35,7 +40,8 @@ IsUnder-left v x low u =
 -- and so does what lies below the right child
 pub IsUnder-right : (v x : ℕ) → 2 ≤ v → IsUnder (2 * v + 1) x → IsUnder v x
 IsUnder-right v x low u =
-    let half : (2 * v + 1) / 2 ≡ v = omega arith in subst (λ w. IsUnder w x) half (IsUnder-up (2 * v + 1) x (omega arith) u)
+    let half : (2 * v + 1) / 2 ≡ v = omega arith in
+    subst (λ w. IsUnder w x) half (IsUnder-up (2 * v + 1) x (omega arith) u)
 
 -- a set with each parent holds what lies above a member
 pub member_above : (has : ℕ → Bool) → ((a : ℕ) → IsTrue (has a) → 4 ≤ a → IsTrue (has (a / 2))) →
@@ -67,19 +73,25 @@ from_right : (n v : ℕ) (r : Point) → 2 ≤ v → HasCentre n (2 * v + 1) r �
 from_right n v r low h = (h.0, h.1, IsUnder-right v h.0 low h.2, h.3)
 
 -- a finest triangle has no grid point inside an edge
-not_inside_finest : (w : Way) (c : Corners) (p q r : Point) → IsAxis w → IsTurned w 1 c → IsEdge c p q → IsStrictlyBetween p q r → ⊥
+not_inside_finest : (w : Way) (c : Corners) (p q r : Point) → IsAxis w → IsTurned w 1 c → IsEdge c p q →
+    IsStrictlyBetween p q r → ⊥
 not_inside_finest w c p q r a t (inl e) b =
-    not_inside_one w c.apex r (IsInside-between w 1 c.apex c.v0 r (omega arith) t.0 (between_ends p q r c.apex c.v0 e.0 e.1 b))
+    not_inside_one w c.apex
+    r (IsInside-between w 1 c.apex c.v0 r (omega arith) t.0 (between_ends p q r c.apex c.v0 e.0 e.1 b))
 not_inside_finest w c p q r a t (inr (inl e)) b =
     not_inside_one (three w) c.v0 r
-    (IsInside-between (three w) 1 c.v0 c.v1 r (omega arith) (IsRun-short_base w 1 c a t) (between_ends p q r c.v0 c.v1 e.0 e.1 b))
+    (IsInside-between (three w) 1 c.v0 c.v1 r (omega arith) (IsRun-short_base w 1 c a t)
+    (between_ends p q r c.v0 c.v1 e.0 e.1 b))
 not_inside_finest w c p q r a t (inr (inr e)) b =
     not_inside_one (six w) c.v1 r
-    (IsInside-between (six w) 1 c.v1 c.apex r (omega arith) (IsRun-right_leg w 1 c t) (between_ends p q r c.v1 c.apex e.0 e.1 b))
+    (IsInside-between (six w) 1 c.v1 c.apex r (omega arith) (IsRun-right_leg w 1 c t)
+    (between_ends p q r c.v1 c.apex e.0 e.1 b))
 
 -- a point inside a base is its midpoint or inside one of its halves
-base_halves : (w : Way) (k : ℕ) (c : Corners) (r : Point) → 0 < k → IsTurned w (leg w k) c → IsStrictlyBetween c.v0 c.v1 r →
-    (midpoint c.v0 c.v1 ≡ r) ⊎ (IsStrictlyBetween c.v0 (midpoint c.v0 c.v1) r ⊎ IsStrictlyBetween (midpoint c.v0 c.v1) c.v1 r)
+base_halves : (w : Way) (k : ℕ) (c : Corners) (r : Point) → 0 < k → IsTurned w (leg w k) c →
+    IsStrictlyBetween c.v0 c.v1 r →
+    (midpoint c.v0 c.v1 ≡ r) ⊎ (IsStrictlyBetween c.v0 (midpoint c.v0 c.v1) r
+    ⊎ IsStrictlyBetween (midpoint c.v0 c.v1) c.v1 r)
 base_halves w k c r some t b =
     let base = IsRun-base w k c t in
     let first = IsRun-first_half (three w) k c.v0 c.v1 base in
@@ -94,7 +106,8 @@ base_halves w k c r some t b =
     (IsInside-between (three w) (2 * k) c.v0 c.v1 r (omega arith) base b))
 
 -- a grid point inside an edge is the midpoint of a base at or below the triangle
-pub point_on_edge : (n levels v : ℕ) (p q r : Point) → IsDown n levels v → IsEdge (corners_of n v) p q → IsStrictlyBetween p q r →
+pub point_on_edge : (n levels v : ℕ) (p q r : Point) → IsDown n levels v → IsEdge (corners_of n v) p q →
+    IsStrictlyBetween p q r →
     HasCentre n v r
 point_on_edge n zero v p q r d edge b =
     let f = finest_of n v d in absurd (not_inside_finest f.0 (corners_of n v) p q r f.1 f.2 edge b)
@@ -112,10 +125,12 @@ point_on_edge n (suc levels) v p q r d (inr (inl e)) b =
     (λ halves. ⊎_elim
     (λ i. from_left n v r d.low (point_on_edge n levels (2 * v) c.v0 (midpoint c.v0 c.v1) r (IsDown-left n levels v d)
     (subst (λ k. IsEdge k c.v0 (midpoint c.v0 c.v1)) (sym (corners_of-left n v d.low)) (inr (inr (refl, refl)))) i))
-    (λ i. from_right n v r d.low (point_on_edge n levels (2 * v + 1) (midpoint c.v0 c.v1) c.v1 r (IsDown-right n levels v d)
+    (λ i. from_right n v r d.low (point_on_edge n levels (2 * v + 1) (midpoint c.v0 c.v1) c.v1 r
+    (IsDown-right n levels v d)
     (subst (λ k. IsEdge k (midpoint c.v0 c.v1) c.v1) (sym (corners_of-right n v d.low)) (inl (refl, refl))) i))
     halves)
-    (base_halves f.0 f.1 (corners_of n v) r f.2 f.3 (between_ends p q r (corners_of n v).v0 (corners_of n v).v1 e.0 e.1 b))
+    (base_halves f.0 f.1 (corners_of n v) r f.2 f.3
+    (between_ends p q r (corners_of n v).v0 (corners_of n v).v1 e.0 e.1 b))
 
 -- corners
 
@@ -159,12 +174,19 @@ corner_of_right c p (inr (inl e)) = inr (inr (inr e))
 corner_of_right c p (inr (inr e)) = inr (inl e)
 
 -- the ends of an edge lie in the square
-ends_within : (m : ℕ) (c : Corners) (p q : Point) → IsWithin m c → IsEdge c p q → (p.x ≤ m) × (p.y ≤ m) × (q.x ≤ m) × (q.y ≤ m)
+ends_within : (m : ℕ) (c : Corners) (p q : Point) → IsWithin m c → IsEdge c p q →
+    (p.x ≤ m) × (p.y ≤ m) × (q.x ≤ m) × (q.y ≤ m)
 ends_within m c p q w e =
-    let ax = w.apex_x in let ay = w.apex_y in let px = w.v0_x in let py = w.v0_y in let qx = w.v1_x in let qy = w.v1_y in
+    let ax = w.apex_x in
+    let ay = w.apex_y in
+    let px = w.v0_x in
+    let py = w.v0_y in
+    let qx = w.v1_x in
+    let qy = w.v1_y in
     within_at e ax ay px py qx qy
   where
-    at : (s t : Point) → p ≡ s → q ≡ t → s.x ≤ m → s.y ≤ m → t.x ≤ m → t.y ≤ m → (p.x ≤ m) × (p.y ≤ m) × (q.x ≤ m) × (q.y ≤ m)
+    at : (s t : Point) → p ≡ s → q ≡ t → s.x ≤ m → s.y ≤ m → t.x ≤ m → t.y ≤ m →
+        (p.x ≤ m) × (p.y ≤ m) × (q.x ≤ m) × (q.y ≤ m)
     at s t f g sx sy tx ty =
         let fx = ap (λ (z : Point). z.x) f in let fy = ap (λ (z : Point). z.y) f in
         let gx = ap (λ (z : Point). z.x) g in let gy = ap (λ (z : Point). z.y) g in
@@ -184,7 +206,8 @@ not_end m i j k hi hj (inr e) (inl h) = omega arith
 not_end m i j k hi hj (inr e) (inr h) = omega arith
 
 -- so no corner of the square lies inside an edge
-pub corner_not_inside : (n v : ℕ) (p q r : Point) → IsEdge (corners_of n v) p q → IsStrictlyBetween p q r → IsSquareCorner (2 ^ n) r → ⊥
+pub corner_not_inside : (n v : ℕ) (p q r : Point) → IsEdge (corners_of n v) p q → IsStrictlyBetween p q r →
+    IsSquareCorner (2 ^ n) r → ⊥
 corner_not_inside n v p q r edge b corner =
     let w = ends_within (2 ^ n) (corners_of n v) p q (IsWithin-corners_of n v) edge in
     ⊎_elim
@@ -260,7 +283,8 @@ pub IsConforming-leaves_of : (n : ℕ) (has : ℕ → Bool) → IsClosed n has �
 IsConforming-leaves_of n has closed =
     let leaves : All (IsLeaf n has) (leaves_of n has) = IsLeaf-leaves_of n has in
     record {
-      addresses = All-weaker (IsLeaf n has) (IsAddress n) (λ a leaf. IsAddress-down n leaf.levels a leaf.down) (leaves_of n has) leaves;
+      addresses = All-weaker (IsLeaf n has) (IsAddress n) (λ a leaf. IsAddress-down n leaf.levels a leaf.down)
+          (leaves_of n has) leaves;
       tiles = Tiles-leaves_of n has;
       whole_edges = λ a b p q r in_a in_b. whole_edges n has closed a b p q r
           (All-contains (IsLeaf n has) (leaves_of n has) a leaves in_a)

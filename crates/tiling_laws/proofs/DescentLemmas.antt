@@ -1,5 +1,6 @@
 -- Down the bintree: levels and addresses below a triangle, samples in it, and what holds of leaves.
-use Rattle.std.proofs.Common.{◌≡◌, ℕ, zero, suc, ◌+◌, ◌-◌, ◌*◌, ◌^◌, ◌<◌, ◌≤◌, ◌⊎◌, inl, inr, Bool, true, false, cond, List, [], ◌∷◌, ◌++◌, All, refl, ◌∙◌, ap, append_assoc, arith, pow_mono, pow-add, count_by}
+use Rattle.std.proofs.Common.{◌≡◌, ℕ, zero, suc, ◌+◌, ◌-◌, ◌*◌, ◌^◌, ◌<◌, ◌≤◌, ◌⊎◌, inl, inr, Bool, true, false, cond}
+use Rattle.std.proofs.Common.{List, [], ◌∷◌, ◌++◌, All, refl, ◌∙◌, ap, append_assoc, arith, pow_mono, pow-add, count_by}
 use Rattle.std.proofs.lemmas.List.Elements.{All-cons, All-nil, All-append}
 use Rattle.std.proofs.lemmas.List.Sums.{sum_by-append}
 use Rattle.mesh_defs.specs.Triangle.{level_of, IsAddress, IsSplittable, child, corners_of}
@@ -10,7 +11,8 @@ use Rattle.tiling_laws.proofs.BaseLemmas.{base_tiles}
 use Rattle.bintree_laws.proofs.LevelLemmas.{level_of-left, level_of-right}
 use Rattle.bintree_laws.proofs.CornerLemmas.{corners_of-left, corners_of-right, IsWithin-corners_of}
 use Rattle.tiling_laws.proofs.WayLemmas.{Way}
-use Rattle.tiling_laws.proofs.TurnLemmas.{IsTurned, leg, IsAxis, IsPlaced, IsPlaced-at, forked-placed, finest-placed, one_child, IsOff-sample, some_sample}
+use Rattle.tiling_laws.proofs.TurnLemmas.{IsTurned, leg, IsAxis, IsPlaced, IsPlaced-at, forked-placed, finest-placed}
+use Rattle.tiling_laws.proofs.TurnLemmas.{one_child, IsOff-sample, some_sample}
 use Rattle.mesh_defs.proofs.ListLemmas.{one_if}
 
 -- levels
@@ -23,12 +25,18 @@ pub record IsDown (n levels a : ℕ) : Type 0 where
 -- the children have one level less below them
 pub IsDown-left : (n levels a : ℕ) → IsDown n (suc levels) a → IsDown n levels (2 * a)
 IsDown-left n levels a d =
-    let low : 2 ≤ a = d.low in let h = d.height in let l = level_of-left a low in record { low = omega arith; height = omega arith }
+    let low : 2 ≤ a = d.low in
+    let h = d.height in
+    let l = level_of-left a low in
+    record { low = omega arith; height = omega arith }
 
 -- the same for the right child
 pub IsDown-right : (n levels a : ℕ) → IsDown n (suc levels) a → IsDown n levels (2 * a + 1)
 IsDown-right n levels a d =
-    let low : 2 ≤ a = d.low in let h = d.height in let l = level_of-right a low in record { low = omega arith; height = omega arith }
+    let low : 2 ≤ a = d.low in
+    let h = d.height in
+    let l = level_of-right a low in
+    record { low = omega arith; height = omega arith }
 
 -- with levels below it a triangle is splittable
 pub IsSplittable-down : (n levels a : ℕ) → IsDown n (suc levels) a → IsSplittable n a
@@ -52,7 +60,9 @@ IsAddress-splittable n a s = let h = s.coarse in IsAddress-level n a s.low (omeg
 
 -- each address has its levels below it
 pub IsDown-address : (n a : ℕ) → IsAddress n a → IsDown n (2 * n - level_of a) a
-IsDown-address n a address = let fits : level_of a ≤ 2 * n = level-le n a address in record { low = address.low; height = omega arith }
+IsDown-address n a address =
+    let fits : level_of a ≤ 2 * n = level-le n a address in
+    record { low = address.low; height = omega arith }
 
 -- and a splittable one has a level more
 pub IsDown-splittable : (n a : ℕ) → IsSplittable n a → IsDown n (suc (2 * n - level_of a - 1)) a
@@ -173,7 +183,8 @@ All-leaves_of n has Q P down leaf lower upper =
 -- each leaf is an address of the grid
 pub IsAddress-leaves_of : (n : ℕ) (has : ℕ → Bool) → All (IsAddress n) (leaves_of n has)
 IsAddress-leaves_of n has =
-    All-leaves_of n has (λ a. Unit {0}) (IsAddress n) (λ levels a d member q. (tt, tt)) (λ levels a d ends q. IsAddress-down n levels a d) tt tt
+    All-leaves_of n has (λ a. Unit {0}) (IsAddress n) (λ levels a d member q. (tt, tt))
+    (λ levels a d ends q. IsAddress-down n levels a d) tt tt
 
 -- leaves tile
 
@@ -209,11 +220,13 @@ Tiles-leaves_of n has x y s =
     let lower = count-leaves_under n x y has s (2 * n) 2 (IsDown-2 n) in
     let upper = count-leaves_under n x y has s (2 * n) 3 (IsDown-3 n) in
     let one = one_base n x y s in
-    sum_by-append (λ t. cond (is_inside n x y t) 1 0) (leaves_under (2 * n) has 2) (leaves_under (2 * n) has 3) ∙ omega arith
+    sum_by-append (λ t. cond (is_inside n x y t) 1 0) (leaves_under (2 * n) has 2) (leaves_under (2 * n) has 3)
+    ∙ omega arith
 
 -- all leaves, after others
 pub append-leaves_of : (n : ℕ) (has : ℕ → Bool) (out first second : List ℕ) →
-    first ≡ out ++ leaves_under (2 * n) has 2 → second ≡ first ++ leaves_under (2 * n) has 3 → second ≡ out ++ leaves_of n has
+    first ≡ out ++ leaves_under (2 * n) has 2 → second ≡ first ++ leaves_under (2 * n) has 3 →
+    second ≡ out ++ leaves_of n has
 unfolding leaves_of
 append-leaves_of n has out first second f g =
     g ∙ ap (λ (x : List ℕ). x ++ leaves_under (2 * n) has 3) f

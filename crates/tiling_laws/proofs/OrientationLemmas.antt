@@ -32,7 +32,9 @@ apart-counterclockwise c turn = (
     flat : (px py qx qy rx ry : ℕ) → px ≡ qx → py ≡ qy → py * qx + qy * rx + ry * px < px * qy + qx * ry + rx * py → ⊥
     flat px py qx qy rx ry e f turn =
         let one : ry * px ≡ ry * qx = ap (λ k. ry * k) e in let two : rx * py ≡ rx * qy = ap (λ k. rx * k) f in
-        let three : py * qx ≡ qy * qx = ap (λ k. k * qx) f in let four : px * qy ≡ qx * qy = ap (λ k. k * qy) e in omega arith
+        let three : py * qx ≡ qy * qx = ap (λ k. k * qx) f in
+        let four : px * qy ≡ qx * qy = ap (λ k. k * qy) e in
+        omega arith
 
 -- the corners of each triangle of the grid are three points
 pub apart : (n a : ℕ) → IsAddress n a → AreApart (corners_of n a)

@@ -1,5 +1,6 @@
 -- Triangles by the way from the apex to v0: their edges, their children, and the samples strictly inside them.
-use Rattle.std.proofs.Common.{◌≡◌, ◌≢◌, ℕ, zero, suc, ◌+◌, ◌-◌, ◌*◌, ◌/◌, ◌%◌, ◌^◌, ◌<◌, ◌≤◌, ◌⊎◌, inl, inr, Bool, true, false, refl, subst, arith, ⊎_elim, pow_pos}
+use Rattle.std.proofs.Common.{◌≡◌, ◌≢◌, ℕ, zero, suc, ◌+◌, ◌-◌, ◌*◌, ◌/◌, ◌%◌, ◌^◌, ◌<◌, ◌≤◌, ◌⊎◌, inl, inr, Bool, true}
+use Rattle.std.proofs.Common.{false, refl, subst, arith, ⊎_elim, pow_pos}
 use Rattle.std.proofs.lemmas.Bool.{cases_lt, false≢true}
 use Rattle.mesh_defs.specs.declared.point.Point.{Point}
 use Rattle.mesh_defs.specs.declared.point.Corners.{Corners}
@@ -8,7 +9,9 @@ use Rattle.mesh_defs.specs.Tiling.{IsSample, is_within}
 use Rattle.bintree_laws.specs.Corners.{IsWithin}
 use Rattle.std.proofs.Math.Nat.{pow-succ'}
 use Rattle.mesh_defs.proofs.ListLemmas.{one_if}
-use Rattle.tiling_laws.proofs.WayLemmas.{Way, east, north_east, north, north_west, west, south_west, south, south_east, IsRun, sides, IsBeside, IsBeside-left, IsLeft-beside, IsBounded-from, IsBounded-to}
+use Rattle.tiling_laws.proofs.WayLemmas.{Way, east, north_east, north, north_west, west, south_west, south, south_east}
+use Rattle.tiling_laws.proofs.WayLemmas.{IsRun, sides, IsBeside, IsBeside-left, IsLeft-beside, IsBounded-from}
+use Rattle.tiling_laws.proofs.WayLemmas.{IsBounded-to}
 
 -- an eighth of a turn to the left
 abbrev pub eighth : Way → Way
@@ -76,7 +79,8 @@ IsRun-short_base south k c a t = (omega arith, omega arith)
 IsRun-short_base _ k c a t = absurd a
 
 -- some run is the base
-IsRun-some_base : (w : Way) (k : ℕ) (c : Corners) → 0 < k → IsTurned w k c → (j : ℕ) × (0 < j) × IsRun (three w) j c.v0 c.v1
+IsRun-some_base : (w : Way) (k : ℕ) (c : Corners) → 0 < k → IsTurned w k c →
+    (j : ℕ) × (0 < j) × IsRun (three w) j c.v0 c.v1
 IsRun-some_base east k c some t = (k, some, IsRun-short_base east k c tt t)
 IsRun-some_base north k c some t = (k, some, IsRun-short_base north k c tt t)
 IsRun-some_base west k c some t = (k, some, IsRun-short_base west k c tt t)
@@ -132,12 +136,14 @@ IsIn-left east k x y c t h = (omega arith, omega arith, omega arith)
 IsIn-left _ k x y c t h = (omega arith, omega arith, omega arith)
 
 -- and so is in the right child
-IsIn-right : (w : Way) (k x y : ℕ) (c : Corners) → IsTurned w (leg w k) c → IsIn (three w) x y (child 1 c) → IsIn w x y c
+IsIn-right : (w : Way) (k x y : ℕ) (c : Corners) → IsTurned w (leg w k) c →
+    IsIn (three w) x y (child 1 c) → IsIn w x y c
 IsIn-right east k x y c t h = (omega arith, omega arith, omega arith)
 IsIn-right _ k x y c t h = (omega arith, omega arith, omega arith)
 
 -- in no triangle's both children
-not_both : (w : Way) (k x y : ℕ) (c : Corners) → IsTurned w (leg w k) c → IsIn (five w) x y (child 0 c) → IsIn (three w) x y (child 1 c) → ⊥
+not_both : (w : Way) (k x y : ℕ) (c : Corners) → IsTurned w (leg w k) c → IsIn (five w) x y (child 0 c) →
+    IsIn (three w) x y (child 1 c) → ⊥
 not_both east k x y c t h i = omega arith
 not_both _ k x y c t h i = omega arith
 
@@ -200,8 +206,10 @@ abbrev pub IsForked : Way → ℕ → Corners → Type 0
 IsForked w half c = IsTurned w (leg w (2 ^ half)) c
 
 -- above the finest level
-forked : (w : Way) (half n level : ℕ) (c : Corners) → level < 2 * n → level + levels_below w half ≡ 2 * n → IsTurned w (2 ^ half) c →
-    (less : ℕ) × IsForked w less c × (suc level + levels_below (five w) less ≡ 2 * n) × (suc level + levels_below (three w) less ≡ 2 * n)
+forked : (w : Way) (half n level : ℕ) (c : Corners) → level < 2 * n → level + levels_below w half ≡ 2 * n →
+    IsTurned w (2 ^ half) c →
+    (less : ℕ) × IsForked w less c × (suc level + levels_below (five w) less ≡ 2 * n)
+    × (suc level + levels_below (three w) less ≡ 2 * n)
 forked north_east half n level c h e t = (half, t, omega arith, omega arith)
 forked north_west half n level c h e t = (half, t, omega arith, omega arith)
 forked south_west half n level c h e t = (half, t, omega arith, omega arith)
@@ -210,7 +218,8 @@ forked w zero n level c h e t = absurd (omega arith)
 forked w (suc half) n level c h e t = (half, subst (λ k. IsTurned w k c) (pow-succ' 2 half) t, omega arith, omega arith)
 
 -- at the finest level
-finest : (w : Way) (half n level : ℕ) (c : Corners) → level ≡ 2 * n → level + levels_below w half ≡ 2 * n → IsTurned w (2 ^ half) c →
+finest : (w : Way) (half n level : ℕ) (c : Corners) → level ≡ 2 * n → level + levels_below w half ≡ 2 * n →
+    IsTurned w (2 ^ half) c →
     IsAxis w × IsTurned w 1 c
 finest north_east half n level c h e t = absurd (omega arith)
 finest north_west half n level c h e t = absurd (omega arith)
@@ -225,7 +234,8 @@ IsPlaced-base n zero = (east, n, omega arith, ((omega arith, refl), (refl, omega
 IsPlaced-base n (suc _) = (west, n, omega arith, ((omega arith, refl), (refl, omega arith)))
 
 -- a child has the next level
-IsPlaced-child : (n level side : ℕ) (c : Corners) → level < 2 * n → IsPlaced n level c → IsPlaced n (suc level) (child side c)
+IsPlaced-child : (n level side : ℕ) (c : Corners) → level < 2 * n → IsPlaced n level c →
+    IsPlaced n (suc level) (child side c)
 IsPlaced-child n level zero c h p =
     let f = forked p.0 p.1 n level c h p.2 p.3 in
     (five p.0, f.0, f.2, IsTurned-left p.0 (2 ^ f.0) c f.1)
@@ -240,12 +250,14 @@ IsPlaced-at (suc level) n a h =
     IsPlaced-child n level (a % 2) (corners_at level (2 ^ n) (a / 2)) h (IsPlaced-at level n (a / 2) (omega arith))
 
 -- a triangle above the finest level can be halved
-pub forked-placed : (n level : ℕ) (c : Corners) → level < 2 * n → IsPlaced n level c → (w : Way) × (k : ℕ) × (0 < k) × IsTurned w (leg w k) c
+pub forked-placed : (n level : ℕ) (c : Corners) → level < 2 * n → IsPlaced n level c →
+    (w : Way) × (k : ℕ) × (0 < k) × IsTurned w (leg w k) c
 forked-placed n level c h p =
     let f = forked p.0 p.1 n level c h p.2 p.3 in (p.0, 2 ^ f.0, pow_pos f.0, f.1)
 
 -- a finest triangle is half of a grid square
-pub finest-placed : (n level : ℕ) (c : Corners) → level ≡ 2 * n → IsPlaced n level c → (w : Way) × IsAxis w × IsTurned w 1 c
+pub finest-placed : (n level : ℕ) (c : Corners) → level ≡ 2 * n → IsPlaced n level c →
+    (w : Way) × IsAxis w × IsTurned w 1 c
 finest-placed n level c h p =
     let f = finest p.0 p.1 n level c h p.2 p.3 in (p.0, f.0, f.1)
 
@@ -258,7 +270,8 @@ leg_some _ k h = omega arith
 
 -- what three tests count
 count_of : (whole left right : Bool) → (left ≡ true → whole ≡ true) → (right ≡ true → whole ≡ true) →
-    (left ≡ true → right ≡ true → ⊥) → (whole ≡ true → (left ≡ true) ⊎ (right ≡ true)) → one_if left + one_if right ≡ one_if whole
+    (left ≡ true → right ≡ true → ⊥) → (whole ≡ true → (left ≡ true) ⊎ (right ≡ true)) →
+    one_if left + one_if right ≡ one_if whole
 count_of true true true l r both some = absurd (both refl refl)
 count_of true true false l r both some = refl
 count_of true false true l r both some = refl
@@ -277,7 +290,8 @@ one_child w k x y c some off t =
     count_of (is_within x y c) (is_within x y (child 0 c)) (is_within x y (child 1 c))
     (λ h. test-IsIn w (leg w k) x y c more t (IsIn-left w k x y c t (IsIn-test (five w) k x y (child 0 c) some l h)))
     (λ h. test-IsIn w (leg w k) x y c more t (IsIn-right w k x y c t (IsIn-test (three w) k x y (child 1 c) some r h)))
-    (λ h i. not_both w k x y c t (IsIn-test (five w) k x y (child 0 c) some l h) (IsIn-test (three w) k x y (child 1 c) some r i))
+    (λ h i. not_both w k x y c t (IsIn-test (five w) k x y (child 0 c) some l h)
+    (IsIn-test (three w) k x y (child 1 c) some r i))
     (λ h. ⊎_elim
     (λ i. inl (test-IsIn (five w) k x y (child 0 c) some l i))
     (λ i. inr (test-IsIn (three w) k x y (child 1 c) some r i))

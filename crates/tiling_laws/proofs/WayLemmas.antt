@@ -1,6 +1,7 @@
 -- Runs of grid points: from a point so many steps in one of the eight ways. The edges of triangles are runs,
 -- and on a run each fact of lines and sides is linear.
-use Rattle.std.proofs.Common.{◌≡◌, ℕ, suc, ◌+◌, ◌*◌, ◌-◌, ◌<◌, ◌≤◌, ◌⊎◌, inl, inr, true, ◌&&◌, ap, subst, arith, ⊎_elim, ltb-true, lt-ltb, mul-le-mul_left}
+use Rattle.std.proofs.Common.{◌≡◌, ℕ, suc, ◌+◌, ◌*◌, ◌-◌, ◌<◌, ◌≤◌, ◌⊎◌, inl, inr, true, ◌&&◌, ap, subst, arith, ⊎_elim}
+use Rattle.std.proofs.Common.{ltb-true, lt-ltb, mul-le-mul_left}
 use Rattle.std.proofs.lemmas.Bool.{cases_lt, and_parts, and_from}
 use Rattle.mesh_defs.specs.declared.point.Point.{Point}
 use Rattle.mesh_defs.specs.declared.point.Corners.{Corners}
@@ -73,7 +74,8 @@ IsLeft x y p q = 4 * p.y * q.x + q.y * x + y * p.x < 4 * p.x * q.y + q.x * y + x
 -- The terms of that test differ by the two sides, k times. A clause with `_` in the place of the way stands for all
 -- ways that no clause above it names, and is checked for each.
 sides-scaled : (w : Way) (k x y : ℕ) (p q : Point) → IsRun w k p q →
-    4 * p.y * q.x + q.y * x + y * p.x + k * (sides w p x y).1 ≡ 4 * p.x * q.y + q.x * y + x * p.y + k * (sides w p x y).0
+    4 * p.y * q.x + q.y * x + y * p.x + k * (sides w p x y).1
+    ≡ 4 * p.x * q.y + q.x * y + x * p.y + k * (sides w p x y).0
 sides-scaled east k x y p q r =
     let f0 = ap (λ z. z * y) r.0 in let f1 = ap (λ z. z * p.y) r.0 in
     let f2 = ap (λ z. z * x) r.1 in let f3 = ap (λ z. z * p.x) r.1 in omega arith
@@ -125,7 +127,8 @@ sides-on_line w k p q r some run line =
     cancel k (sides w p (4 * r.x) (4 * r.y)).0 (sides w p (4 * r.x) (4 * r.y)).1 some (omega arith)
 
 -- strictly between the ends of a run is inside the run
-pub IsInside-between : (w : Way) (k : ℕ) (p q r : Point) → 0 < k → IsRun w k p q → IsStrictlyBetween p q r → IsInside w k p r
+pub IsInside-between : (w : Way) (k : ℕ) (p q r : Point) → 0 < k → IsRun w k p q →
+    IsStrictlyBetween p q r → IsInside w k p r
 IsInside-between w k p q r some run b = inside w k p q r run (sides-on_line w k p q r some run b.on_line) b.between
   where
     inside : (w : Way) (k : ℕ) (p q r : Point) → IsRun w k p q →
@@ -147,7 +150,8 @@ sides-run east j p r step = omega arith
 sides-run _ j p r step = omega arith
 
 -- and inside the run is strictly between its ends
-pub IsStrictlyBetween-inside : (w : Way) (k : ℕ) (p q r : Point) → IsRun w k p q → IsInside w k p r → IsStrictlyBetween p q r
+pub IsStrictlyBetween-inside : (w : Way) (k : ℕ) (p q r : Point) → IsRun w k p q →
+    IsInside w k p r → IsStrictlyBetween p q r
 IsStrictlyBetween-inside w k p q r run i =
     let e = sides-scaled w k (4 * r.x) (4 * r.y) p q run in
     let f = ap (λ z. k * z) (sides-run w i.0 p r i.3) in
@@ -190,7 +194,12 @@ inside_halves w k p m q r first second i = ⊎_elim
     (λ before. inr (inl (i.0, i.1, before, i.3)))
     (λ after. ⊎_elim
     (λ beyond. let rest : i.0 ≡ k + (i.0 - k) = omega arith in
-    inr (inr (i.0 - k, omega arith, (let h = i.2 in omega arith), IsRun-rest w k (i.0 - k) p m r first (subst (λ j. IsRun w j p r) rest i.3))))
+    inr (inr (
+      i.0 - k,
+      omega arith,
+      (let h = i.2 in omega arith),
+      IsRun-rest w k (i.0 - k) p m r first (subst (λ j. IsRun w j p r) rest i.3),
+    )))
     (λ upto. let same : i.0 ≡ k = omega arith in inl (IsRun-same w k p m r first (subst (λ j. IsRun w j p r) same i.3)))
     (cases_lt k i.0))
     (cases_lt i.0 k)

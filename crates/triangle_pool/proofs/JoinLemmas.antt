@@ -1,22 +1,26 @@
 -- Taking the children of a triangle away.
-use Rattle.std.proofs.Common.{◌≡◌, ◌≢◌, ap, sym, ◌∙◌, Bool, true, false, ℕ, ◌+◌, ◌*◌, ◌/◌, ◌%◌, ◌<◌, ◌≤◌, refl, arith, inl, inr, ⊎_elim, subst, List, length, get_or, set, get_or-set_other, get_or-set_same}
+use Rattle.std.proofs.Common.{◌≡◌, ◌≢◌, ap, sym, ◌∙◌, Bool, true, false, ℕ, ◌+◌, ◌*◌, ◌/◌, ◌%◌, ◌<◌, ◌≤◌, refl, arith}
+use Rattle.std.proofs.Common.{inl, inr, ⊎_elim, subst, List, length, get_or, set, get_or-set_other, get_or-set_same}
 use Rattle.std.proofs.lemmas.Bool.{cases_eq, cases_lt, true≢false}
 use Rattle.std.proofs.lemmas.List.{get_or_past}
 use Rattle.std.proofs.Math.ListN.{length-set}
 use Rattle.edge_laws.specs.Edge.{mate_of, owner}
 use Rattle.edge_laws.specs.Net.{IsTree, IsJoining}
-use Rattle.edge_laws.proofs.MateLemmas.{no_sibling, mate_of-root, mate_of-back, mate_of-level, mate_of-other, mate_of-no_child}
+use Rattle.edge_laws.proofs.MateLemmas.{no_sibling, mate_of-root, mate_of-back, mate_of-level, mate_of-other}
+use Rattle.edge_laws.proofs.MateLemmas.{mate_of-no_child}
 use Rattle.edge_laws.proofs.IsMateLemmas.{mate_of-IsMate}
 use Rattle.edge_laws.proofs.OwnerLemmas.{owner_cases, owner-same, owner-split}
 use Rattle.edge_laws.proofs.NetLemmas.{read_link, read_less, IsLinked-joining, IsTree-joining}
 use Rattle.mesh_defs.specs.Triangle.{level_of, IsSplittable, IsMate}
 use Rattle.mesh_defs.specs.ClosedSet.{IsClosed}
 use Rattle.bintree_laws.proofs.LevelLemmas.{level_of-below, level_of-parent}
-use Rattle.edge_laws.proofs.SlotLemmas.{has_children-set, set-has_children, slot_of, has_children-removed, has_children-left, has_children_by, set_kept, set_false, pair_in, child_at}
+use Rattle.edge_laws.proofs.SlotLemmas.{has_children-set, set-has_children, slot_of, has_children-removed}
+use Rattle.edge_laws.proofs.SlotLemmas.{has_children-left, has_children_by, set_kept, set_false, pair_in, child_at}
 use Rattle.triangle_pool.proofs.SplitLemmas.{whole_of}
 use Rattle.triangle_pool.specs.declared.forest.Node.{Node}
 use Rattle.edge_laws.specs.Slots.{address_at, has_children, split_set}
-use Rattle.triangle_pool.specs.Links.{node_at, edge_link, net_of, ArePairs, AreChildrenAt, IsForest, IsAcross, IsRelinked, MayJoin, IsLeafAgain, MayMerge}
+use Rattle.triangle_pool.specs.Links.{node_at, edge_link, net_of, ArePairs, AreChildrenAt, IsForest, IsAcross}
+use Rattle.triangle_pool.specs.Links.{IsRelinked, MayJoin, IsLeafAgain, MayMerge}
 use Rattle.triangle_pool.proofs.RelinkLemmas.{edge-base, edge-left, edge-right}
 use Rattle.triangle_pool.proofs.HalveLemmas.{tree_of, address-old, address-new}
 
@@ -28,9 +32,11 @@ pair_within pairs s k a h = let low = h.low in let is = h.pair in
 pair_once : (pairs : List ℕ) (i k a : ℕ) → ArePairs pairs → 2 ≤ a → get_or pairs i 0 ≡ a → get_or pairs k 0 ≡ a → i ≡ k
 pair_once pairs i k a h low at_i at_k =
     let hi : (2 * i) / 2 ≡ i = omega arith in let hk : (2 * k) / 2 ≡ k = omega arith in
-    let x : address_at pairs (2 * i) ≡ 2 * a = let z : get_or pairs ((2 * i) / 2) 0 ≡ a = ap (λ t. get_or pairs t 0) hi ∙ at_i in
+    let x : address_at pairs (2 * i) ≡ 2 * a =
+    let z : get_or pairs ((2 * i) / 2) 0 ≡ a = ap (λ t. get_or pairs t 0) hi ∙ at_i in
     omega arith in
-    let y : address_at pairs (2 * k) ≡ 2 * a = let z : get_or pairs ((2 * k) / 2) 0 ≡ a = ap (λ t. get_or pairs t 0) hk ∙ at_k in
+    let y : address_at pairs (2 * k) ≡ 2 * a =
+    let z : get_or pairs ((2 * k) / 2) 0 ≡ a = ap (λ t. get_or pairs t 0) hk ∙ at_k in
     omega arith in
     let same : 2 * i ≡ 2 * k = h.tree.once (2 * i) (2 * k) (omega arith) (x ∙ sym y) in omega arith
 
@@ -71,11 +77,14 @@ module _ (pairs : List ℕ) (n0 n1 n2 n3 : List Node) (s k a : ℕ) (h : ArePair
   -- and a keeps its slot
   s_apart : s / 2 ≢ k
   s_apart here = let low = bare.low in let is = bare.address in let left = was_left in let right = was_right in ⊎_elim
-      (λ even. let e : s ≡ 2 * k = omega arith in let z : address_at pairs s ≡ address_at pairs (2 * k) = ap (address_at pairs) e in
+      (λ even.
+      let e : s ≡ 2 * k = omega arith in
+      let z : address_at pairs s ≡ address_at pairs (2 * k) = ap (address_at pairs) e in
       omega arith)
       (λ odd.
       let e : s ≡ 2 * k + 1 = omega arith in
-      let z : address_at pairs s ≡ address_at pairs (2 * k + 1) = ap (address_at pairs) e in omega arith) (cases_lt (s % 2) 1)
+      let z : address_at pairs s ≡ address_at pairs (2 * k + 1) = ap (address_at pairs) e in
+      omega arith) (cases_lt (s % 2) 1)
 
   s_at : address_at rest s ≡ a
   s_at = address-old pairs k 0 s s_apart ∙ bare.address
@@ -84,7 +93,8 @@ module _ (pairs : List ℕ) (n0 n1 n2 n3 : List Node) (s k a : ℕ) (h : ArePair
   before : (r e : ℕ) → 2 ≤ address_at rest r → owner (has_children rest) e ≡ address_at rest r → e / 2 ≢ a →
       owner (has_children pairs) e ≡ address_at pairs r
   before r e live own apart =
-      owner-same (has_children pairs) (has_children rest) e (sym (kept (e / 2) apart)) ∙ own ∙ address-old pairs k 0 r (alive r live)
+      owner-same (has_children pairs) (has_children rest) e (sym (kept (e / 2) apart)) ∙ own
+      ∙ address-old pairs k 0 r (alive r live)
 
   -- and a's own node changes none of their links
   still : (r e : ℕ) → 2 ≤ address_at rest r → owner (has_children rest) e ≡ address_at rest r → e / 2 ≢ a →
@@ -103,11 +113,13 @@ module _ (pairs : List ℕ) (n0 n1 n2 n3 : List Node) (s k a : ℕ) (h : ArePair
             edge-base (node_at n3 r) (address_at rest r) e (omega arith) ∙ ap (λ t. (node_at n3 t).base) same
             ∙ ap (λ t. t.base) again.own ∙ ap (λ t. (node_at n2 t).base) (sym same)
             ∙ sym (edge-base (node_at n2 r) (address_at pairs r) e (omega arith))
-        | inr other ↦ ap (λ t. edge_link t (address_at rest r) e) (again.others r other) ∙ ap (λ t. edge_link (node_at n2 r) t e) at
+        | inr other ↦ ap (λ t. edge_link t (address_at rest r) e) (again.others r other)
+            ∙ ap (λ t. edge_link (node_at n2 r) t e) at
       ]
 
   -- an edge across a leg of a links to a
-  turned : (r e : ℕ) → 2 ≤ address_at rest r → owner (has_children rest) e ≡ address_at rest r → 1 ≤ mate_of e → mate_of e / 2 ≡ a →
+  turned : (r e : ℕ) → 2 ≤ address_at rest r → owner (has_children rest) e ≡ address_at rest r →
+      1 ≤ mate_of e → mate_of e / 2 ≡ a →
       edge_link (node_at n3 r) (address_at rest r) e ≡ s
   turned r e live own some turn =
       let low = bare.low in
@@ -117,7 +129,8 @@ module _ (pairs : List ℕ) (n0 n1 n2 n3 : List Node) (s k a : ℕ) (h : ArePair
         | inr v ↦ let o = v.1 in
             omega arith
       ] in
-      let e_four : 4 ≤ e = ⊎_elim (λ top. absurd (let z = mate_of-root e e_low top in omega arith)) (λ deep. deep) (cases_lt e 4) in
+      let e_four : 4 ≤ e =
+      ⊎_elim (λ top. absurd (let z = mate_of-root e e_low top in omega arith)) (λ deep. deep) (cases_lt e 4) in
       let apart : e / 2 ≢ a = λ w. no_sibling e e_four some (turn ∙ sym w) in
       let own_old = before r e live own apart in
       still r e live own apart ∙ ⊎_elim
@@ -128,7 +141,8 @@ module _ (pairs : List ℕ) (n0 n1 n2 n3 : List Node) (s k a : ℕ) (h : ArePair
       (cases_lt (mate_of e % 2) 1)
 
   -- and every other edge links to where it did
-  same : (r e : ℕ) → 2 ≤ address_at rest r → owner (has_children rest) e ≡ address_at rest r → e / 2 ≢ a → mate_of e / 2 ≢ a →
+  same : (r e : ℕ) → 2 ≤ address_at rest r → owner (has_children rest) e ≡ address_at rest r →
+      e / 2 ≢ a → mate_of e / 2 ≢ a →
       edge_link (node_at n3 r) (address_at rest r) e ≡ edge_link (node_at n0 r) (address_at pairs r) e
   same r e live own apart away =
       let keep : address_at rest r ≡ address_at pairs r = address-old pairs k 0 r (alive r live) in
@@ -151,18 +165,22 @@ module _ (pairs : List ℕ) (n0 n1 n2 n3 : List Node) (s k a : ℕ) (h : ArePair
         right = was_right;
         gone = λ r here. gone_low pairs k r within here;
         old = λ r apart. address-old pairs k 0 r apart;
-        removed = has_children-removed pairs k a within bare.pair (omega arith) (λ i e. pair_once pairs i k a h low e bare.pair);
+        removed = has_children-removed pairs k a within bare.pair (omega arith)
+            (λ i e. pair_once pairs i k a h low e bare.pair);
         kept = kept;
-        left_leg = edge-left (node_at n3 s) (address_at rest s) (2 * a) (λ w. omega arith) (omega arith) ∙ ap (λ t. t.left) again.own
+        left_leg = edge-left (node_at n3 s) (address_at rest s) (2 * a) (λ w. omega arith) (omega arith)
+            ∙ ap (λ t. t.left) again.own
             ∙ sym (edge-base (node_at n0 (2 * k)) (address_at pairs (2 * k)) (2 * a) (sym was_left));
-        right_leg = edge-right (node_at n3 s) (address_at rest s) (2 * a + 1) (λ w. omega arith) (omega arith) ∙ ap (λ t. t.right) again.own
+        right_leg = edge-right (node_at n3 s) (address_at rest s) (2 * a + 1) (λ w. omega arith) (omega arith)
+            ∙ ap (λ t. t.right) again.own
             ∙ sym (edge-base (node_at n0 (2 * k + 1)) (address_at pairs (2 * k + 1)) (2 * a + 1) (sym was_right));
         turned = turned;
         same = same;
       }
 
 -- A forest in which two leaves of one triangle were taken away is a forest.
-pub forest_joined : (pairs parents : List ℕ) (n0 n1 n2 n3 : List Node) (s k a : ℕ) → IsForest pairs parents n0 → MayJoin pairs s k a →
+pub forest_joined : (pairs parents : List ℕ) (n0 n1 n2 n3 : List Node) (s k a : ℕ) →
+    IsForest pairs parents n0 → MayJoin pairs s k a →
     IsRelinked pairs n0 n1 (2 * a) s → IsRelinked pairs n1 n2 (2 * a + 1) s →
     IsLeafAgain n2 n3 s (node_at n0 (2 * k)).base (node_at n0 (2 * k + 1)).base → length n3 ≡ length n0 →
     IsForest (set pairs k 0) parents n3
@@ -170,18 +188,22 @@ forest_joined pairs parents n0 n1 n2 n3 s k a f bare r1 r2 again same_count =
     let low = bare.low in
     let h : ArePairs pairs = f.sound in
     let within = pair_within pairs s k a bare in
-    let made : IsJoining (net_of pairs n0) (net_of (set pairs k 0) n3) s k a = joining pairs n0 n1 n2 n3 s k a h bare r1 r2 again in
-    let tree : IsTree (net_of (set pairs k 0) n3) = IsTree-joining (net_of pairs n0) (net_of (set pairs k 0) n3) s k a (tree_of pairs n0 h)
+    let made : IsJoining (net_of pairs n0) (net_of (set pairs k 0) n3) s k a =
+    joining pairs n0 n1 n2 n3 s k a h bare r1 r2 again in
+    let tree : IsTree (net_of (set pairs k 0) n3) =
+    IsTree-joining (net_of pairs n0) (net_of (set pairs k 0) n3) s k a (tree_of pairs n0 h)
     made in
     let count : length (set pairs k 0) ≡ length pairs = length-set pairs k 0 in
     let parent_count = f.parent_count in let node_count = f.node_count in let short = h.short in
-    let alive : (r : ℕ) → 2 ≤ address_at (set pairs k 0) r → r / 2 ≢ k = λ r live here. let z = gone_low pairs k r within here in
+    let alive : (r : ℕ) → 2 ≤ address_at (set pairs k 0) r → r / 2 ≢ k =
+    λ r live here. let z = gone_low pairs k r within here in
     omega arith in
     record {
       sound = record {
         tree = record { root = tree.root; parent = tree.parent; live = tree.live; once = tree.once };
         small = λ i. elim (cases_eq i k) [
-          | inl e ↦ let z : get_or (set pairs k 0) i 0 ≡ 0 = ap (λ t. get_or (set pairs k 0) t 0) e ∙ get_or-set_same pairs k 0 0 within in
+          | inl e ↦ let z : get_or (set pairs k 0) i 0 ≡ 0 =
+              ap (λ t. get_or (set pairs k 0) t 0) e ∙ get_or-set_same pairs k 0 0 within in
               omega arith
           | inr n ↦ let z = get_or-set_other pairs k i 0 0 n in let y = h.small i in omega arith
         ];
@@ -199,12 +221,18 @@ forest_joined pairs parents n0 n1 n2 n3 s k a f bare r1 r2 again same_count =
                   (keep ∙ ap (address_at pairs) same ∙ bare.address) ∙ made.removed,
             )
             | inr other ↦
-                let kept : (node_at n3 r).children ≡ (node_at n0 r).children = ap (λ t. t.children) (again.others r other) ∙ r2.children r
+                let kept : (node_at n3 r).children ≡ (node_at n0 r).children =
+                ap (λ t. t.children) (again.others r other) ∙ r2.children r
                 ∙ r1.children r in
-                let at_apart : address_at pairs r ≢ a = λ w. other (h.tree.once r s (omega arith) (w ∙ sym bare.address)) in
-                let was : AreChildrenAt pairs (address_at pairs r) (node_at n0 r).children = f.children r (omega arith) in
+                let at_apart : address_at pairs r ≢ a =
+                λ w. other (h.tree.once r s (omega arith) (w ∙ sym bare.address)) in
+                let was : AreChildrenAt pairs (address_at pairs r) (node_at n0 r).children =
+                f.children r (omega arith) in
                 ⊎_elim
-                (λ none. inl (kept ∙ none.0, ap (has_children (set pairs k 0)) keep ∙ made.kept (address_at pairs r) at_apart ∙ none.1))
+                (λ none. inl (
+                  kept ∙ none.0,
+                  ap (has_children (set pairs k 0)) keep ∙ made.kept (address_at pairs r) at_apart ∙ none.1,
+                ))
                 (λ some. inr (
                   (λ w. some.0 (sym kept ∙ w)),
                   ap (λ t. get_or (set pairs k 0) t 0) kept
@@ -221,7 +249,8 @@ forest_joined pairs parents n0 n1 n2 n3 s k a f bare r1 r2 again same_count =
             let parent_open : has_children pairs (get_or pairs i 0) ≡ true = has_children_by pairs i (get_or pairs i 0)
             (omega arith) refl in
             let away : get_or parents i 0 / 2 ≢ k = λ here.
-            let pair_is : get_or pairs (get_or parents i 0 / 2) 0 ≡ a = ap (λ t. get_or pairs t 0) here ∙ bare.pair in ⊎_elim
+            let pair_is : get_or pairs (get_or parents i 0 / 2) 0 ≡ a = ap (λ t. get_or pairs t 0) here ∙ bare.pair in
+            ⊎_elim
             (λ even. let z : get_or pairs i 0 ≡ 2 * a = omega arith in
             true≢false (sym parent_open ∙ ap (has_children pairs) z ∙ bare.whole_left))
             (λ odd. let z : get_or pairs i 0 ≡ 2 * a + 1 = omega arith in
@@ -233,10 +262,12 @@ forest_joined pairs parents n0 n1 n2 n3 s k a f bare r1 r2 again same_count =
 
 -- ---- merging
 
-pub bare_of : (n : ℕ) (pairs : List ℕ) (s k a : ℕ) → n ≤ 11 → IsClosed n (split_set pairs) → MayMerge pairs s k a → MayJoin pairs s k a
+pub bare_of : (n : ℕ) (pairs : List ℕ) (s k a : ℕ) → n ≤ 11 → IsClosed n (split_set pairs) →
+    MayMerge pairs s k a → MayJoin pairs s k a
 bare_of n pairs s k a high closed h =
     let low = h.low in
-    let member : split_set pairs a ≡ true = has_children-set pairs a h.low (has_children_by pairs k a (omega arith) h.pair) in
+    let member : split_set pairs a ≡ true =
+    has_children-set pairs a h.low (has_children_by pairs k a (omega arith) h.pair) in
     let coarse = (closed.splittable a member).coarse in
     record {
       address = h.address;
@@ -253,7 +284,8 @@ pub base_across_child : (n : ℕ) (pairs parents : List ℕ) (nodes : List Node)
     IsClosed n (split_set pairs) → 2 ≤ e →
     address_at pairs r ≡ e → IsAcross pairs e (node_at nodes r).base
 base_across_child n pairs parents nodes r e forest closed low at =
-    let live : has_children pairs (e / 2) ≡ true = ap (λ t. has_children pairs (t / 2)) (sym at) ∙ forest.sound.tree.live r (omega arith) in
+    let live : has_children pairs (e / 2) ≡ true =
+    ap (λ t. has_children pairs (t / 2)) (sym at) ∙ forest.sound.tree.live r (omega arith) in
     subst (λ t. IsAcross pairs e t) (edge-base (node_at nodes r) (address_at pairs r) e (sym at))
     (read_link (net_of pairs nodes) r e (whole_of n pairs parents nodes forest closed) forest.linked (omega arith)
     (owner-split (has_children pairs) e live ∙ sym at))
@@ -272,7 +304,8 @@ pub right_child : (n : ℕ) (pairs parents : List ℕ) (nodes : List Node) (s k 
     IsAcross pairs (2 * a + 1) (node_at nodes (2 * k + 1)).base
 right_child n pairs parents nodes s k a forest closed h =
     let low = h.low in
-    base_across_child n pairs parents nodes (2 * k + 1) (2 * a + 1) forest closed (omega arith) (child_at pairs k a 1 (omega arith) h.pair)
+    base_across_child n pairs parents nodes (2 * k + 1) (2 * a + 1) forest closed (omega arith)
+    (child_at pairs k a 1 (omega arith) h.pair)
 
 pub closed_less : (n : ℕ) (has less : ℕ → Bool) (a b : ℕ) → IsClosed n has → less a ≡ false → less b ≡ false →
     ((p : ℕ) → p ≢ a → p ≢ b → less p ≡ has p) →
@@ -293,9 +326,13 @@ closed_less n has less a b closed no_a no_b same childless mate_a mate_b =
 
 no_children : (pairs : List ℕ) (s k a p : ℕ) → MayMerge pairs s k a → split_set pairs p ≡ true → p / 2 ≢ a
 no_children pairs s k a p h member half = ⊎_elim
-    (λ even. let z : p ≡ 2 * a = omega arith in true≢false (sym (set-has_children pairs p member) ∙ ap (has_children pairs) z
+    (λ even.
+    let z : p ≡ 2 * a = omega arith in
+    true≢false (sym (set-has_children pairs p member) ∙ ap (has_children pairs) z
     ∙ h.whole_left))
-    (λ odd. let z : p ≡ 2 * a + 1 = omega arith in true≢false (sym (set-has_children pairs p member) ∙ ap (has_children pairs) z
+    (λ odd.
+    let z : p ≡ 2 * a + 1 = omega arith in
+    true≢false (sym (set-has_children pairs p member) ∙ ap (has_children pairs) z
     ∙ h.whole_right)) (cases_lt (p % 2) 1)
 
 mate_back : (n p a : ℕ) → 2 ≤ a → IsSplittable n p → IsMate n p a → mate_of a ≡ p
@@ -311,10 +348,12 @@ closed_alone n pairs parents nodes s k a forest closed h none =
     let low = h.low in
     let within : k < length pairs = pair_in pairs k a low h.pair in
     let no : split_set (set pairs k 0) a ≡ false = set_false (set pairs k 0) a
-    (has_children-removed pairs k a within h.pair (omega arith) (λ i e. pair_once pairs i k a forest.sound low e h.pair)) in
+    (has_children-removed pairs k a within h.pair (omega arith)
+    (λ i e. pair_once pairs i k a forest.sound low e h.pair)) in
     let lone : (p : ℕ) → IsSplittable n p → IsMate n p a → p ≡ a = λ p split m. let z = mate_back n p a low split m in
     let p_low = split.low in absurd (omega arith) in
-    closed_less n (split_set pairs) (split_set (set pairs k 0)) a a closed no no (λ p x y. set_kept pairs k a p within h.pair x)
+    closed_less n (split_set pairs) (split_set (set pairs k 0)) a a closed no no
+    (λ p x y. set_kept pairs k a p within h.pair x)
     (λ p member. (no_children pairs s k a p h member, no_children pairs s k a p h member)) lone lone
 
 -- a diamond
@@ -330,7 +369,8 @@ closed_both n pairs parents nodes s t k j a forest closed h some g =
     let apart : j ≢ k = λ e. other (sym g.pair ∙ ap (λ t. get_or pairs t 0) e ∙ h.pair) in
     let pair_j : get_or (set pairs k 0) j 0 ≡ mate_of a = get_or-set_other pairs k j 0 0 apart ∙ g.pair in
     let within_j : j < length (set pairs k 0) = pair_in (set pairs k 0) j (mate_of a) b pair_j in
-    let no_a : split_set (set (set pairs k 0) j 0) a ≡ false = set_kept (set pairs k 0) j (mate_of a) a within_j pair_j (λ e. other (sym e))
+    let no_a : split_set (set (set pairs k 0) j 0) a ≡ false =
+    set_kept (set pairs k 0) j (mate_of a) a within_j pair_j (λ e. other (sym e))
     ∙ set_false (set pairs k 0) a (has_children-removed pairs k a within h.pair (omega arith)
     (λ i e. pair_once pairs i k a forest.sound low e h.pair)) in
     let once_j : (i : ℕ) → get_or (set pairs k 0) i 0 ≡ mate_of a → i ≡ j = λ i e. elim (cases_eq i k) [
@@ -377,15 +417,18 @@ leg_less n pairs parents less_parents nodes less s t k j a side small forest clo
     let second : MayMerge (set pairs k 0) t j (mate_of a) = may_merge_second pairs s t k j a forest.sound h some g in
     let within : k < length pairs = pair_in pairs k a low h.pair in
     let at : address_at pairs (2 * j + side) ≡ 2 * mate_of a + side = child_at pairs j (mate_of a) side small g.pair in
-    let less_at : address_at (set pairs k 0) (2 * j + side) ≡ 2 * mate_of a + side = child_at (set pairs k 0) j (mate_of a) side small
+    let less_at : address_at (set pairs k 0) (2 * j + side) ≡ 2 * mate_of a + side =
+    child_at (set pairs k 0) j (mate_of a) side small
     second.pair in
     let half : (2 * mate_of a + side) / 2 ≡ mate_of a = omega arith in
     let up : has_children pairs ((2 * mate_of a + side) / 2) ≡ true = ap (has_children pairs) half
     ∙ has_children_by pairs j (mate_of a) (omega arith) g.pair in
-    let less_up : has_children (set pairs k 0) ((2 * mate_of a + side) / 2) ≡ true = ap (has_children (set pairs k 0)) half
+    let less_up : has_children (set pairs k 0) ((2 * mate_of a + side) / 2) ≡ true =
+    ap (has_children (set pairs k 0)) half
     ∙ has_children_by (set pairs k 0) j (mate_of a) (omega arith) second.pair in
     subst (λ x. IsAcross (set pairs k 0) (2 * mate_of a + side) x)
-    (edge-base (node_at less (2 * j + side)) (address_at (set pairs k 0) (2 * j + side)) (2 * mate_of a + side) (sym less_at))
+    (edge-base (node_at less (2 * j + side)) (address_at (set pairs k 0) (2 * j + side))
+    (2 * mate_of a + side) (sym less_at))
     (read_less (net_of pairs nodes) (net_of (set pairs k 0) less) (2 * j + side) (2 * mate_of a + side) a
     (whole_of n pairs parents nodes forest closed) f.linked f.sound.tree.root
     (λ c c_low c_up. slot_of (set pairs k 0) c c_low c_up) (λ p x. has_children-left pairs k a p within h.pair x)

@@ -1,5 +1,6 @@
 -- The links of a leaf, in the words of geometry.
-use Rattle.std.proofs.Common.{◌≡◌, ◌≢◌, sym, ◌∙◌, false, ℕ, ◌+◌, ◌*◌, ◌/◌, ◌^◌, ◌<◌, ◌≤◌, refl, arith, inl, inr, ⊎_elim, subst, List, length}
+use Rattle.std.proofs.Common.{◌≡◌, ◌≢◌, sym, ◌∙◌, false, ℕ, ◌+◌, ◌*◌, ◌/◌, ◌^◌, ◌<◌, ◌≤◌, refl, arith, inl, inr, ⊎_elim}
+use Rattle.std.proofs.Common.{subst, List, length}
 use Rattle.mesh_defs.specs.declared.point.Point.{Point}
 use Rattle.mesh_defs.specs.Triangle.{corners_of, child, OnOneSide}
 use Rattle.bintree_laws.proofs.CornerLemmas.{corners_of-left, corners_of-right}
@@ -20,12 +21,14 @@ pub record IsLeafLink (n : ℕ) (pairs : List ℕ) (a : ℕ) (p q : Point) (link
   pub none : OnOneSide (2 ^ n) p q → link ≡ nowhere
   pub some : link ≢ nowhere → IsLeafAcross n (split_set pairs) a p q (address_at pairs link)
 
-edge_link_words : (n : ℕ) (pairs : List ℕ) (a e link : ℕ) → IsPool n pairs → length pairs < 2 ^ 31 → IsLeafOf (split_set pairs) a → IsEdgeOf a e → IsAcross pairs e link →
+edge_link_words : (n : ℕ) (pairs : List ℕ) (a e link : ℕ) → IsPool n pairs → length pairs < 2 ^ 31 →
+    IsLeafOf (split_set pairs) a → IsEdgeOf a e → IsAcross pairs e link →
     IsLeafLink n pairs a (corners_of n e).v0 (corners_of n e).v1 link
 edge_link_words n pairs a e link pool short leaf edge read =
     let low = edge-low a e leaf.low edge in
     let border = edge-border n (split_set pairs) a e pool.closed leaf edge in
-    let live : 1 ≤ mate_of e → address_at pairs link ≡ owner (has_children pairs) (mate_of e) → IsLive pairs link = λ some at.
+    let live : 1 ≤ mate_of e → address_at pairs link ≡ owner (has_children pairs) (mate_of e) →
+    IsLive pairs link = λ some at.
     let z = owner-low (has_children pairs) (mate_of e) pool.root (mate_of-low e low some) in omega arith in
     record {
       border = λ is. border.0 (⊎_elim (λ v. v.0) (λ v. absurd (linked_small pairs link short (live v.0 v.1) is)) read);
@@ -33,19 +36,26 @@ edge_link_words n pairs a e link pool short leaf edge read =
       some = λ given. ⊎_elim (λ v. absurd (given v.1))
           (λ v. let two = mate_of-low e low v.0 in
           let same : owner (has_children pairs) (mate_of e) ≡ owner (with_square (split_set pairs)) (mate_of e) =
-          owner-same (has_children pairs) (with_square (split_set pairs)) (mate_of e) (square-children n pairs (mate_of e / 2) pool (omega arith)) in
-          subst (IsLeafAcross n (split_set pairs) a (corners_of n e).v0 (corners_of n e).v1) (sym (v.1 ∙ same)) (leaf_across n (split_set pairs) a e pool.closed leaf edge v.0)) read;
+          owner-same (has_children pairs) (with_square (split_set pairs)) (mate_of e)
+          (square-children n pairs (mate_of e / 2) pool (omega arith)) in
+          subst (IsLeafAcross n (split_set pairs) a (corners_of n e).v0 (corners_of n e).v1) (sym (v.1 ∙ same))
+          (leaf_across n (split_set pairs) a e pool.closed leaf edge v.0)) read;
     }
 
 -- ---- the three edges of a leaf
 
-pub base_words : (n : ℕ) (pairs : List ℕ) (s link : ℕ) → IsPool n pairs → length pairs < 2 ^ 31 → IsLive pairs s → has_children pairs (address_at pairs s) ≡ false → IsAcross pairs (address_at pairs s) link →
-    IsLeafLink n pairs (address_at pairs s) (corners_of n (address_at pairs s)).v0 (corners_of n (address_at pairs s)).v1 link
+pub base_words : (n : ℕ) (pairs : List ℕ) (s link : ℕ) → IsPool n pairs → length pairs < 2 ^ 31 → IsLive pairs s →
+    has_children pairs (address_at pairs s) ≡ false → IsAcross pairs (address_at pairs s) link →
+    IsLeafLink n pairs (address_at pairs s) (corners_of n (address_at pairs s)).v0
+    (corners_of n (address_at pairs s)).v1 link
 base_words n pairs s link pool short live leaf read =
-    edge_link_words n pairs (address_at pairs s) (address_at pairs s) link pool short (IsLeafOf-slot pairs s live leaf) (inl refl) read
+    edge_link_words n pairs (address_at pairs s) (address_at pairs s) link pool short
+    (IsLeafOf-slot pairs s live leaf) (inl refl) read
 
-pub left_words : (n : ℕ) (pairs : List ℕ) (s link : ℕ) → IsPool n pairs → length pairs < 2 ^ 31 → IsLive pairs s → has_children pairs (address_at pairs s) ≡ false → IsAcross pairs (2 * address_at pairs s) link →
-    IsLeafLink n pairs (address_at pairs s) (corners_of n (address_at pairs s)).apex (corners_of n (address_at pairs s)).v0 link
+pub left_words : (n : ℕ) (pairs : List ℕ) (s link : ℕ) → IsPool n pairs → length pairs < 2 ^ 31 → IsLive pairs s →
+    has_children pairs (address_at pairs s) ≡ false → IsAcross pairs (2 * address_at pairs s) link →
+    IsLeafLink n pairs (address_at pairs s) (corners_of n (address_at pairs s)).apex
+    (corners_of n (address_at pairs s)).v0 link
 left_words n pairs s link pool short live leaf read =
     let a : ℕ = address_at pairs s in
     let half : 2 * a / 2 ≡ a = omega arith in
@@ -53,8 +63,10 @@ left_words n pairs s link pool short live leaf read =
     subst (λ c. IsLeafLink n pairs a c.v0 c.v1 link) ends
     (edge_link_words n pairs a (2 * a) link pool short (IsLeafOf-slot pairs s live leaf) (inr half) read)
 
-pub right_words : (n : ℕ) (pairs : List ℕ) (s link : ℕ) → IsPool n pairs → length pairs < 2 ^ 31 → IsLive pairs s → has_children pairs (address_at pairs s) ≡ false → IsAcross pairs (2 * address_at pairs s + 1) link →
-    IsLeafLink n pairs (address_at pairs s) (corners_of n (address_at pairs s)).v1 (corners_of n (address_at pairs s)).apex link
+pub right_words : (n : ℕ) (pairs : List ℕ) (s link : ℕ) → IsPool n pairs → length pairs < 2 ^ 31 → IsLive pairs s →
+    has_children pairs (address_at pairs s) ≡ false → IsAcross pairs (2 * address_at pairs s + 1) link →
+    IsLeafLink n pairs (address_at pairs s) (corners_of n (address_at pairs s)).v1
+    (corners_of n (address_at pairs s)).apex link
 right_words n pairs s link pool short live leaf read =
     let a : ℕ = address_at pairs s in
     let half : (2 * a + 1) / 2 ≡ a = omega arith in

@@ -1,5 +1,7 @@
 -- The pool of the two halves of the square.
-use Rattle.std.proofs.Common.{◌≡◌, ◌≢◌, ◌-◌, ap, sym, ◌∙◌, true, false, cond, nat_eq, nat_lt, ℕ, ◌+◌, ◌*◌, ◌/◌, ◌%◌, ◌^◌, ◌<◌, ◌≤◌, arith, inl, inr, ⊎_elim, List, [], length, get_or, set, get_or-set_other, get_or-set_same}
+use Rattle.std.proofs.Common.{◌≡◌, ◌≢◌, ◌-◌, ap, sym, ◌∙◌, true, false, cond, nat_eq, nat_lt, ℕ, ◌+◌, ◌*◌, ◌/◌, ◌%◌}
+use Rattle.std.proofs.Common.{◌^◌, ◌<◌, ◌≤◌, arith, inl, inr, ⊎_elim, List, [], length, get_or, set, get_or-set_other}
+use Rattle.std.proofs.Common.{get_or-set_same}
 use Rattle.std.proofs.lemmas.Bool.{cases_eq, cases_lt, cases_Bool, ltb-true, and_parts}
 use Rattle.std.proofs.lemmas.List.{get_or-replicate, get_or_past, length-replicate}
 use Rattle.std.proofs.Math.ListN.{length-set, replicate}
@@ -30,7 +32,8 @@ pub record IsFirst (pairs parents : List ℕ) (nodes : List Node) : Type 0 where
   pub lower : node_at nodes 0 ≡ record { children = nowhere; base = 1; left = nowhere; right = nowhere }
   pub upper : node_at nodes 1 ≡ record { children = nowhere; base = 0; left = nowhere; right = nowhere }
 
-has_children_one : (pairs parents : List ℕ) (nodes : List Node) (p : ℕ) → IsFirst pairs parents nodes → has_children pairs p ≡ true → p ≡ 1
+has_children_one : (pairs parents : List ℕ) (nodes : List Node) (p : ℕ) → IsFirst pairs parents nodes →
+    has_children pairs p ≡ true → p ≡ 1
 has_children_one pairs parents nodes p h is_p =
     let pair = pair_of pairs p is_p in
     elim (cases_eq pair.0 0) [
@@ -39,7 +42,8 @@ has_children_one pairs parents nodes p h is_p =
           (and_parts (nat_lt 0 p) (among pairs p) is_p).0 in omega arith)
     ]
 
-first_slot : (pairs parents : List ℕ) (nodes : List Node) (r : ℕ) → IsFirst pairs parents nodes → IsLive pairs r → (r < 2)
+first_slot : (pairs parents : List ℕ) (nodes : List Node) (r : ℕ) → IsFirst pairs parents nodes →
+    IsLive pairs r → (r < 2)
     × (address_at pairs r ≡ 2 + r)
 first_slot pairs parents nodes r h live = elim (cases_eq (r / 2) 0) [
   | inl e ↦ let z : get_or pairs (r / 2) 0 ≡ 1 = ap (λ t. get_or pairs t 0) e ∙ h.one in (omega arith, omega arith)
@@ -55,7 +59,8 @@ module _ (pairs parents : List ℕ) (nodes : List Node) (h : IsFirst pairs paren
 
   whole : (p : ℕ) → 2 ≤ p → has_children pairs p ≡ false
   whole p low = ⊎_elim
-      (λ y. absurd (let z = has_children_one pairs parents nodes p h y in omega arith)) (λ n. n) (cases_Bool (has_children pairs p))
+      (λ y. absurd (let z = has_children_one pairs parents nodes p h y in omega arith)) (λ n. n)
+      (cases_Bool (has_children pairs p))
 
   -- the pairs are those of a tree, with small addresses
   first_pairs_of : ArePairs pairs
@@ -76,7 +81,8 @@ module _ (pairs parents : List ℕ) (nodes : List Node) (h : IsFirst pairs paren
   }
 
   -- what is the same of both nodes is so of the node at each live slot
-  of_both : {X : Type 0} (read : Node → X) (x : X) → read (node_at nodes 0) ≡ x → read (node_at nodes 1) ≡ x → (r : ℕ) → r < 2 →
+  of_both : {X : Type 0} (read : Node → X) (x : X) → read (node_at nodes 0) ≡ x →
+      read (node_at nodes 1) ≡ x → (r : ℕ) → r < 2 →
       read (node_at nodes r) ≡ x
   of_both read x lower upper r small = ⊎_elim
       (λ z. let e0 : r ≡ 0 = omega arith in ap (λ t. read (node_at nodes t)) e0 ∙ lower)
@@ -88,7 +94,8 @@ module _ (pairs parents : List ℕ) (nodes : List Node) (h : IsFirst pairs paren
       (λ z. let e0 : r ≡ 0 = omega arith in
       ap (λ t. (node_at nodes t).base) e0 ∙ ap (λ t. t.base) h.lower ∙ (let y : 1 ≡ 1 - r = omega arith in y))
       (λ z. let e1 : r ≡ 1 = omega arith in
-      ap (λ t. (node_at nodes t).base) e1 ∙ ap (λ t. t.base) h.upper ∙ (let y : 0 ≡ 1 - r = omega arith in y)) (cases_lt r 1)
+      ap (λ t. (node_at nodes t).base) e1 ∙ ap (λ t. t.base) h.upper
+      ∙ (let y : 0 ≡ 1 - r = omega arith in y)) (cases_lt r 1)
 
   -- the link of a base is right
   base_joined : (r e : ℕ) → IsLive pairs r → e ≡ address_at pairs r →
@@ -96,7 +103,8 @@ module _ (pairs parents : List ℕ) (nodes : List Node) (h : IsFirst pairs paren
   base_joined r e live is =
       let s = first_slot pairs parents nodes r h live in let small = s.0 in let at = s.1 in
       let mate : mate_of e ≡ 5 - e = mate_of-root e (omega arith) (omega arith) in
-      let link : edge_link (node_at nodes r) (address_at pairs r) e ≡ (node_at nodes r).base = edge-base (node_at nodes r)
+      let link : edge_link (node_at nodes r) (address_at pairs r) e ≡ (node_at nodes r).base =
+      edge-base (node_at nodes r)
       (address_at pairs r) e is in
       record {
         border = λ z. absurd (omega arith);
@@ -104,9 +112,12 @@ module _ (pairs parents : List ℕ) (nodes : List Node) (h : IsFirst pairs paren
             let half : mate_of e / 2 ≡ 1 = omega arith in
             let far : owner (has_children pairs) (mate_of e) ≡ mate_of e = owner-split (has_children pairs) (mate_of e)
             (ap (has_children pairs) half ∙ root) in
-            let t = first_slot pairs parents nodes q h (let y : address_at pairs q ≡ owner (has_children pairs) (mate_of e) = there in
+            let t = first_slot pairs parents nodes q h
+            (let y : address_at pairs q ≡ owner (has_children pairs) (mate_of e) = there in
             omega arith) in
-            let qs = t.0 in let qa = t.1 in let y : address_at pairs q ≡ owner (has_children pairs) (mate_of e) = there in
+            let qs = t.0 in
+            let qa = t.1 in
+            let y : address_at pairs q ≡ owner (has_children pairs) (mate_of e) = there in
             link ∙ base_of r small ∙ (let x : 1 - r ≡ q = omega arith in x);
       }
 
@@ -121,7 +132,8 @@ module _ (pairs parents : List ℕ) (nodes : List Node) (h : IsFirst pairs paren
             (λ even. edge-left (node_at nodes r) (address_at pairs r) e (λ w. omega arith) (omega arith)
             ∙ of_both (λ t. t.left) nowhere (ap (λ t. t.left) h.lower) (ap (λ t. t.left) h.upper) r small)
             (λ odd. edge-right (node_at nodes r) (address_at pairs r) e (λ w. omega arith) (omega arith)
-            ∙ of_both (λ t. t.right) nowhere (ap (λ t. t.right) h.lower) (ap (λ t. t.right) h.upper) r small) (cases_lt (e % 2) 1);
+            ∙ of_both (λ t. t.right) nowhere (ap (λ t. t.right) h.lower) (ap (λ t. t.right) h.upper) r small)
+            (cases_lt (e % 2) 1);
         slot = λ q some there. absurd (omega arith);
       }
 
@@ -143,11 +155,13 @@ module _ (pairs parents : List ℕ) (nodes : List Node) (h : IsFirst pairs paren
           of_both (λ t. t.children) nowhere (ap (λ t. t.children) h.lower) (ap (λ t. t.children) h.upper) r s.0,
           whole (address_at pairs r) live,
         );
-    upward = λ k two. absurd (⊎_elim (λ e. let z : get_or pairs k 0 ≡ 1 = ap (λ t. get_or pairs t 0) e ∙ h.one in omega arith)
+    upward = λ k two.
+        absurd (⊎_elim (λ e. let z : get_or pairs k 0 ≡ 1 = ap (λ t. get_or pairs t 0) e ∙ h.one in omega arith)
         (λ n. let z = h.rest k n in omega arith) (cases_eq k 0));
   }
 
-pub first_closed : (n : ℕ) (pairs parents : List ℕ) (nodes : List Node) → IsFirst pairs parents nodes → IsClosed n (split_set pairs)
+pub first_closed : (n : ℕ) (pairs parents : List ℕ) (nodes : List Node) → IsFirst pairs parents nodes →
+    IsClosed n (split_set pairs)
 first_closed n pairs parents nodes h =
     let none : (p : ℕ) → split_set pairs p ≡ true → ⊥ = λ p y.
     let z = has_children_one pairs parents nodes p h (set-has_children pairs p y) in
@@ -168,7 +182,8 @@ first_mesh n pairs parents nodes low high h = record {
       first_closed n pairs parents nodes h;
 }
 
-pub first_of : (how_many : ℕ) (zeros parents : List ℕ) (raw : List Node) (one two : Node) → 1 ≤ how_many → how_many < 2 ^ 20 →
+pub first_of : (how_many : ℕ) (zeros parents : List ℕ) (raw : List Node) (one two : Node) →
+    1 ≤ how_many → how_many < 2 ^ 20 →
     zeros ≡ replicate how_many 0 → length parents ≡ how_many → length raw ≡ 2 * how_many →
     one ≡ record { children = nowhere; base = 1; left = nowhere; right = nowhere } →
     two ≡ record { children = nowhere; base = 0; left = nowhere; right = nowhere } →
@@ -180,13 +195,16 @@ first_of how_many zeros parents raw one two some few is parent_count raw_count i
     let c2 : length (set (set raw 0 one) 1 two) ≡ length (set raw 0 one) = length-set (set raw 0 one) 1 two in
     record {
       one = get_or-set_same zeros 0 1 0 (omega arith);
-      rest = λ i n. get_or-set_other zeros 0 i 1 0 n ∙ ap (λ t. get_or t i 0) is ∙ ⊎_elim (λ less. get_or-replicate how_many i 0 0 less)
-          (λ past. get_or_past (replicate how_many 0) i 0 (let z : length (replicate {A = ℕ} how_many 0) ≡ how_many = length-replicate
+      rest = λ i n. get_or-set_other zeros 0 i 1 0 n ∙ ap (λ t. get_or t i 0) is
+          ∙ ⊎_elim (λ less. get_or-replicate how_many i 0 0 less)
+          (λ past. get_or_past (replicate how_many 0) i 0
+          (let z : length (replicate {A = ℕ} how_many 0) ≡ how_many = length-replicate
           how_many 0 in omega arith)) (cases_lt i how_many);
       short = omega arith;
       parent_count = omega arith;
       node_count = omega arith;
-      lower = get_or-set_other (set raw 0 one) 1 0 two blank_node (λ z. omega arith) ∙ get_or-set_same raw 0 one blank_node (omega arith) ∙ is_one;
+      lower = get_or-set_other (set raw 0 one) 1 0 two blank_node (λ z. omega arith)
+          ∙ get_or-set_same raw 0 one blank_node (omega arith) ∙ is_one;
       upper = get_or-set_same (set raw 0 one) 1 two blank_node (omega arith) ∙ is_two;
     }
 
@@ -201,8 +219,10 @@ first_room pairs how_many count some one rest =
     (let z = length-set (replicate {A = ℕ} how_many 0) 0 1 in omega arith)
     (λ i less. elim (cases_eq i 0) [
       | inl e ↦ ap (λ t. get_or pairs t 0) e ∙ one
-          ∙ sym (ap (λ t. get_or (set (replicate how_many 0) 0 1) t 0) e ∙ get_or-set_same (replicate how_many 0) 0 1 0 (omega arith))
-      | inr n ↦ rest i n ∙ sym (get_or-set_other (replicate how_many 0) 0 i 1 0 n ∙ get_or-replicate how_many i 0 0 (omega arith))
+          ∙ sym (ap (λ t. get_or (set (replicate how_many 0) 0 1) t 0) e
+          ∙ get_or-set_same (replicate how_many 0) 0 1 0 (omega arith))
+      | inr n ↦ rest i n
+          ∙ sym (get_or-set_other (replicate how_many 0) 0 i 1 0 n ∙ get_or-replicate how_many i 0 0 (omega arith))
     ]) in
     let all = sum_by-set f (replicate how_many 0) 0 1 0 (omega arith) in
     let at_0 : f (get_or (replicate how_many 0) 0 0) ≡ 1 = ap f (get_or-replicate how_many 0 0 0 (omega arith)) in
@@ -210,7 +230,8 @@ first_room pairs how_many count some one rest =
     let same : room_of pairs ≡ room_of (set (replicate how_many 0) 0 1) = ap room_of is in
     omega arith
 
-pub first_free : (pairs : List ℕ) (free : FreeState) (how_many : ℕ) → length pairs ≡ how_many → 1 ≤ how_many → get_or pairs 0 0 ≡ 1 →
+pub first_free : (pairs : List ℕ) (free : FreeState) (how_many : ℕ) → length pairs ≡ how_many →
+    1 ≤ how_many → get_or pairs 0 0 ≡ 1 →
     ((i : ℕ) → i ≢ 0 → get_or pairs i 0 ≡ 0) →
     free.returned ≡ [] → free.unused ≡ 1 → free.pairs ≡ how_many → IsFree pairs free
 first_free pairs free how_many count some one rest none unused all =
@@ -225,7 +246,8 @@ first_free pairs free how_many count some one rest none unused all =
       distinct = λ i j p q e. absurd (omega arith);
     }
 
-pub first_pairs : (most : ℕ) (pairs : List ℕ) (free : FreeState) → 2 ≤ most → most ≤ MOST_LEAVES → length pairs ≡ most - 1 →
+pub first_pairs : (most : ℕ) (pairs : List ℕ) (free : FreeState) → 2 ≤ most → most ≤ MOST_LEAVES →
+    length pairs ≡ most - 1 →
     get_or pairs 0 0 ≡ 1 → ((i : ℕ) → i ≢ 0 → get_or pairs i 0 ≡ 0) →
     free.returned ≡ [] → free.unused ≡ 1 → free.pairs ≡ most - 1 → HasPairs most pairs free
 first_pairs most pairs free low high count one rest none unused all = record {

@@ -1,5 +1,6 @@
 -- Splitting a diamond, or a triangle at the border.
-use Rattle.std.proofs.Common.{◌≡◌, ap, sym, ◌∙◌, true, false, ℕ, ◌+◌, ◌*◌, ◌/◌, ◌^◌, ◌<◌, ◌≤◌, refl, arith, inl, inr, ⊎_elim, subst, List, length, get_or, set, get_or-set_other, get_or-set_same}
+use Rattle.std.proofs.Common.{◌≡◌, ap, sym, ◌∙◌, true, false, ℕ, ◌+◌, ◌*◌, ◌/◌, ◌^◌, ◌<◌, ◌≤◌, refl, arith, inl, inr}
+use Rattle.std.proofs.Common.{⊎_elim, subst, List, length, get_or, set, get_or-set_other, get_or-set_same}
 use Rattle.std.proofs.lemmas.Bool.{cases_eq, cases_Bool, true≢false}
 use Rattle.std.proofs.Math.ListN.{length-set}
 use Rattle.mesh_defs.specs.Triangle.{level_of, IsSplittable, IsMate}
@@ -14,19 +15,23 @@ use Rattle.edge_laws.proofs.OwnerLemmas.{owner-whole}
 use Rattle.edge_laws.proofs.IsMateLemmas.{IsMate-mate_of, mate_of-IsMate}
 use Rattle.triangle_pool.specs.declared.forest.Node.{Node}
 use Rattle.edge_laws.specs.Slots.{address_at, has_children, split_set}
-use Rattle.triangle_pool.specs.Links.{node_at, edge_link, net_of, ArePairs, IsForest, IsAcross, MayHalve, MaySplit, MaySplitMate}
-use Rattle.edge_laws.proofs.SlotLemmas.{has_children-added, has_children-kept, has_children_low, set-has_children, has_children-set, slot_of, set_more, set_only}
+use Rattle.triangle_pool.specs.Links.{node_at, edge_link, net_of, ArePairs, IsForest, IsAcross, MayHalve, MaySplit}
+use Rattle.triangle_pool.specs.Links.{MaySplitMate}
+use Rattle.edge_laws.proofs.SlotLemmas.{has_children-added, has_children-kept, has_children_low, set-has_children}
+use Rattle.edge_laws.proofs.SlotLemmas.{has_children-set, slot_of, set_more, set_only}
 use Rattle.triangle_pool.proofs.RelinkLemmas.{edge-left, edge-right}
 use Rattle.triangle_pool.proofs.HalveLemmas.{tree_of, child_shut, address-old, live_apart}
 
 -- ---- the set of split triangles
 
-pub whole_of : (n : ℕ) (pairs parents : List ℕ) (nodes : List Node) → IsForest pairs parents nodes → IsClosed n (split_set pairs) → IsWhole (net_of pairs nodes)
+pub whole_of : (n : ℕ) (pairs parents : List ℕ) (nodes : List Node) → IsForest pairs parents nodes →
+    IsClosed n (split_set pairs) → IsWhole (net_of pairs nodes)
 whole_of n pairs parents nodes forest closed = record {
   tree = tree_of pairs nodes forest.sound;
   mate = λ p low is some.
       let coarse = (closed.splittable p (has_children-set pairs p low is)).coarse in
-      set-has_children pairs (mate_of p) (closed.mate p (mate_of p) (has_children-set pairs p low is) (IsMate-mate_of n p low (omega arith) some));
+      set-has_children pairs (mate_of p)
+      (closed.mate p (mate_of p) (has_children-set pairs p low is) (IsMate-mate_of n p low (omega arith) some));
   slot_of = λ c low up. slot_of pairs c low up;
 }
 
@@ -34,27 +39,34 @@ whole_of n pairs parents nodes forest closed = record {
 
 -- ---- the links of a leaf's legs
 
-pub left_across : (n : ℕ) (pairs parents : List ℕ) (nodes : List Node) (s a : ℕ) → IsForest pairs parents nodes → IsClosed n (split_set pairs) →
+pub left_across : (n : ℕ) (pairs parents : List ℕ) (nodes : List Node) (s a : ℕ) → IsForest pairs parents nodes →
+    IsClosed n (split_set pairs) →
     address_at pairs s ≡ a → 2 ≤ a → has_children pairs a ≡ false → IsAcross pairs (2 * a) (node_at nodes s).left
 left_across n pairs parents nodes s a forest closed is low leaf =
     let half : 2 * a / 2 ≡ a = omega arith in
-    let link : edge_link (node_at nodes s) (address_at pairs s) (2 * a) ≡ (node_at nodes s).left = edge-left (node_at nodes s) (address_at pairs s) (2 * a) (λ w. omega arith) (omega arith) in
-    subst (λ t. IsAcross pairs (2 * a) t) link (read_link (net_of pairs nodes) s (2 * a) (whole_of n pairs parents nodes forest closed) forest.linked (omega arith)
+    let link : edge_link (node_at nodes s) (address_at pairs s) (2 * a) ≡ (node_at nodes s).left =
+    edge-left (node_at nodes s) (address_at pairs s) (2 * a) (λ w. omega arith) (omega arith) in
+    subst (λ t. IsAcross pairs (2 * a) t) link (read_link (net_of pairs nodes) s (2 * a)
+    (whole_of n pairs parents nodes forest closed) forest.linked (omega arith)
     (owner-whole (has_children pairs) (2 * a) (ap (has_children pairs) half ∙ leaf) ∙ half ∙ sym is))
 
-pub right_across : (n : ℕ) (pairs parents : List ℕ) (nodes : List Node) (s a : ℕ) → IsForest pairs parents nodes → IsClosed n (split_set pairs) →
+pub right_across : (n : ℕ) (pairs parents : List ℕ) (nodes : List Node) (s a : ℕ) → IsForest pairs parents nodes →
+    IsClosed n (split_set pairs) →
     address_at pairs s ≡ a → 2 ≤ a → has_children pairs a ≡ false → IsAcross pairs (2 * a + 1) (node_at nodes s).right
 right_across n pairs parents nodes s a forest closed is low leaf =
     let half : (2 * a + 1) / 2 ≡ a = omega arith in
-    let link : edge_link (node_at nodes s) (address_at pairs s) (2 * a + 1) ≡ (node_at nodes s).right = edge-right (node_at nodes s) (address_at pairs s) (2 * a + 1) (λ w. omega arith) (omega arith) in
-    subst (λ t. IsAcross pairs (2 * a + 1) t) link (read_link (net_of pairs nodes) s (2 * a + 1) (whole_of n pairs parents nodes forest closed) forest.linked (omega arith)
+    let link : edge_link (node_at nodes s) (address_at pairs s) (2 * a + 1) ≡ (node_at nodes s).right =
+    edge-right (node_at nodes s) (address_at pairs s) (2 * a + 1) (λ w. omega arith) (omega arith) in
+    subst (λ t. IsAcross pairs (2 * a + 1) t) link (read_link (net_of pairs nodes) s (2 * a + 1)
+    (whole_of n pairs parents nodes forest closed) forest.linked (omega arith)
     (owner-whole (has_children pairs) (2 * a + 1) (ap (has_children pairs) half ∙ leaf) ∙ half ∙ sym is))
 
 below_23 : (a n : ℕ) → 2 ≤ a → n ≤ 11 → level_of a < 2 * n → a < 2 ^ 23
 below_23 a n low high coarse = (level_of-below a 22 low).0 (omega arith)
 
 -- the mate of a leaf is not split, nor are its children
-mate_shut : (n : ℕ) (pairs parents : List ℕ) (nodes : List Node) (s k a : ℕ) → IsForest pairs parents nodes → IsClosed n (split_set pairs) → MaySplit n pairs s k a →
+mate_shut : (n : ℕ) (pairs parents : List ℕ) (nodes : List Node) (s k a : ℕ) → IsForest pairs parents nodes →
+    IsClosed n (split_set pairs) → MaySplit n pairs s k a →
     has_children pairs (mate_of a) ≡ false
 mate_shut n pairs parents nodes s k a forest closed o =
     let low = o.low in
@@ -62,10 +74,12 @@ mate_shut n pairs parents nodes s k a forest closed o =
     let two = mate_of-low a low some in
     let back : mate_of (mate_of a) ≡ a = mate_of-back a low some in
     let whole = whole_of n pairs parents nodes forest closed in
-    absurd (true≢false (sym (ap (has_children pairs) (sym back) ∙ whole.mate (mate_of a) two yes (omega arith)) ∙ o.leaf)))
+    absurd
+    (true≢false (sym (ap (has_children pairs) (sym back) ∙ whole.mate (mate_of a) two yes (omega arith)) ∙ o.leaf)))
     (λ no. no) (cases_Bool (has_children pairs (mate_of a)))
 
-pub ready_first : (n : ℕ) (pairs parents : List ℕ) (nodes : List Node) (s k a : ℕ) → IsForest pairs parents nodes → IsClosed n (split_set pairs) → MaySplit n pairs s k a →
+pub ready_first : (n : ℕ) (pairs parents : List ℕ) (nodes : List Node) (s k a : ℕ) → IsForest pairs parents nodes →
+    IsClosed n (split_set pairs) → MaySplit n pairs s k a →
     MayHalve pairs s k a nowhere
 ready_first n pairs parents nodes s k a forest closed o =
     let shut = mate_shut n pairs parents nodes s k a forest closed o in
@@ -76,15 +90,18 @@ ready_first n pairs parents nodes s k a forest closed o =
       leaf = o.leaf;
       within = o.within;
       free = o.free;
-      childless = λ some. let two = mate_of-low a low some in
-          (child_shut pairs (2 * mate_of a) (mate_of a) forest.sound shut (omega arith) (omega arith), child_shut pairs (2 * mate_of a + 1) (mate_of a) forest.sound shut (omega arith) (omega arith));
+      childless = λ some. let two = mate_of-low a low some in (
+        child_shut pairs (2 * mate_of a) (mate_of a) forest.sound shut (omega arith) (omega arith),
+        child_shut pairs (2 * mate_of a + 1) (mate_of a) forest.sound shut (omega arith) (omega arith),
+      );
       alone = λ _. shut;
       paired = λ some. absurd (some refl);
     }
 
 -- ---- the second half of a diamond
 
-pub ready_second : (n : ℕ) (pairs parents : List ℕ) (nodes : List Node) (s t k j a : ℕ) → IsForest pairs parents nodes → IsClosed n (split_set pairs) → MaySplit n pairs s k a →
+pub ready_second : (n : ℕ) (pairs parents : List ℕ) (nodes : List Node) (s t k j a : ℕ) → IsForest pairs parents nodes →
+    IsClosed n (split_set pairs) → MaySplit n pairs s k a →
     MaySplitMate pairs t k j a → MayHalve (set pairs k a) t j (mate_of a) k
 ready_second n pairs parents nodes s t k j a forest closed o two =
     let low = o.low in let mate = two.some in let b = mate_of-low a low mate in
@@ -98,7 +115,8 @@ ready_second n pairs parents nodes s t k j a forest closed o two =
     let count : length (set pairs k a) ≡ length pairs = length-set pairs k a in
     let at = two.address in
     let child : (p : ℕ) → p / 2 ≡ a → has_children (set pairs k a) p ≡ false = λ p half.
-    has_children-kept pairs k a p o.within o.free (omega arith) ∙ child_shut pairs p a forest.sound o.leaf half (omega arith) in
+    has_children-kept pairs k a p o.within o.free (omega arith)
+    ∙ child_shut pairs p a forest.sound o.leaf half (omega arith) in
     record {
       address = address-old pairs k a t (live_apart pairs k t o.free (omega arith)) ∙ two.address;
       low = b;
@@ -114,7 +132,8 @@ ready_second n pairs parents nodes s t k j a forest closed o two =
       paired = λ some. ((omega arith), get_or-set_same pairs k a 0 o.within ∙ sym back);
     }
 
-leg_second : (n : ℕ) (pairs parents more_parents : List ℕ) (nodes more : List Node) (s t k j a e : ℕ) → IsForest pairs parents nodes → IsClosed n (split_set pairs) → MaySplit n pairs s k a →
+leg_second : (n : ℕ) (pairs parents more_parents : List ℕ) (nodes more : List Node) (s t k j a e : ℕ) →
+    IsForest pairs parents nodes → IsClosed n (split_set pairs) → MaySplit n pairs s k a →
     MaySplitMate pairs t k j a → IsForest (set pairs k a) more_parents more → e / 2 ≡ mate_of a →
     IsAcross (set pairs k a) e (edge_link (node_at more t) (address_at (set pairs k a) t) e)
 leg_second n pairs parents more_parents nodes more s t k j a e forest closed o two f half =
@@ -122,50 +141,72 @@ leg_second n pairs parents more_parents nodes more s t k j a e forest closed o t
     let shut = mate_shut n pairs parents nodes s k a forest closed o in
     let other = mate_of-other a low mate in
     let at = two.address in
-    let at_more : address_at (set pairs k a) t ≡ mate_of a = address-old pairs k a t (live_apart pairs k t o.free (omega arith)) ∙ two.address in
-    let shut_more : has_children (set pairs k a) (mate_of a) ≡ false = has_children-kept pairs k a (mate_of a) o.within o.free other ∙ shut in
-    read_more (net_of pairs nodes) (net_of (set pairs k a) more) t e (whole_of n pairs parents nodes forest closed) f.linked f.sound.tree.root
+    let at_more : address_at (set pairs k a) t ≡ mate_of a =
+    address-old pairs k a t (live_apart pairs k t o.free (omega arith)) ∙ two.address in
+    let shut_more : has_children (set pairs k a) (mate_of a) ≡ false =
+    has_children-kept pairs k a (mate_of a) o.within o.free other ∙ shut in
+    read_more (net_of pairs nodes) (net_of (set pairs k a) more) t e
+    (whole_of n pairs parents nodes forest closed) f.linked f.sound.tree.root
     (λ c c_low up. slot_of (set pairs k a) c c_low up)
     (λ p yes. elim (cases_eq p a) [
       | inl same ↦ ap (has_children (set pairs k a)) same ∙ has_children-added pairs k a o.within (omega arith)
       | inr n ↦ has_children-kept pairs k a p o.within o.free n ∙ yes
     ])
     (omega arith) (owner-whole (has_children pairs) e (ap (has_children pairs) half ∙ shut) ∙ half ∙ sym at)
-    (omega arith) (owner-whole (has_children (set pairs k a)) e (ap (has_children (set pairs k a)) half ∙ shut_more) ∙ half ∙ sym at_more)
+    (omega arith) (owner-whole (has_children (set pairs k a)) e (ap (has_children (set pairs k a)) half ∙ shut_more)
+    ∙ half ∙ sym at_more)
 
-pub left_second : (n : ℕ) (pairs parents more_parents : List ℕ) (nodes more : List Node) (s t k j a : ℕ) → IsForest pairs parents nodes → IsClosed n (split_set pairs) → MaySplit n pairs s k a →
-    MaySplitMate pairs t k j a → IsForest (set pairs k a) more_parents more → IsAcross (set pairs k a) (2 * mate_of a) (node_at more t).left
+pub left_second : (n : ℕ) (pairs parents more_parents : List ℕ) (nodes more : List Node) (s t k j a : ℕ) →
+    IsForest pairs parents nodes → IsClosed n (split_set pairs) → MaySplit n pairs s k a →
+    MaySplitMate pairs t k j a → IsForest (set pairs k a) more_parents more →
+    IsAcross (set pairs k a) (2 * mate_of a) (node_at more t).left
 left_second n pairs parents more_parents nodes more s t k j a forest closed o two f =
     let low = o.low in let mate = two.some in let b = mate_of-low a low mate in let at = two.address in
-    let at_more : address_at (set pairs k a) t ≡ mate_of a = address-old pairs k a t (live_apart pairs k t o.free (omega arith)) ∙ two.address in
-    subst (λ x. IsAcross (set pairs k a) (2 * mate_of a) x) (edge-left (node_at more t) (address_at (set pairs k a) t) (2 * mate_of a) (λ w. omega arith) (omega arith))
+    let at_more : address_at (set pairs k a) t ≡ mate_of a =
+    address-old pairs k a t (live_apart pairs k t o.free (omega arith)) ∙ two.address in
+    subst (λ x. IsAcross (set pairs k a) (2 * mate_of a) x)
+    (edge-left (node_at more t) (address_at (set pairs k a) t) (2 * mate_of a) (λ w. omega arith) (omega arith))
     (leg_second n pairs parents more_parents nodes more s t k j a (2 * mate_of a) forest closed o two f (omega arith))
 
-pub right_second : (n : ℕ) (pairs parents more_parents : List ℕ) (nodes more : List Node) (s t k j a : ℕ) → IsForest pairs parents nodes → IsClosed n (split_set pairs) → MaySplit n pairs s k a →
-    MaySplitMate pairs t k j a → IsForest (set pairs k a) more_parents more → IsAcross (set pairs k a) (2 * mate_of a + 1) (node_at more t).right
+pub right_second : (n : ℕ) (pairs parents more_parents : List ℕ) (nodes more : List Node) (s t k j a : ℕ) →
+    IsForest pairs parents nodes → IsClosed n (split_set pairs) → MaySplit n pairs s k a →
+    MaySplitMate pairs t k j a → IsForest (set pairs k a) more_parents more →
+    IsAcross (set pairs k a) (2 * mate_of a + 1) (node_at more t).right
 right_second n pairs parents more_parents nodes more s t k j a forest closed o two f =
     let low = o.low in let mate = two.some in let b = mate_of-low a low mate in let at = two.address in
-    let at_more : address_at (set pairs k a) t ≡ mate_of a = address-old pairs k a t (live_apart pairs k t o.free (omega arith)) ∙ two.address in
-    subst (λ x. IsAcross (set pairs k a) (2 * mate_of a + 1) x) (edge-right (node_at more t) (address_at (set pairs k a) t) (2 * mate_of a + 1) (λ w. omega arith) (omega arith))
-    (leg_second n pairs parents more_parents nodes more s t k j a (2 * mate_of a + 1) forest closed o two f (omega arith))
+    let at_more : address_at (set pairs k a) t ≡ mate_of a =
+    address-old pairs k a t (live_apart pairs k t o.free (omega arith)) ∙ two.address in
+    subst (λ x. IsAcross (set pairs k a) (2 * mate_of a + 1) x) (edge-right (node_at more t)
+    (address_at (set pairs k a) t) (2 * mate_of a + 1) (λ w. omega arith) (omega arith))
+    (leg_second n pairs parents more_parents nodes more s t k j a
+    (2 * mate_of a + 1) forest closed o two f (omega arith))
 
 -- ---- the set stays closed
 
-up_set : (n : ℕ) (pairs : List ℕ) (s a : ℕ) → ArePairs pairs → address_at pairs s ≡ a → 4 ≤ a → split_set pairs (a / 2) ≡ true
-up_set n pairs s a h at deep = has_children-set pairs (a / 2) (omega arith) (ap (λ t. has_children pairs (t / 2)) (sym at) ∙ h.tree.live s (omega arith))
+up_set : (n : ℕ) (pairs : List ℕ) (s a : ℕ) → ArePairs pairs → address_at pairs s ≡ a → 4 ≤ a →
+    split_set pairs (a / 2) ≡ true
+up_set n pairs s a h at deep =
+    has_children-set pairs (a / 2) (omega arith)
+    (ap (λ t. has_children pairs (t / 2)) (sym at) ∙ h.tree.live s (omega arith))
 
-pub closed_one : (n : ℕ) (pairs parents : List ℕ) (nodes : List Node) (s k a : ℕ) → IsForest pairs parents nodes → IsClosed n (split_set pairs) → MaySplit n pairs s k a →
+pub closed_one : (n : ℕ) (pairs parents : List ℕ) (nodes : List Node) (s k a : ℕ) → IsForest pairs parents nodes →
+    IsClosed n (split_set pairs) → MaySplit n pairs s k a →
     mate_of a ≡ 0 → IsClosed n (split_set (set pairs k a))
 closed_one n pairs parents nodes s k a forest closed o none =
     let low = o.low in
     let splittable : IsSplittable n a = record { low = o.low; coarse = o.coarse } in
-    let added : split_set (set pairs k a) a ≡ true = has_children-set (set pairs k a) a low (has_children-added pairs k a o.within (omega arith)) in
-    let no_mate : (q : ℕ) → IsMate n a q → q ≡ a = λ q m. let is = mate_of-IsMate n a q low (let c = o.coarse in omega arith) m in absurd (let l = m.address.low in omega arith) in
-    closed_more n (split_set pairs) (split_set (set pairs k a)) a a closed (λ p h. set_more pairs k a p o.within o.free h) added added
+    let added : split_set (set pairs k a) a ≡ true =
+    has_children-set (set pairs k a) a low (has_children-added pairs k a o.within (omega arith)) in
+    let no_mate : (q : ℕ) → IsMate n a q → q ≡ a = λ q m. let is =
+    mate_of-IsMate n a q low (let c = o.coarse in omega arith) m in absurd (let l = m.address.low in omega arith) in
+    closed_more n (split_set pairs) (split_set (set pairs k a)) a a closed
+    (λ p h. set_more pairs k a p o.within o.free h) added added
     (λ p h. elim (set_only pairs k a p o.within o.free h) [ inl old ↦ inl old | inr e ↦ inr (inl e) ])
-    splittable splittable (λ deep. up_set n pairs s a forest.sound o.address deep) (λ deep. up_set n pairs s a forest.sound o.address deep) no_mate no_mate
+    splittable splittable (λ deep. up_set n pairs s a forest.sound o.address deep)
+    (λ deep. up_set n pairs s a forest.sound o.address deep) no_mate no_mate
 
-pub closed_two : (n : ℕ) (pairs parents : List ℕ) (nodes : List Node) (s t k j a : ℕ) → IsForest pairs parents nodes → IsClosed n (split_set pairs) → MaySplit n pairs s k a →
+pub closed_two : (n : ℕ) (pairs parents : List ℕ) (nodes : List Node) (s t k j a : ℕ) → IsForest pairs parents nodes →
+    IsClosed n (split_set pairs) → MaySplit n pairs s k a →
     MaySplitMate pairs t k j a → IsClosed n (split_set (set (set pairs k a) j (mate_of a)))
 closed_two n pairs parents nodes s t k j a forest closed o two =
     let low = o.low in let mate = two.some in let b = mate_of-low a low mate in
@@ -176,21 +217,25 @@ closed_two n pairs parents nodes s t k j a forest closed o two =
     let count : length (set pairs k a) ≡ length pairs = length-set pairs k a in
     let within : j < length (set pairs k a) = let w = two.within in omega arith in
     let free : get_or (set pairs k a) j 0 ≡ 0 = get_or-set_other pairs k j a 0 two.apart ∙ two.free in
-    let added : split_set (set pairs k a) a ≡ true = has_children-set (set pairs k a) a low (has_children-added pairs k a o.within (omega arith)) in
+    let added : split_set (set pairs k a) a ≡ true =
+    has_children-set (set pairs k a) a low (has_children-added pairs k a o.within (omega arith)) in
     closed_more n (split_set pairs) (split_set (set (set pairs k a) j (mate_of a))) a (mate_of a) closed
     (λ p h. set_more (set pairs k a) j (mate_of a) p within free (set_more pairs k a p o.within o.free h))
     (set_more (set pairs k a) j (mate_of a) a within free added)
-    (has_children-set (set (set pairs k a) j (mate_of a)) (mate_of a) b (has_children-added (set pairs k a) j (mate_of a) within (omega arith)))
+    (has_children-set (set (set pairs k a) j (mate_of a)) (mate_of a) b
+    (has_children-added (set pairs k a) j (mate_of a) within (omega arith)))
     (λ p h. elim (set_only (set pairs k a) j (mate_of a) p within free h) [
       | inl old ↦ elim (set_only pairs k a p o.within o.free old) [ inl older ↦ inl older | inr e ↦ inr (inl e) ]
       | inr e ↦ inr (inr e)
     ])
     (record { low = o.low; coarse = o.coarse }) (record { low = b; coarse = omega arith })
-    (λ deep. up_set n pairs s a forest.sound o.address deep) (λ deep. up_set n pairs t (mate_of a) forest.sound two.address deep)
+    (λ deep. up_set n pairs s a forest.sound o.address deep)
+    (λ deep. up_set n pairs t (mate_of a) forest.sound two.address deep)
     (λ q m. sym (mate_of-IsMate n a q low (omega arith) m))
     (λ q m. sym (mate_of-IsMate n (mate_of a) q b (omega arith) m) ∙ back)
 
-pub second_address : (n : ℕ) (pairs : List ℕ) (s t k j a : ℕ) → MaySplit n pairs s k a → MaySplitMate pairs t k j a → address_at (set pairs k a) t ≡ mate_of a
+pub second_address : (n : ℕ) (pairs : List ℕ) (s t k j a : ℕ) → MaySplit n pairs s k a → MaySplitMate pairs t k j a →
+    address_at (set pairs k a) t ≡ mate_of a
 second_address n pairs s t k j a o two =
     let mate = two.some in let b = mate_of-low a o.low mate in let at = two.address in
     address-old pairs k a t (live_apart pairs k t o.free (omega arith)) ∙ two.address

@@ -1,5 +1,6 @@
 -- What the pool's calls answer.
-use Rattle.std.specs.Prelude.{◌≡◌, ℕ, ◌+◌, ◌*◌, ◌≤◌, ◌⊎◌, List, [], ◌∷◌, map, nat_lt, true, false, IsNone, IfSome, IsSomeAnd}
+use Rattle.std.specs.Prelude.{◌≡◌, ℕ, ◌+◌, ◌*◌, ◌≤◌, ◌⊎◌, List, [], ◌∷◌, map, nat_lt, true, false, IsNone, IfSome}
+use Rattle.std.specs.Prelude.{IsSomeAnd}
 use Rattle.bintree_addr.specs.declared.slot.Slot.{Slot}
 use Rattle.mesh_defs.specs.declared.point.Point.{Point}
 use Rattle.mesh_defs.specs.declared.point.Corners.{Corners}

@@ -1,5 +1,6 @@
 -- The links of nodes, as a net.
-use Rattle.std.specs.Prelude.{◌≡◌, ◌≢◌, ◌⊎◌, ℕ, ◌+◌, ◌*◌, ◌/◌, ◌%◌, ◌^◌, ◌<◌, ◌≤◌, Bool, true, false, nat_eq, List, slice_index, slice_index_or, length}
+use Rattle.std.specs.Prelude.{◌≡◌, ◌≢◌, ◌⊎◌, ℕ, ◌+◌, ◌*◌, ◌/◌, ◌%◌, ◌^◌, ◌<◌, ◌≤◌, Bool, true, false, nat_eq, List}
+use Rattle.std.specs.Prelude.{slice_index, slice_index_or, length}
 use Rattle.edge_laws.specs.Edge.{mate_of, owner}
 use Rattle.edge_laws.specs.Net.{nowhere, Net, IsLinked, IsTree}
 use Rattle.triangle_pool.specs.declared.forest.Node.{Node}
@@ -33,7 +34,8 @@ net_of pairs nodes = record {
 -- x is the slot of the leaf across the edge f, or nowhere
 abbrev pub IsAcross : List ℕ → ℕ → ℕ → Type 0
 IsAcross pairs f x =
-    ((mate_of f ≡ 0) × (x ≡ nowhere)) ⊎ ((1 ≤ mate_of f) × (address_at pairs x ≡ owner (has_children pairs) (mate_of f)))
+    ((mate_of f ≡ 0) × (x ≡ nowhere))
+    ⊎ ((1 ≤ mate_of f) × (address_at pairs x ≡ owner (has_children pairs) (mate_of f)))
 
 -- the edge across f is linked to the slot `to`, and each other edge is linked as before
 pub record IsRelinked (pairs : List ℕ) (before after : List Node) (f to : ℕ) : Type 0 where
@@ -58,7 +60,8 @@ pub record ArePairs (pairs : List ℕ) : Type 0 where
 
 -- the pair of a triangle's children, or nowhere where it is a leaf
 abbrev pub AreChildrenAt : List ℕ → ℕ → ℕ → Type 0
-AreChildrenAt pairs a children = ((children ≡ nowhere) × (has_children pairs a ≡ false)) ⊎ ((children ≢ nowhere) × (slice_index pairs children ≡ a))
+AreChildrenAt pairs a children =
+    ((children ≡ nowhere) × (has_children pairs a ≡ false)) ⊎ ((children ≢ nowhere) × (slice_index pairs children ≡ a))
 
 -- Live slots with right links to parents, to children and across edges. Whether the set is closed under mates is
 -- not said: a forest stays one when one half of a diamond is split.
@@ -79,15 +82,18 @@ pub record MayHalve (pairs : List ℕ) (s k a mate : ℕ) : Type 0 where
   pub leaf : has_children pairs a ≡ false
   pub within : k < length pairs
   pub free : slice_index pairs k ≡ 0
-  pub childless : 1 ≤ mate_of a → (has_children pairs (2 * mate_of a) ≡ false) × (has_children pairs (2 * mate_of a + 1) ≡ false)
+  pub childless : 1 ≤ mate_of a →
+      (has_children pairs (2 * mate_of a) ≡ false) × (has_children pairs (2 * mate_of a + 1) ≡ false)
   pub alone : mate ≡ nowhere → has_children pairs (mate_of a) ≡ false
   pub paired : mate ≢ nowhere → (1 ≤ mate_of a) × (slice_index pairs mate ≡ mate_of a)
 
 -- the two edges between a's new children and those of its mate, where these have a pair already
 pub record AreInnerLinks (pairs : List ℕ) (before after : List Node) (k a mate : ℕ) : Type 0 where
   pub there : (r e : ℕ) → IsLive pairs r → owner (has_children pairs) e ≡ address_at pairs r → mate ≢ nowhere →
-      ((mate_of e ≡ 4 * a + 1 → edge_link (node_at after r) (address_at pairs r) e ≡ 2 * k) × (mate_of e ≡ 4 * a + 2 → edge_link (node_at after r) (address_at pairs r) e ≡ 2 * k + 1))
-  pub others : (r e : ℕ) → IsLive pairs r → owner (has_children pairs) e ≡ address_at pairs r → mate_of e ≢ 4 * a + 1 → mate_of e ≢ 4 * a + 2 →
+      ((mate_of e ≡ 4 * a + 1 → edge_link (node_at after r) (address_at pairs r) e ≡ 2 * k)
+      × (mate_of e ≡ 4 * a + 2 → edge_link (node_at after r) (address_at pairs r) e ≡ 2 * k + 1))
+  pub others : (r e : ℕ) → IsLive pairs r → owner (has_children pairs) e ≡ address_at pairs r →
+      mate_of e ≢ 4 * a + 1 → mate_of e ≢ 4 * a + 2 →
       edge_link (node_at after r) (address_at pairs r) e ≡ edge_link (node_at before r) (address_at pairs r) e
   pub children : (r : ℕ) → (node_at after r).children ≡ (node_at before r).children
 
@@ -95,7 +101,12 @@ pub record AreInnerLinks (pairs : List ℕ) (before after : List Node) (k a mate
 pub record ArePlacedNodes (before after : List Node) (s k : ℕ) (one two : Node) : Type 0 where
   pub left : node_at after (2 * k) ≡ one
   pub right : node_at after (2 * k + 1) ≡ two
-  pub own : node_at after s ≡ record { children = k; base = (node_at before s).base; left = (node_at before s).left; right = (node_at before s).right }
+  pub own : node_at after s ≡ record {
+    children = k;
+    base = (node_at before s).base;
+    left = (node_at before s).left;
+    right = (node_at before s).right;
+  }
   pub others : (r : ℕ) → r / 2 ≢ k → r ≢ s → node_at after r ≡ node_at before r
 
 -- what the fields of the nodes are

@@ -2,8 +2,8 @@
 use Rattle.std.specs.Prelude.{◌≡◌, ◌⊎◌, ℕ, ◌+◌, ◌^◌, ◌<◌, ◌≤◌, ◌++◌, List, [], ◌∷◌, slice_index, length}
 use Rattle.edge_laws.specs.Slots.{room_of}
 
--- What a contract sees of a pool: the grid, the greatest number of leaves, the pairs of slots, and how many triangles were
--- split and merged so far.
+-- What a contract sees of a pool: the grid, the greatest number of leaves, the pairs of slots, and how many triangles
+-- were split and merged so far.
 pub record PoolState : Type 0 where
   pub n : ℕ
   pub most : ℕ
@@ -37,8 +37,10 @@ pub record IsFree (pairs : List ℕ) (free : FreeState) : Type 0 where
   pub within : free.unused ≤ length pairs
   pub count : length free.returned + length pairs ≡ room_of pairs + free.unused
   pub fresh : (k : ℕ) → free.unused ≤ k → slice_index pairs k ≡ 0
-  pub vacant : (i : ℕ) → i < length free.returned → (slice_index free.returned i < free.unused) × (slice_index pairs (slice_index free.returned i) ≡ 0)
-  pub distinct : (i j : ℕ) → i < length free.returned → j < length free.returned → slice_index free.returned i ≡ slice_index free.returned j → i ≡ j
+  pub vacant : (i : ℕ) → i < length free.returned →
+      (slice_index free.returned i < free.unused) × (slice_index pairs (slice_index free.returned i) ≡ 0)
+  pub distinct : (i j : ℕ) → i < length free.returned → j < length free.returned →
+      slice_index free.returned i ≡ slice_index free.returned j → i ≡ j
 
 -- what is seen of the nodes: the grid, and the pairs of slots
 pub record NodesState : Type 0 where

@@ -1,5 +1,6 @@
 -- The vertices of the mesh of a closed set.
-use Rattle.std.proofs.Common.{◌≡◌, ℕ, zero, suc, ◌+◌, ◌-◌, ◌*◌, ◌/◌, ◌%◌, ◌^◌, ◌≤◌, ◌⊎◌, ◌||◌, ◌↔◌, inl, inr, Bool, true, false, IsTrue, refl, sym, ◌∙◌, ap₂, subst, arith, ⊎_elim}
+use Rattle.std.proofs.Common.{◌≡◌, ℕ, zero, suc, ◌+◌, ◌-◌, ◌*◌, ◌/◌, ◌%◌, ◌^◌, ◌≤◌, ◌⊎◌, ◌||◌, ◌↔◌, inl, inr, Bool}
+use Rattle.std.proofs.Common.{true, false, IsTrue, refl, sym, ◌∙◌, ap₂, subst, arith, ⊎_elim}
 use Rattle.std.proofs.lemmas.Bool.{cases_Bool, both_ways, or_left, or_right, or_cases}
 use Rattle.std.proofs.lemmas.List.Elements.{All-contains}
 use Rattle.mesh_defs.specs.declared.point.Point.{Point}
@@ -11,9 +12,11 @@ use Rattle.mesh_defs.specs.MeshText.{is_same_point, has_corner}
 use Rattle.mesh_defs.proofs.ListLemmas.{Contains-in, Any-in, list_any-in}
 use Rattle.mesh_defs.proofs.PointLemmas.{same_point-eq, eq-same_point}
 use Rattle.mesh_defs.proofs.TestLemmas.{same_tests}
-use Rattle.bintree_laws.proofs.CornerLemmas.{corners_of-2, corners_of-3, corners_of-left, corners_of-right, IsWithin-corners_of}
+use Rattle.bintree_laws.proofs.CornerLemmas.{corners_of-2, corners_of-3, corners_of-left, corners_of-right}
+use Rattle.bintree_laws.proofs.CornerLemmas.{IsWithin-corners_of}
 use Rattle.bintree_laws.proofs.LatticeLemmas.{HasEvenBase-corners_of}
-use Rattle.tiling_laws.proofs.DescentLemmas.{IsDown, IsDown-left, IsDown-right, IsDown-splittable, IsDown-2, IsDown-3, IsAddress-down, IsAddress-splittable}
+use Rattle.tiling_laws.proofs.DescentLemmas.{IsDown, IsDown-left, IsDown-right, IsDown-splittable, IsDown-2, IsDown-3}
+use Rattle.tiling_laws.proofs.DescentLemmas.{IsAddress-down, IsAddress-splittable}
 use Rattle.tiling_laws.proofs.OrientationLemmas.{apart}
 use Rattle.tiling_laws.proofs.ConformityLemmas.{IsLeaf, IsLeaf-leaves_of, same_middle}
 use Rattle.closure_laws.proofs.ClosureLemmas.{leaf-outer}
@@ -23,7 +26,8 @@ use Rattle.vertex_laws.specs.Vertex.{is_mesh_vertex, centre_of, IsSquareCorner, 
 
 -- a corner passes the test of corners
 pub corner-has : (c : Corners) (p : Point) → IsCorner c p → has_corner c p ≡ true
-corner-has c p (inl e) = or_left (is_same_point p c.apex) (is_same_point p c.v0 || is_same_point p c.v1) (eq-same_point p c.apex e)
+corner-has c p (inl e) =
+    or_left (is_same_point p c.apex) (is_same_point p c.v0 || is_same_point p c.v1) (eq-same_point p c.apex e)
 corner-has c p (inr (inl e)) = or_right (is_same_point p c.apex) (is_same_point p c.v0 || is_same_point p c.v1)
     (or_left (is_same_point p c.v0) (is_same_point p c.v1) (eq-same_point p c.v0 e))
 corner-has c p (inr (inr e)) = or_right (is_same_point p c.apex) (is_same_point p c.v0 || is_same_point p c.v1)
@@ -74,7 +78,8 @@ corner_below n has (suc levels) v p closed down parent corner = ⊎_elim
     (λ right. corner_below n has levels (2 * v + 1) p closed (IsDown-right n levels v down)
     (λ _. let half : (2 * v + 1) / 2 ≡ v = omega arith in subst (λ z. IsTrue (has z)) (sym half) member) right)
     (corner_of_child n v p down.low corner))
-    (λ (whole : has v ≡ false). corner_of_leaf n has (suc levels) v p closed down parent (λ is. both_ways (has v) whole is) corner)
+    (λ (whole : has v ≡ false). corner_of_leaf n has (suc levels) v p closed down parent
+    (λ is. both_ways (has v) whole is) corner)
     (cases_Bool (has v))
 
 -- the centre of a member is a vertex
@@ -157,7 +162,8 @@ centre-member n has a closed s = same_tests (is_mesh_vertex n (leaves_of n has) 
 pub vertex-same : (n : ℕ) (has other : ℕ → Bool) (p : Point) → IsClosed n has → IsClosed n other →
     ((a : ℕ) → IsSplittable n a → centre_of n a ≡ p → has a ≡ other a) →
     is_mesh_vertex n (leaves_of n has) p ≡ is_mesh_vertex n (leaves_of n other) p
-vertex-same n has other p closed too agree = same_tests (is_mesh_vertex n (leaves_of n has) p) (is_mesh_vertex n (leaves_of n other) p)
+vertex-same n has other p closed too agree =
+    same_tests (is_mesh_vertex n (leaves_of n has) p) (is_mesh_vertex n (leaves_of n other) p)
     (carry has other closed too agree)
     (carry other has too closed (λ a s e. sym (agree a s e)))
   where

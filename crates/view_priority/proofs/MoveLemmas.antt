@@ -42,7 +42,8 @@ distance_of-moved roots box from to order =
     let i = unsigned_abs (to.x -ℤ from.x) in
     let j = unsigned_abs (to.y -ℤ from.y) in
     let k = unsigned_abs (to.z -ℤ from.z) in
-    let longer = squares _ _ _ _ _ _ (gap-moved from.x to.x box.x0 box.x1 order.x) (gap-moved from.y to.y box.y0 box.y1 order.y)
+    let longer =
+    squares _ _ _ _ _ _ (gap-moved from.x to.x box.x0 box.x1 order.x) (gap-moved from.y to.y box.y0 box.y1 order.y)
     (gap-moved from.z to.z box.z0 box.z1 order.z) in
     let limit = root-moved _ _ _ i j k (root_of (squared_distance box from)) root_from.next_square_above in
     root-at_most (squared_distance box to) (root_of (squared_distance box to))
@@ -57,6 +58,7 @@ axis-moved : (v w u : ℤ) → unsigned_abs (w -ℤ v) ≤ unsigned_abs (u -ℤ 
 axis-moved v w u = grind (arith, ints)
 
 -- a way over a third camera is no shorter
-pub move_length-two : (from between to : CameraAt) → move_length from to ≤ move_length from between + move_length between to
+pub move_length-two : (from between to : CameraAt) →
+    move_length from to ≤ move_length from between + move_length between to
 move_length-two from between to =
     omega (arith, axis-moved from.x to.x between.x, axis-moved from.y to.y between.y, axis-moved from.z to.z between.z)

@@ -4,7 +4,8 @@ use Rattle.std.proofs.Math.Nat.{mul-le-mul}
 use Rattle.std.proofs.lemmas.Int.{ints}
 use Rattle.mesh_defs.specs.declared.point.Corners.{Corners}
 use Rattle.mesh_defs.specs.Triangle.{corners_of, child}
-use Rattle.mesh_defs.specs.BoundingBox.{BoundingBox, CameraAt, IsRoot, gap, squared_distance, root_of, distance_of, box_of, least, greatest, low_of, high_of, least_of_3, greatest_of_3}
+use Rattle.mesh_defs.specs.BoundingBox.{BoundingBox, CameraAt, IsRoot, gap, squared_distance, root_of, distance_of}
+use Rattle.mesh_defs.specs.BoundingBox.{box_of, least, greatest, low_of, high_of, least_of_3, greatest_of_3}
 use Rattle.cull_marks.specs.Nesting.{IsInside, IsOrdered}
 use Rattle.view_priority.proofs.RootLemmas.{root-order}
 use Rattle.view_priority.proofs.MoveLemmas.{squares}
@@ -20,7 +21,8 @@ pub distance_of-inside : ((s : ℕ) → IsRoot s (root_of s)) → (inner outer :
     IsInside inner outer → distance_of outer camera ≤ distance_of inner camera
 unfolding distance_of
 distance_of-inside roots inner outer camera i =
-    let nearer = squares _ _ _ _ _ _ (gap-inside camera.x inner.x0 inner.x1 outer.x0 outer.x1 i.x_low i.x_order i.x_high)
+    let nearer =
+    squares _ _ _ _ _ _ (gap-inside camera.x inner.x0 inner.x1 outer.x0 outer.x1 i.x_low i.x_order i.x_high)
     (gap-inside camera.y inner.y0 inner.y1 outer.y0 outer.y1 i.y_low i.y_order i.y_high)
     (gap-inside camera.z inner.z0 inner.z1 outer.z0 outer.z1 i.z_low i.z_order i.z_high) in
     root-order (squared_distance outer camera) (squared_distance inner camera)

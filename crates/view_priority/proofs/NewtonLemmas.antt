@@ -55,7 +55,8 @@ next-less s x less = by_cases (cases_lt ((x + s / x) / 2) x)
 
 -- ---- the estimate
 
--- half the number of binary digits is the exponent of a power of 2 that is at most 2 ^ 31, over which the number is less than that
+-- half the number of binary digits is the exponent of a power of 2 that is at most 2 ^ 31, over which the number is
+-- less than that
 pub half_digits : (s : ℕ) → s < 2 ^ 62 →
     ((64 - count_leading_zeros 64 s) / 2 ≤ 31) × (s < 2 ^ ((64 - count_leading_zeros 64 s) / 2) * 2 ^ 31)
 half_digits s small = by_length (leading_length 64 s (omega arith))

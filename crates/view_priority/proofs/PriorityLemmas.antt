@@ -1,5 +1,6 @@
 -- Priorities of children and parents, and of one triangle from two cameras.
-use Rattle.std.proofs.Common.{◌≡◌, ◌⊎◌, inl, inr, ℕ, ◌+◌, ◌-◌, ◌*◌, ◌/◌, ◌%◌, ◌<◌, ◌≤◌, ◌^◌, List, subst, ℤ, pos, ◌≤ℤ◌, ◌-ℤ◌, unsigned_abs, refl, sym, ◌∙◌, arith}
+use Rattle.std.proofs.Common.{◌≡◌, ◌⊎◌, inl, inr, ℕ, ◌+◌, ◌-◌, ◌*◌, ◌/◌, ◌%◌, ◌<◌, ◌≤◌, ◌^◌, List, subst, ℤ, pos, ◌≤ℤ◌}
+use Rattle.std.proofs.Common.{◌-ℤ◌, unsigned_abs, refl, sym, ◌∙◌, arith}
 use Rattle.std.proofs.lemmas.Bool.{cases_lt}
 use Rattle.std.proofs.lemmas.Int.{ints}
 use Rattle.mesh_defs.specs.declared.mark.Mark.{Mark}
@@ -71,7 +72,8 @@ pub as_box-is : (c : Cuboid) (b : BoundingBox) → c.x0 ≡ b.x0 → c.x1 ≡ b.
 as_box-is c b x0 x1 y0 y1 z0 z1 = rw (x0, x1, y0, y1, z0, z1) refl
 
 -- a cuboid from 0 to 2^21, whose ends are in order, lies within reach
-pub as_box-within_reach : (c : Cuboid) (b : BoundingBox) → as_box c ≡ b → IsOrdered b → pos 0 ≤ℤ c.x0 → pos 0 ≤ℤ c.y0 → pos 0 ≤ℤ c.z0 →
+pub as_box-within_reach : (c : Cuboid) (b : BoundingBox) → as_box c ≡ b → IsOrdered b → pos 0 ≤ℤ c.x0 →
+    pos 0 ≤ℤ c.y0 → pos 0 ≤ℤ c.z0 →
     c.x1 ≤ℤ pos (2 ^ 21) → c.y1 ≤ℤ pos (2 ^ 21) → c.z1 ≤ℤ pos (2 ^ 21) → IsWithinReach (2 ^ 21) (as_box c)
 as_box-within_reach c b is ordered x_from y_from z_from x_small y_small z_small =
     let order : IsOrdered (as_box c) = subst IsOrdered (sym is) ordered in
@@ -121,7 +123,8 @@ module _ (s : SceneState) (to : CameraAt) (t slack : ℕ)
   priority_seen-below_hi within =
       let back = farther (box_of s.grid.n s.grid.heights s.view.spacing t) to s.view.camera ordered in
       let same = move_length-swapped s.view.camera to in
-      seen_ratio-order (mark_of s.view.planes (box_of s.grid.n s.grid.heights s.view.spacing t)) _ _ _ _ (omega arith) (omega arith)
+      seen_ratio-order (mark_of s.view.planes (box_of s.grid.n s.grid.heights s.view.spacing t)) _ _ _ _
+      (omega arith) (omega arith)
 
   -- and at least that at the distance and the slack
   pub priority_seen-above_lo : move_length s.view.camera to ≤ slack →
@@ -129,4 +132,5 @@ module _ (s : SceneState) (to : CameraAt) (t slack : ℕ)
   unfolding priority_of priority_at
   priority_seen-above_lo within =
       let there = farther (box_of s.grid.n s.grid.heights s.view.spacing t) s.view.camera to ordered in
-      seen_ratio-order (mark_of s.view.planes (box_of s.grid.n s.grid.heights s.view.spacing t)) _ _ _ _ (omega arith) (omega arith)
+      seen_ratio-order (mark_of s.view.planes (box_of s.grid.n s.grid.heights s.view.spacing t)) _ _ _ _
+      (omega arith) (omega arith)

@@ -1,5 +1,6 @@
 -- Which points a triangle holds: those of its children, and of a finest one its corners alone.
-use Rattle.std.proofs.Common.{◌≡◌, ℕ, suc, ◌+◌, ◌-◌, ◌*◌, ◌/◌, ◌^◌, ◌<◌, ◌≤◌, ◌⊎◌, ◌↔◌, Bool, true, false, ◌&&◌, ◌||◌, refl, ap, ◌∙◌, arith, ⊎_elim, inl, inr}
+use Rattle.std.proofs.Common.{◌≡◌, ℕ, suc, ◌+◌, ◌-◌, ◌*◌, ◌/◌, ◌^◌, ◌<◌, ◌≤◌, ◌⊎◌, ◌↔◌, Bool, true, false, ◌&&◌, ◌||◌}
+use Rattle.std.proofs.Common.{refl, ap, ◌∙◌, arith, ⊎_elim, inl, inr}
 use Rattle.std.proofs.lemmas.Bool.{cases_lt, leb-true, le-leb, and_parts}
 use Rattle.std.specs.Cmp.Derive.{both_true}
 use Rattle.mesh_defs.specs.declared.point.Point.{Point}
@@ -60,7 +61,8 @@ pub record IsHeld (c : Corners) (r : Point) : Type 0 where
 
 pub read : (c : Corners) (r : Point) → is_in_closed c r ≡ true → IsHeld c r
 read c r h =
-    let legs : (is_left_or_on r c.apex c.v0 ≡ true) × ((is_left_or_on r c.v0 c.v1 && is_left_or_on r c.v1 c.apex) ≡ true) =
+    let legs : (is_left_or_on r c.apex c.v0 ≡ true)
+    × ((is_left_or_on r c.v0 c.v1 && is_left_or_on r c.v1 c.apex) ≡ true) =
     and_parts (is_left_or_on r c.apex c.v0) (is_left_or_on r c.v0 c.v1 && is_left_or_on r c.v1 c.apex) h in
     let rest : (is_left_or_on r c.v0 c.v1 ≡ true) × (is_left_or_on r c.v1 c.apex ≡ true) =
     and_parts (is_left_or_on r c.v0 c.v1) (is_left_or_on r c.v1 c.apex) legs.1 in

@@ -1,6 +1,7 @@
 -- What a change of heights leaves: a triangle lies in its bounding rectangle, and its thickness and box depend
 -- on the points that it holds alone.
-use Rattle.std.proofs.Common.{◌≡◌, ℕ, zero, suc, ◌+◌, ◌-◌, ◌*◌, ◌^◌, ◌<◌, ◌≤◌, Bool, true, false, cond, List, [], ◌∷◌, map, refl, ap, ◌∙◌, arith, subst}
+use Rattle.std.proofs.Common.{◌≡◌, ℕ, zero, suc, ◌+◌, ◌-◌, ◌*◌, ◌^◌, ◌<◌, ◌≤◌, Bool, true, false, cond, List, [], ◌∷◌}
+use Rattle.std.proofs.Common.{map, refl, ap, ◌∙◌, arith, subst}
 use Rattle.std.proofs.lemmas.Bool.{or_left, or_right}
 use Rattle.std.proofs.lemmas.Nat.{pow_pos}
 use Rattle.std.specs.List.{filter}
@@ -27,7 +28,8 @@ in-rectangle c r d some h held = let m = mean-held c r d h held in IsInRectangle
 
 pub IsInRectangle-held : AddressLaws → (n a : ℕ) (r : Point) → 2 ≤ a → level_of a ≤ 2 * n → holds_point n a r ≡ true →
     IsInRectangle (corners_of n a) r
-IsInRectangle-held laws n a r low fits held = in-rectangle (corners_of n a) r (2 ^ (2 * n - level_of a)) (pow_pos (2 * n - level_of a))
+IsInRectangle-held laws n a r low fits held =
+    in-rectangle (corners_of n a) r (2 ^ (2 * n - level_of a)) (pow_pos (2 * n - level_of a))
     (HasArea-corners_of n a fits) held
 
 -- a held point is a grid point
@@ -46,12 +48,16 @@ held-y laws n a r low fits held =
 -- ---- what children hold
 
 -- a triangle holds what its left child holds
-pub held-left : AddressLaws → (n a : ℕ) → IsSplittable n a → (r : Point) → holds_point n (2 * a) r ≡ true → holds_point n a r ≡ true
-held-left laws n a split r held = holds_point-children laws n a split r ∙ or_left (holds_point n (2 * a) r) (holds_point n (2 * a + 1) r) held
+pub held-left : AddressLaws → (n a : ℕ) → IsSplittable n a → (r : Point) → holds_point n (2 * a) r ≡ true →
+    holds_point n a r ≡ true
+held-left laws n a split r held =
+    holds_point-children laws n a split r ∙ or_left (holds_point n (2 * a) r) (holds_point n (2 * a + 1) r) held
 
 -- a triangle holds what its right child holds
-pub held-right : AddressLaws → (n a : ℕ) → IsSplittable n a → (r : Point) → holds_point n (2 * a + 1) r ≡ true → holds_point n a r ≡ true
-held-right laws n a split r held = holds_point-children laws n a split r ∙ or_right (holds_point n (2 * a) r) (holds_point n (2 * a + 1) r) held
+pub held-right : AddressLaws → (n a : ℕ) → IsSplittable n a → (r : Point) → holds_point n (2 * a + 1) r ≡ true →
+    holds_point n a r ≡ true
+held-right laws n a split r held =
+    holds_point-children laws n a split r ∙ or_right (holds_point n (2 * a) r) (holds_point n (2 * a + 1) r) held
 
 -- ---- boxes
 
@@ -103,7 +109,8 @@ middle-held laws n a split =
     let P : Point → Type 0 = λ r. holds_point n a r ≡ true in
     subst P at (held-left laws n a split (corners_of n (2 * a)).apex held)
 
-deviation-same : AddressLaws → (n : ℕ) (heights others : List ℕ) (a : ℕ) → IsSplittable n a → AgreesOn n heights others a →
+deviation-same : AddressLaws → (n : ℕ) (heights others : List ℕ) (a : ℕ) → IsSplittable n a →
+    AgreesOn n heights others a →
     deviation n heights (corners_of n a) ≡ deviation n others (corners_of n a)
 deviation-same laws n heights others a split agrees =
     let c : Corners = corners_of n a in
@@ -113,7 +120,8 @@ deviation-same laws n heights others a split agrees =
     apart-same _ _ _ _ _ _ (agrees (midpoint c.v0 c.v1) (middle-held laws n a split)) (agrees c.v0 (v0-held c _ area))
     (agrees c.v1 (v1-held c _ area))
 
-thickness_under-same : AddressLaws → (levels n : ℕ) (heights others : List ℕ) (a : ℕ) → 2 ≤ a → level_of a + levels ≡ 2 * n →
+thickness_under-same : AddressLaws → (levels n : ℕ) (heights others : List ℕ) (a : ℕ) → 2 ≤ a →
+    level_of a + levels ≡ 2 * n →
     AgreesOn n heights others a → thickness_under levels n heights a ≡ thickness_under levels n others a
 thickness_under-same laws zero n heights others a some level agrees = refl
 thickness_under-same laws (suc levels) n heights others a some level agrees =

@@ -1,5 +1,6 @@
 -- The least and the greatest value over the points that pass a test.
-use Rattle.std.proofs.Common.{◌≡◌, ℕ, ◌<◌, ◌≤◌, Bool, true, false, cond, ◌||◌, min, max, List, [], ◌∷◌, length, map, refl, arith, ⊎_elim}
+use Rattle.std.proofs.Common.{◌≡◌, ℕ, ◌<◌, ◌≤◌, Bool, true, false, cond, ◌||◌, min, max, List, [], ◌∷◌, length, map}
+use Rattle.std.proofs.Common.{refl, arith, ⊎_elim}
 use Rattle.std.specs.List.{filter}
 use Rattle.mesh_defs.specs.declared.point.Point.{Point}
 use Rattle.mesh_defs.specs.BoundingBox.{least, greatest}
@@ -33,7 +34,8 @@ split-step false true h k i j e = omega arith
 split-step false false h k i j e = e
 
 -- over the points that pass one of two tests
-pub under-split : (b : ℕ) (f : Point → ℕ) (p q r : Point → Bool) → ((x : Point) → p x ≡ (q x || r x)) → (xs : List Point) →
+pub under-split : (b : ℕ) (f : Point → ℕ) (p q r : Point → Bool) →
+    ((x : Point) → p x ≡ (q x || r x)) → (xs : List Point) →
     under b (map f (filter p xs)) ≡ min (under b (map f (filter q xs))) (under b (map f (filter r xs)))
 under-split b f p q r e [] = omega arith
 under-split b f p q r e (x ∷ xs) = rw (
@@ -64,7 +66,8 @@ skip-step true h k m le = omega arith
 skip-step false h k m le = le
 
 -- a point that passes has at least the least value
-pub under-le : (b : ℕ) (f : Point → ℕ) (p : Point → Bool) (x : Point) → p x ≡ true → (xs : List Point) → IsPointIn x xs →
+pub under-le : (b : ℕ) (f : Point → ℕ) (p : Point → Bool) (x : Point) → p x ≡ true →
+    (xs : List Point) → IsPointIn x xs →
     under b (map f (filter p xs)) ≤ f x
 under-le b f p x passes [] h = absurd h
 under-le b f p x passes (y ∷ ys) h = rw (under-cond b f (p y) y (filter p ys)) (⊎_elim
@@ -96,7 +99,8 @@ greatest-split f p q r e (x ∷ xs) = rw (
 
 -- ---- some point passes
 
-some-step : (f : Point → ℕ) (t : Bool) (x : Point) (xs : List Point) → t ≡ true → 0 < length (map f (cond t (x ∷ xs) xs))
+some-step : (f : Point → ℕ) (t : Bool) (x : Point) (xs : List Point) → t ≡ true →
+    0 < length (map f (cond t (x ∷ xs) xs))
 some-step f true x xs e = omega arith
 some-step f false x xs e = absurd (cc)
 

@@ -1,5 +1,6 @@
 -- Places in the list of heights: of a base's midpoint half the sum of its ends' places; all within the list.
-use Rattle.std.proofs.Common.{◌≡◌, ℕ, ◌+◌, ◌-◌, ◌*◌, ◌/◌, ◌%◌, ◌^◌, ◌<◌, ◌≤◌, List, length, refl, ap, arith, slice_index}
+use Rattle.std.proofs.Common.{◌≡◌, ℕ, ◌+◌, ◌-◌, ◌*◌, ◌/◌, ◌%◌, ◌^◌, ◌<◌, ◌≤◌, List, length, refl, ap, arith}
+use Rattle.std.proofs.Common.{slice_index}
 use Rattle.std.proofs.Math.Nat.{mul-le-mul_left}
 use Rattle.mesh_defs.specs.declared.point.Corners.{Corners}
 use Rattle.mesh_defs.specs.HeightField.{HeightField, IsHeightField, place_of}
@@ -29,7 +30,8 @@ pub record AreWithin (p : Places) (count : ℕ) : Type 0 where
   pub v0 : p.v0 < count
   pub v1 : p.v1 < count
 
-pub AreWithin-at : AddressLaws → (g : HeightField) (a : ℕ) (p : Places) → IsHeightField g → IsAt g.n (corners_of g.n a) p →
+pub AreWithin-at : AddressLaws → (g : HeightField) (a : ℕ) (p : Places) → IsHeightField g →
+    IsAt g.n (corners_of g.n a) p →
     AreWithin p (length g.heights)
 AreWithin-at laws g a p valid at =
     let c : Corners = corners_of g.n a in
@@ -42,7 +44,8 @@ AreWithin-at laws g a p valid at =
 
 -- the place of the midpoint of a triangle's base
 pub middle-at : AddressLaws → (n a : ℕ) (p : Places) → level_of a < 2 * n → IsAt n (corners_of n a) p →
-    (p.v0 + p.v1) / 2 ≡ place_of n (midpoint (corners_of n a).v0 (corners_of n a).v1).x (midpoint (corners_of n a).v0 (corners_of n a).v1).y
+    (p.v0 + p.v1) / 2 ≡ place_of n (midpoint (corners_of n a).v0 (corners_of n a).v1).x
+    (midpoint (corners_of n a).v0 (corners_of n a).v1).y
 middle-at laws n a p coarse at =
     let c : Corners = corners_of n a in
     let w : IsWithin (2 ^ n) c = laws.within n a in
@@ -50,7 +53,8 @@ middle-at laws n a p coarse at =
     rw (at.v0, at.v1) (place-halfway (2 ^ n) c.v0.x c.v0.y c.v1.x c.v1.y w.v0_y w.v1_y even.x even.y)
 
 -- it lies within the list
-pub middle-within : AddressLaws → (g : HeightField) (a : ℕ) (p : Places) → IsHeightField g → IsAt g.n (corners_of g.n a) p →
+pub middle-within : AddressLaws → (g : HeightField) (a : ℕ) (p : Places) → IsHeightField g →
+    IsAt g.n (corners_of g.n a) p →
     (p.v0 + p.v1) / 2 < length g.heights
 middle-within laws g a p valid at =
     let w : AreWithin p (length g.heights) = AreWithin-at laws g a p valid at in omega (arith, w.v0, w.v1)

@@ -1,5 +1,6 @@
 -- The least and the greatest height in a triangle: by its children, and of a finest one by its corners.
-use Rattle.std.proofs.Common.{◌≡◌, ℕ, ◌+◌, ◌-◌, ◌*◌, ◌^◌, ◌<◌, ◌≤◌, true, ◌||◌, min, max, List, map, sym, arith, ⊎_elim, subst}
+use Rattle.std.proofs.Common.{◌≡◌, ℕ, ◌+◌, ◌-◌, ◌*◌, ◌^◌, ◌<◌, ◌≤◌, true, ◌||◌, min, max, List, map, sym, arith, ⊎_elim}
+use Rattle.std.proofs.Common.{subst}
 use Rattle.std.specs.List.{filter}
 use Rattle.mesh_defs.specs.declared.point.Point.{Point}
 use Rattle.mesh_defs.specs.declared.point.Corners.{Corners}
@@ -9,7 +10,8 @@ use Rattle.mesh_defs.specs.BoundingBox.{points_of, holds_point, low_of, high_of,
 use Rattle.bintree_laws.specs.Corners.{IsWithin}
 use Rattle.wedgie_tree.proofs.ExtremeLemmas.{under, under-split, le-under, under-le, greatest-split, least-bounded}
 use Rattle.mesh_defs.proofs.PointLemmas.{IsPointIn, IsPointIn-points_of, greatest-le, le-greatest}
-use Rattle.wedgie_tree.proofs.AreaLemmas.{AddressLaws, is_in_closed-children, apex-held, v0-held, v1-held, finest-corner}
+use Rattle.wedgie_tree.proofs.AreaLemmas.{AddressLaws, is_in_closed-children, apex-held, v0-held, v1-held}
+use Rattle.wedgie_tree.proofs.AreaLemmas.{finest-corner}
 use Rattle.bintree_laws.proofs.WeightLemmas.{HasArea, HasArea-corners_of}
 
 -- the apex is a grid point that the triangle holds
@@ -23,7 +25,8 @@ apex-passes laws n a low fits = apex-held (corners_of n a) (2 ^ (2 * n - level_o
 
 -- the least height with any bound above it
 low_of-bounded : AddressLaws → (n : ℕ) (heights : List ℕ) (a b : ℕ) → 2 ≤ a → level_of a ≤ 2 * n →
-    low_of n heights a ≤ b → low_of n heights a ≡ under b (map (height_of n heights) (filter (holds_point n a) (points_of n)))
+    low_of n heights a ≤ b →
+    low_of n heights a ≡ under b (map (height_of n heights) (filter (holds_point n a) (points_of n)))
 unfolding low_of
 low_of-bounded laws n heights a b low fits le = least-bounded b (height_of n heights) (holds_point n a)
     (corners_of n a).apex (apex-passes laws n a low fits) (points_of n) (apex-in laws n a) le
@@ -108,11 +111,17 @@ corners-between laws n heights a some finest =
     let v0 : IsPointIn c.v0 (points_of n) = IsPointIn-points_of n c.v0 w.v0_x w.v0_y in
     let v1 : IsPointIn c.v1 (points_of n) = IsPointIn-points_of n c.v1 w.v1_x w.v1_y in
     record {
-      apex_low = omega (arith, is, under-le (low_of n heights a) f (holds_point n a) c.apex (apex-held c 1 area) (points_of n) apex);
+      apex_low = omega (
+        arith,
+        is,
+        under-le (low_of n heights a) f (holds_point n a) c.apex (apex-held c 1 area) (points_of n) apex,
+      );
       apex_high = le-greatest f (holds_point n a) c.apex (apex-held c 1 area) (points_of n) apex;
-      v0_low = omega (arith, is, under-le (low_of n heights a) f (holds_point n a) c.v0 (v0-held c 1 area) (points_of n) v0);
+      v0_low =
+          omega (arith, is, under-le (low_of n heights a) f (holds_point n a) c.v0 (v0-held c 1 area) (points_of n) v0);
       v0_high = le-greatest f (holds_point n a) c.v0 (v0-held c 1 area) (points_of n) v0;
-      v1_low = omega (arith, is, under-le (low_of n heights a) f (holds_point n a) c.v1 (v1-held c 1 area) (points_of n) v1);
+      v1_low =
+          omega (arith, is, under-le (low_of n heights a) f (holds_point n a) c.v1 (v1-held c 1 area) (points_of n) v1);
       v1_high = le-greatest f (holds_point n a) c.v1 (v1-held c 1 area) (points_of n) v1;
     }
 

@@ -13,7 +13,8 @@ use Rattle.bintree_laws.proofs.AreaLemmas.{made-area}
 use Rattle.wedgie_tree.proofs.EditLemmas.{IsInRectangle-held, held-x, held-y, held-left, held-right, IsWedge-same}
 
 -- a triangle whose rectangle shares no point with the area holds none of its points
-pub IsClearOf-apart : AddressLaws → (n a : ℕ) (area : Area) (c : Corners) → c ≡ corners_of n a → 2 ≤ a → level_of a ≤ 2 * n →
+pub IsClearOf-apart : AddressLaws → (n a : ℕ) (area : Area) (c : Corners) → c ≡ corners_of n a →
+    2 ≤ a → level_of a ≤ 2 * n →
     (MeetsArea c area → ⊥) → IsClearOf n area a
 IsClearOf-apart laws n a area c is some fits apart = λ r held in_area.
     let within : IsInRectangle (corners_of n a) r = IsInRectangle-held laws n a r some fits held in
@@ -40,12 +41,14 @@ AllUnder-clear laws g area table right (suc levels) a some level clear =
     )
 
 -- entries that are right stay right along a walk
-pub IsRightOff-kept : (g : HeightField) (area : Area) (one two : List Wedge) → ((a : ℕ) → HasEntry g one a → HasEntry g two a) →
+pub IsRightOff-kept : (g : HeightField) (area : Area) (one two : List Wedge) →
+    ((a : ℕ) → HasEntry g one a → HasEntry g two a) →
     IsRightOff g area one → IsRightOff g area two
 IsRightOff-kept g area one two keeps right = λ a kept clear. keeps a (right a kept clear)
 
 -- after heights of an area changed, the entries of the triangles that hold none of its points are right
-pub IsRightOff-edited : AddressLaws → (g h : HeightField) (area : Area) (table : List Wedge) → g.n ≡ h.n → IsTable g table →
+pub IsRightOff-edited : AddressLaws → (g h : HeightField) (area : Area) (table : List Wedge) →
+    g.n ≡ h.n → IsTable g table →
     ((i j : ℕ) → i ≤ 2 ^ g.n → j ≤ 2 ^ g.n → (is_in_area area i j ≡ true → ⊥) →
     height_at g.n h.heights i j ≡ height_at g.n g.heights i j) → IsRightOff h area table
 IsRightOff-edited laws g h area table same right others = λ a kept clear d.
@@ -56,11 +59,13 @@ IsRightOff-edited laws g h area table same right others = λ a kept clear d.
     let Clear : ℕ → Type 0 = λ n. IsClearOf n area a in
     let free : IsClearOf g.n area a = subst Clear (sym same) clear in
     IsWedge-same laws g h a (slice_index_or table a d) same some fits
-    (λ r held. sym (others r.x r.y (held-x laws g.n a r some fits held) (held-y laws g.n a r some fits held) (free r held)))
+    (λ r held.
+    sym (others r.x r.y (held-x laws g.n a r some fits held) (held-y laws g.n a r some fits held) (free r held)))
     (right.each a before d)
 
 -- after one height was set
-pub IsRightOff-set : AddressLaws → (g h : HeightField) (area : Area) (one two : List Wedge) (x y : ℕ) → area ≡ area_between x y x y →
+pub IsRightOff-set : AddressLaws → (g h : HeightField) (area : Area) (one two : List Wedge) (x y : ℕ) →
+    area ≡ area_between x y x y →
     two ≡ one → h.n ≡ g.n → IsTable g one → ((i j : ℕ) → i ≤ 2 ^ g.n → j ≤ 2 ^ g.n → (i ≡ x → j ≡ y → ⊥) →
     height_at g.n h.heights i j ≡ height_at g.n g.heights i j) → IsRightOff h area two
 IsRightOff-set laws g h area one two x y is same_table same right others =
@@ -78,7 +83,8 @@ pub IsRightOff-row : AddressLaws → (g h : HeightField) (area : Area) (one two 
 IsRightOff-row laws g h area one two x y count last is ends same_table same right others =
     let At : Area → Type 0 = λ a. IsRightOff h a two in
     let Of : List Wedge → Type 0 = λ t. IsRightOff h (area_between x y last y) t in
-    subst At (sym is) (subst Of (sym same_table) (IsRightOff-edited laws g h (area_between x y last y) one (sym same) right
+    subst At (sym is)
+    (subst Of (sym same_table) (IsRightOff-edited laws g h (area_between x y last y) one (sym same) right
     (λ i j i_in j_in out. others i j i_in j_in (λ at_y from to. out (made-area (area_between x y last y) i j
     (record { left = omega arith; right = omega arith; bottom = omega arith; top = omega arith }))))))
 

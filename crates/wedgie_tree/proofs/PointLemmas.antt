@@ -1,5 +1,6 @@
 -- A list of heights by its points: what is known of each point is known of the list in file order.
-use Rattle.std.proofs.Common.{◌≡◌, ℕ, ◌+◌, ◌-◌, ◌*◌, ◌/◌, ◌%◌, ◌^◌, ◌<◌, ◌≤◌, Bool, true, false, if◌then◌else◌, List, map, length, get_or, slice_index, ℤ, pos, ◌+ℤ◌, refl, sym, ap, ◌∙◌, arith, subst}
+use Rattle.std.proofs.Common.{◌≡◌, ℕ, ◌+◌, ◌-◌, ◌*◌, ◌/◌, ◌%◌, ◌^◌, ◌<◌, ◌≤◌, Bool, true, false, if◌then◌else◌, List}
+use Rattle.std.proofs.Common.{map, length, get_or, slice_index, ℤ, pos, ◌+ℤ◌, refl, sym, ap, ◌∙◌, arith, subst}
 use Rattle.std.proofs.lemmas.List.{ext_get_or, length-map, get_or-map}
 use Rattle.std.proofs.lemmas.List.FromFn.{length-enumerate_from, get_or-enumerate_from}
 use Rattle.std.proofs.lemmas.Nat.{div_below, mod_below}
@@ -14,7 +15,8 @@ if-held true i j k held missed = held refl
 if-held false i j k held missed = missed (λ e. absurd (cc))
 
 -- the place of the point in a place's column and row
-place-back : (side q r k : ℕ) → side ≡ side → q ≤ side → k ≡ q * (side + 1) + r → (side - (side - q)) * (side + 1) + r ≡ k
+place-back : (side q r k : ℕ) → side ≡ side → q ≤ side → k ≡ q * (side + 1) + r →
+    (side - (side - q)) * (side + 1) + r ≡ k
 place-back side q r k _ le is = let back : side - (side - q) ≡ q = omega arith in rw back (sym is)
 
 -- a list of heights that is known by its points
@@ -29,7 +31,8 @@ by_points n f old new old_count new_count each =
     (λ k in_new.
     let in_old : k < length old = omega (arith, old_count, new_count) in
     let in_pairs : k < length (enumerate_from 0 old) = omega (arith, length-enumerate_from 0 old) in
-    let row : k / side_of n < side_of n = div_below k (side_of n) (side_of n) (omega arith) (omega (arith, new_count)) in
+    let row : k / side_of n < side_of n =
+    div_below k (side_of n) (side_of n) (omega arith) (omega (arith, new_count)) in
     let column : k % side_of n < side_of n = mod_below k (side_of n) (omega arith) in
     let here : place_of n (k % side_of n) (2 ^ n - k / side_of n) ≡ k =
     place-back (2 ^ n) (k / side_of n) (k % side_of n) k refl (omega arith) (omega arith) in
@@ -51,13 +54,15 @@ made-row : (x y count i j : ℕ) → j ≡ y → x ≤ i → i < x + count → i
 made-row x y count i j row from to = grind (arith)
 
 -- a row that was put, known by its points
-pub with_row-by_points : (g : HeightField) (x y : ℕ) (row new : List ℕ) → IsHeightField g → x + length row ≤ 2 ^ g.n + 1 →
+pub with_row-by_points : (g : HeightField) (x y : ℕ) (row new : List ℕ) → IsHeightField g →
+    x + length row ≤ 2 ^ g.n + 1 →
     length new ≡ side_of g.n * side_of g.n →
     ((k : ℕ) → k < length row → height_at g.n new (x + k) y ≡ slice_index row k) →
     ((i j : ℕ) → i ≤ 2 ^ g.n → j ≤ 2 ^ g.n → (j ≡ y → x ≤ i → i < x + length row → ⊥) →
     height_at g.n new i j ≡ height_at g.n g.heights i j) → new ≡ with_row g x y row
 with_row-by_points g x y row new valid fits count there others =
-    by_points g.n (λ i j h. if is_in_row x y (length row) i j then slice_index row (i - x) else h) g.heights new valid.count count
+    by_points g.n (λ i j h. if is_in_row x y (length row) i j then slice_index row (i - x)
+    else h) g.heights new valid.count count
     (λ i j i_in j_in. if-held (is_in_row x y (length row) i j) (slice_index row (i - x)) (height_at g.n g.heights i j)
     (height_at g.n new i j)
     (λ held.
@@ -70,10 +75,12 @@ with_row-by_points g x y row new valid fits count there others =
     (λ out. others i j i_in j_in (λ at_row from to. out (made-row x y (length row) i j at_row from to))))
 
 -- no height
-pub with_row-none : (g : HeightField) (x y : ℕ) (row : List ℕ) → IsHeightField g → length row ≡ 0 → x + length row ≤ 2 ^ g.n + 1 →
+pub with_row-none : (g : HeightField) (x y : ℕ) (row : List ℕ) → IsHeightField g → length row ≡ 0 →
+    x + length row ≤ 2 ^ g.n + 1 →
     g.heights ≡ with_row g x y row
 with_row-none g x y row valid none fits =
-    with_row-by_points g x y row g.heights valid fits valid.count (λ k lt. absurd (omega arith)) (λ i j i_in j_in out. refl)
+    with_row-by_points g x y row g.heights valid fits valid.count (λ k lt. absurd (omega arith))
+    (λ i j i_in j_in out. refl)
 
 -- ---- an area
 
@@ -85,6 +92,7 @@ pub raised-by_points : (g : HeightField) (area : Area) (dz : ℤ) (new : List �
     ((i j : ℕ) → i ≤ 2 ^ g.n → j ≤ 2 ^ g.n → (is_in_area area i j ≡ true → ⊥) →
     height_at g.n new i j ≡ height_at g.n g.heights i j) → new ≡ raised_heights g area dz
 raised-by_points g area dz new valid count inside outside =
-    by_points g.n (λ i j h. if is_in_area area i j then clamped g.maxval (pos h +ℤ dz) else h) g.heights new valid.count count
+    by_points g.n (λ i j h. if is_in_area area i j then clamped g.maxval (pos h +ℤ dz)
+    else h) g.heights new valid.count count
     (λ i j i_in j_in. if-held (is_in_area area i j) (clamped g.maxval (pos (height_at g.n g.heights i j) +ℤ dz))
     (height_at g.n g.heights i j) (height_at g.n new i j) (inside i j i_in j_in) (outside i j i_in j_in))

@@ -1,5 +1,6 @@
 -- Changes of heights a point and a row at a time: what stands after some of the steps.
-use Rattle.std.proofs.Common.{◌≡◌, ℕ, ◌+◌, ◌-◌, ◌*◌, ◌^◌, ◌<◌, ◌≤◌, true, List, map, length, get_or, slice_index, All, ◌++◌, ◌∷◌, [], ℤ, pos, negsuc, ◌+ℤ◌, refl, sym, ap, ◌∙◌, arith, ⊎_elim, subst}
+use Rattle.std.proofs.Common.{◌≡◌, ℕ, ◌+◌, ◌-◌, ◌*◌, ◌^◌, ◌<◌, ◌≤◌, true, List, map, length, get_or, slice_index, All}
+use Rattle.std.proofs.Common.{◌++◌, ◌∷◌, [], ℤ, pos, negsuc, ◌+ℤ◌, refl, sym, ap, ◌∙◌, arith, ⊎_elim, subst}
 use Rattle.std.proofs.lemmas.Bool.{cases_lt, cases_eq}
 use Rattle.std.proofs.Math.Pow.{pow_mono}
 use Rattle.std.proofs.lemmas.Int.{ints}
@@ -41,7 +42,8 @@ IsPutSoFar-none g x y samples valid = record {
 }
 
 pub IsPutSoFar-next : (g : HeightField) (x y : ℕ) (row : List ℕ) (k : ℕ) (h next : HeightField) → k < length row →
-    x + length row ≤ 2 ^ g.n + 1 → y ≤ 2 ^ g.n → IsPutSoFar g x y row k h → next.n ≡ h.n → next.maxval ≡ h.maxval → IsHeightField next →
+    x + length row ≤ 2 ^ g.n + 1 → y ≤ 2 ^ g.n → IsPutSoFar g x y row k h → next.n ≡ h.n →
+    next.maxval ≡ h.maxval → IsHeightField next →
     height_at h.n next.heights (x + k) y ≡ slice_index row k →
     ((i j : ℕ) → i ≤ 2 ^ h.n → j ≤ 2 ^ h.n → (i ≡ x + k → j ≡ y → ⊥) →
     height_at h.n next.heights i j ≡ height_at h.n h.heights i j) → IsPutSoFar g x y row (k + 1) next
@@ -58,7 +60,8 @@ IsPutSoFar-next g x y row k h next more fits y_in so_far same_n same_maxval vali
       there = λ i lt. ⊎_elim {C = height_at g.n next.heights (x + i) y ≡ slice_index row i}
           (λ same. let At : ℕ → Type 0 = λ u. height_at g.n next.heights (x + u) y ≡ slice_index row u in
           subst At (sym same) here_g)
-          (λ other. others_g (x + i) y (omega arith) y_in (λ e f. other (omega arith)) ∙ so_far.there i (let apart : i ≡ k → ⊥ = other in omega arith))
+          (λ other. others_g (x + i) y (omega arith) y_in (λ e f. other (omega arith))
+          ∙ so_far.there i (let apart : i ≡ k → ⊥ = other in omega arith))
           (cases_eq i k);
       others = λ i j i_in j_in out. others_g i j i_in j_in (λ e f. out f (omega arith) (omega arith))
           ∙ so_far.others i j i_in j_in (λ f from to. out f from (omega arith));
@@ -94,7 +97,8 @@ IsReadSoFar-none g x0 y row none =
     })
 
 -- there is room for one more
-pub IsReadSoFar-room : (g : HeightField) (x0 y : ℕ) (row : List ℕ) (x : ℕ) → g.n ≤ 11 → x ≤ 2 ^ g.n → IsReadSoFar g x0 y row x →
+pub IsReadSoFar-room : (g : HeightField) (x0 y : ℕ) (row : List ℕ) (x : ℕ) → g.n ≤ 11 → x ≤ 2 ^ g.n →
+    IsReadSoFar g x0 y row x →
     length row < 2049
 IsReadSoFar-room g x0 y row x small fits so_far =
     let most : 2 ^ g.n ≤ 2 ^ 11 = pow_mono small in
@@ -113,7 +117,8 @@ IsReadSoFar-next g x0 y row next x h is value small so_far =
           (λ past. let last : k ≡ length row = omega (arith, length-append row (h ∷ [])) in
           let past_all : length row + 0 ≡ length row = omega arith in
           let Last : ℕ → Type 0 = λ i. slice_index (row ++ h ∷ []) i ≡ h in
-          let at-end : slice_index (row ++ h ∷ []) (length row) ≡ h = subst Last past_all (get_or-append-add row (h ∷ []) 0 0) in
+          let at-end : slice_index (row ++ h ∷ []) (length row) ≡ h =
+          subst Last past_all (get_or-append-add row (h ∷ []) 0 0) in
           let At : ℕ → Type 0 = λ i. slice_index (row ++ h ∷ []) i ≡ height_at g.n g.heights (x0 + i) y in
           let X : ℕ → Type 0 = λ i. slice_index (row ++ h ∷ []) (length row) ≡ height_at g.n g.heights i y in
           subst At (sym last) (subst X (sym count) (at-end ∙ value)))
@@ -133,7 +138,8 @@ brought_into-le maxval (pos k) = omega arith
 brought_into-le maxval (negsuc k) = omega arith
 
 -- raised heights stay within the bound
-pub raised-row-bounded : (maxval top : ℕ) (dz : ℤ) (row final : List ℕ) → final ≡ map (λ h. raised top dz h) row → top ≡ maxval →
+pub raised-row-bounded : (maxval top : ℕ) (dz : ℤ) (row final : List ℕ) →
+    final ≡ map (λ h. raised top dz h) row → top ≡ maxval →
     All (λ h. h ≤ maxval) final
 raised-row-bounded maxval top dz row final is same =
     let P : List ℕ → Type 0 = λ r. All (λ h. h ≤ maxval) r in
@@ -144,8 +150,10 @@ raised-row-bounded maxval top dz row final is same =
     omega (arith, at, brought_into-le top (pos (get_or row k 0) +ℤ dz), same))
 
 -- each height of the row, raised
-pub raised-row-there : (n maxval x y top : ℕ) (dz : ℤ) (row final new : List ℕ) → final ≡ map (λ h. raised top dz h) row →
-    top ≡ maxval → ((k : ℕ) → k < length final → height_at n new (x + k) y ≡ slice_index final k) → (k : ℕ) → k < length row →
+pub raised-row-there : (n maxval x y top : ℕ) (dz : ℤ) (row final new : List ℕ) →
+    final ≡ map (λ h. raised top dz h) row →
+    top ≡ maxval → ((k : ℕ) → k < length final → height_at n new (x + k) y ≡ slice_index final k) →
+    (k : ℕ) → k < length row →
     height_at n new (x + k) y ≡ clamped maxval (pos (slice_index row k) +ℤ dz)
 raised-row-there n maxval x y top dz row final new is same there k fits =
     let in_final : k < length final = rw (is, length-map row (λ h. raised top dz h)) fits in
@@ -191,7 +199,8 @@ IsRaisedSoFar-none g area dz valid = record {
   outside = λ i j i_in j_in out. refl;
 }
 
-pub IsRaisedSoFar-next : (g : HeightField) (area : Area) (dz : ℤ) (y : ℕ) (h next : HeightField) → area.y0 ≤ y → y ≤ area.y1 →
+pub IsRaisedSoFar-next : (g : HeightField) (area : Area) (dz : ℤ) (y : ℕ) (h next : HeightField) →
+    area.y0 ≤ y → y ≤ area.y1 →
     IsRaisedSoFar g area dz y h → next.n ≡ h.n → next.maxval ≡ h.maxval → IsHeightField next →
     ((i : ℕ) → area.x0 ≤ i → i ≤ area.x1 →
     height_at h.n next.heights i y ≡ clamped h.maxval (pos (height_at h.n h.heights i y) +ℤ dz)) →
@@ -214,7 +223,8 @@ IsRaisedSoFar-next g area dz y h next from to so_far same_n same_maxval valid th
           let e : IsBetweenEnds area i j = read-area area i j held in
           ⊎_elim {C = height_at g.n next.heights i j ≡ clamped g.maxval (pos (height_at g.n g.heights i j) +ℤ dz)}
           (λ here.
-          let At : ℕ → Type 0 = λ v. height_at g.n next.heights i v ≡ clamped g.maxval (pos (height_at g.n g.heights i v) +ℤ dz) in
+          let At : ℕ → Type 0 =
+          λ v. height_at g.n next.heights i v ≡ clamped g.maxval (pos (height_at g.n g.heights i v) +ℤ dz) in
           let before : height_at g.n h.heights i y ≡ height_at g.n g.heights i y =
           so_far.outside i y i_in (omega arith) (λ _ lt. absurd (omega arith)) in
           subst At (sym here) (there_g i e.left e.right ∙ ap (λ t. clamped g.maxval (pos t +ℤ dz)) before))
@@ -228,7 +238,8 @@ IsRaisedSoFar-next g area dz y h next from to so_far same_n same_maxval valid th
     }
 
 -- the whole area
-pub IsRaisedSoFar-all : (g : HeightField) (area : Area) (dz : ℤ) (y : ℕ) (h : HeightField) → area.y1 < y → IsHeightField g →
+pub IsRaisedSoFar-all : (g : HeightField) (area : Area) (dz : ℤ) (y : ℕ) (h : HeightField) →
+    area.y1 < y → IsHeightField g →
     IsRaisedSoFar g area dz y h → h ≡ record g { heights = raised_heights g area dz }
 IsRaisedSoFar-all g area dz y h past valid so_far =
     let Count : ℕ → Type 0 = λ n. length h.heights ≡ side_of n * side_of n in

@@ -1,5 +1,6 @@
 -- Filling the table: what is right stays right, and what was filled under both children is filled.
-use Rattle.std.proofs.Common.{◌≡◌, ◌≢◌, ℕ, zero, suc, ◌+◌, ◌-◌, ◌*◌, ◌/◌, ◌^◌, ◌<◌, ◌≤◌, List, length, set, refl, sym, arith, ⊎_elim, subst, get_or-set_other, get_or-set_same}
+use Rattle.std.proofs.Common.{◌≡◌, ◌≢◌, ℕ, zero, suc, ◌+◌, ◌-◌, ◌*◌, ◌/◌, ◌^◌, ◌<◌, ◌≤◌, List, length, set, refl, sym}
+use Rattle.std.proofs.Common.{arith, ⊎_elim, subst, get_or-set_other, get_or-set_same}
 use Rattle.std.proofs.lemmas.Bool.{cases_eq}
 use Rattle.mesh_defs.specs.HeightField.{HeightField, IsHeightField}
 use Rattle.mesh_defs.specs.Triangle.{level_of}
@@ -34,7 +35,8 @@ pub AllUnder-filled : (g : HeightField) (kept a left right i : ℕ) (one two : L
     AllUnder (kept - level_of left) (HasEntry g one) left → ((b : ℕ) → HasEntry g one b → HasEntry g two b) →
     AllUnder (kept - level_of right) (HasEntry g two) right → i ≡ a → i < length two → IsWedge g a w →
     AllUnder (kept - level_of a) (HasEntry g (set two i w)) a
-AllUnder-filled g kept a left right i one two w is_left is_right level_left level_right coarse under_left stays under_right is fits wedge =
+AllUnder-filled g kept a left right i one two w is_left is_right level_left level_right coarse under_left stays
+    under_right is fits wedge =
     let levels : ℕ = kept - (level_of a + 1) in
     let own : kept - level_of a ≡ suc levels = omega arith in
     let Own : ℕ → Type 0 = λ b. IsWedge g b w in
@@ -80,7 +82,8 @@ AllUnder-reach laws kept P two three (suc level) a low is coarse =
 pub AllUnder-each : AddressLaws → (kept : ℕ) (P : ℕ → Type 0) → AllUnder kept P 2 → AllUnder kept P 3 → (a : ℕ) →
     2 ≤ a → level_of a < kept → P a
 AllUnder-each laws kept P two three a low coarse =
-    let reached : AllUnder (kept - level_of a) P a = AllUnder-reach laws kept P two three (level_of a) a low refl coarse in
+    let reached : AllUnder (kept - level_of a) P a =
+    AllUnder-reach laws kept P two three (level_of a) a low refl coarse in
     let more : kept - level_of a ≡ suc (kept - suc (level_of a)) = omega arith in
     let Levels : ℕ → Type 0 = λ k. AllUnder k P a in
     let parts : AllUnder (suc (kept - suc (level_of a))) P a = subst Levels more reached in
@@ -89,7 +92,8 @@ AllUnder-each laws kept P two three a low coarse =
 -- a table that was filled under the lower base and then under the upper one
 pub IsTable-filled : AddressLaws → (g : HeightField) (lower upper : ℕ) (one two : List Wedge) → lower ≡ 2 → upper ≡ 3 →
     level_of lower ≡ 0 → level_of upper ≡ 0 → AllUnder (kept_levels g.n - level_of lower) (HasEntry g one) lower →
-    ((b : ℕ) → HasEntry g one b → HasEntry g two b) → AllUnder (kept_levels g.n - level_of upper) (HasEntry g two) upper →
+    ((b : ℕ) → HasEntry g one b → HasEntry g two b) →
+    AllUnder (kept_levels g.n - level_of upper) (HasEntry g two) upper →
     IsHeightField g → length two ≡ 2 ^ (kept_levels g.n + 1) → IsTable g two
 IsTable-filled laws g lower upper one two is_2 is_3 lower_level upper_level under_lower stays under_upper valid count =
     let all : kept_levels g.n - 0 ≡ kept_levels g.n = omega arith in

@@ -1,5 +1,6 @@
 -- Thickness by the children, and a bound on it.
-use Rattle.std.proofs.Common.{◌≡◌, ℕ, zero, suc, ◌+◌, ◌-◌, ◌*◌, ◌<◌, ◌≤◌, max, List, length, get_or, refl, arith, ⊎_elim}
+use Rattle.std.proofs.Common.{◌≡◌, ℕ, zero, suc, ◌+◌, ◌-◌, ◌*◌, ◌<◌, ◌≤◌, max, List, length, get_or, refl, arith}
+use Rattle.std.proofs.Common.{⊎_elim}
 use Rattle.std.proofs.Math.Nat.{mul-le-mul_left}
 use Rattle.std.proofs.lemmas.Bool.{cases_lt}
 use Rattle.std.proofs.lemmas.List.{get_or_past}
@@ -15,7 +16,8 @@ pub thickness_of-finest : (n : ℕ) (heights : List ℕ) (a : ℕ) → level_of 
 unfolding thickness_of
 thickness_of-finest n heights a finest = let none : 2 * n - level_of a ≡ 0 = omega arith in rw none refl
 
-pub thickness_of-children : AddressLaws → (n : ℕ) (heights : List ℕ) (a : ℕ) → IsSplittable n a → thickness_of n heights a ≡
+pub thickness_of-children : AddressLaws → (n : ℕ) (heights : List ℕ) (a : ℕ) → IsSplittable n a →
+    thickness_of n heights a ≡
     max (thickness_of n heights (2 * a)) (thickness_of n heights (2 * a + 1)) + deviation n heights (corners_of n a)
 unfolding thickness_of
 thickness_of-children laws n heights a split =
@@ -53,6 +55,7 @@ thickness-limit top levels t h top_small few =
 -- 22 levels, each of at most twice 65,535
 pub thickness_of-le : (g : HeightField) (a : ℕ) → IsHeightField g → thickness_of g.n g.heights a ≤ 2883540
 unfolding thickness_of
-thickness_of-le g a valid = thickness-limit g.maxval (2 * g.n - level_of a) (thickness_under (2 * g.n - level_of a) g.n g.heights a)
+thickness_of-le g a valid =
+    thickness-limit g.maxval (2 * g.n - level_of a) (thickness_under (2 * g.n - level_of a) g.n g.heights a)
     (thickness_under-le (2 * g.n - level_of a) g.n g.heights g.maxval a valid.bounded) valid.maxval_high
     (let small : g.n ≤ 11 = valid.n_high in omega arith)

@@ -1,6 +1,8 @@
 -- Changes of heights, and the triangles that they reach. This project's own words.
--- Words: area_between, is_in_row, placed_at, with_row, IsClearOf, AgreesOn; which rectangles share a point says `Areas` of bintree_laws.
-use Rattle.std.specs.Prelude.{◌≡◌, ℕ, ◌+◌, ◌-◌, ◌^◌, ◌/◌, ◌%◌, true, Bool, ◌&&◌, nat_le, nat_lt, nat_eq, if◌then◌else◌, List, length, map, slice_index}
+-- Words: area_between, is_in_row, placed_at, with_row, IsClearOf, AgreesOn; which rectangles share a point says `Areas`
+-- of bintree_laws.
+use Rattle.std.specs.Prelude.{◌≡◌, ℕ, ◌+◌, ◌-◌, ◌^◌, ◌/◌, ◌%◌, true, Bool, ◌&&◌, nat_le, nat_lt, nat_eq, if◌then◌else◌}
+use Rattle.std.specs.Prelude.{List, length, map, slice_index}
 use Rattle.std.specs.List.{enumerate_from}
 use Rattle.mesh_defs.specs.declared.point.Point.{Point}
 use Rattle.mesh_defs.specs.HeightField.{HeightField, side_of}

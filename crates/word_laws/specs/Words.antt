@@ -1,11 +1,13 @@
 -- The words of a command line that are a command. This project's own.
--- Words: Criterion, TriangleOrder, Output, Show, as_meshes, as_strips, as_least, as_measures, as_sums, Scripted, Making, Checking, Target,
--- Fitting, FitMaking, FitChecking, Job, Command, job_files, names_of, file_count, is_scripted, has_script, is_check, is_of_engine,
--- prefix_of, is_prefix, within, number_word, least_budget, greatest_budget, greatest_spacing, greatest_level, greatest_seed,
--- greatest_tolerance, greatest_error, greatest_coordinate, is_coordinate, budget_word, spacing_word, tolerance_word, error_word, in_reach, coordinate_word, frames_command, least_command, meshes_command, try_command,
--- camera_word, make_command, check_command, target_word, fit_command, fit_words, fit_make_command, fit_check_command, six_command, eight_command,
--- command_of.
-use Rattle.std.specs.Prelude.{ℕ, ◌^◌, Bool, true, false, ◌&&◌, nat_le, if◌then◌else◌, List, [], ◌∷◌, length, Option, Some, None, codes, bytes_eq, ℤ, unsigned_abs}
+-- Words: Criterion, TriangleOrder, Output, Show, as_meshes, as_strips, as_least, as_measures, as_sums, Scripted,
+-- Making, Checking, Target, Fitting, FitMaking, FitChecking, Job, Command, job_files, names_of, file_count,
+-- is_scripted, has_script, is_check, is_of_engine, prefix_of, is_prefix, within, number_word, least_budget,
+-- greatest_budget, greatest_spacing, greatest_level, greatest_seed, greatest_tolerance, greatest_error,
+-- greatest_coordinate, is_coordinate, budget_word, spacing_word, tolerance_word, error_word, in_reach, coordinate_word,
+-- frames_command, least_command, meshes_command, try_command, camera_word, make_command, check_command, target_word,
+-- fit_command, fit_words, fit_make_command, fit_check_command, six_command, eight_command, command_of.
+use Rattle.std.specs.Prelude.{ℕ, ◌^◌, Bool, true, false, ◌&&◌, nat_le, if◌then◌else◌, List, [], ◌∷◌, length, Option}
+use Rattle.std.specs.Prelude.{Some, None, codes, bytes_eq, ℤ, unsigned_abs}
 use Rattle.std.specs.Option.{option_map}
 use Rattle.mesh_defs.specs.BoundingBox.{CameraAt}
 use Rattle.roam_edge.specs.declared.mesh_sink.TheConstants.{LONGEST_PREFIX}
@@ -22,8 +24,8 @@ pub data TriangleOrder : Type 0 where
   DepthFirst : TriangleOrder
   AlongStrip : TriangleOrder
 
--- what is told of frames: of each its mesh, whose name begins with this prefix, and a line; of each a line on how far its mesh is from
--- the surface; or of all together their sums, of a run that is generated from this level and seed
+-- what is told of frames: of each its mesh, whose name begins with this prefix, and a line; of each a line on how far
+-- its mesh is from the surface; or of all together their sums, of a run that is generated from this level and seed
 pub data Output : Type 0 where
   Meshes : (prefix : List ℕ) → Output
   Measures : Output
@@ -69,7 +71,8 @@ pub record Making : Type 0 where
   pub budget : ℕ
   pub spacing : ℕ
 
--- a mesh is checked by a certificate: the names of both files, the budget of the mesh, and how many world units a grid step has
+-- a mesh is checked by a certificate: the names of both files, the budget of the mesh, and how many world units a grid
+-- step has
 pub record Checking : Type 0 where
   pub mesh : List ℕ
   pub certificate : List ℕ
@@ -92,15 +95,16 @@ pub record FitMaking : Type 0 where
   pub target : Target
   pub spacing : ℕ
 
--- a fitted mesh is checked by a certificate: the names of both files, what it is fitted to, and how many world units a grid step has
+-- a fitted mesh is checked by a certificate: the names of both files, what it is fitted to, and how many world units a
+-- grid step has
 pub record FitChecking : Type 0 where
   pub mesh : List ℕ
   pub certificate : List ℕ
   pub target : Target
   pub spacing : ℕ
 
--- what is done with a grid: the frames of a script, a line of facts, a certificate, a check of a mesh by one, a mesh that is
--- fitted to it, a certificate of such a mesh, or a check of such a mesh by one
+-- what is done with a grid: the frames of a script, a line of facts, a certificate, a check of a mesh by one, a mesh
+-- that is fitted to it, a certificate of such a mesh, or a check of such a mesh by one
 pub data Job : Type 0 where
   Frames : (scripted : Scripted) → Job
   Facts : Job
@@ -166,7 +170,8 @@ is_of_engine show = elim show.criterion as (λ _. Bool) [ OfBudget ↦ true | Of
 
 -- what the names of meshes begin with, where meshes are told
 abbrev pub prefix_of : Show → Option (List ℕ)
-prefix_of show = elim show.output as (λ _. Option (List ℕ)) [ Meshes prefix ↦ Some prefix | Measures ↦ None | Sums n seed ↦ None ]
+prefix_of show =
+    elim show.output as (λ _. Option (List ℕ)) [ Meshes prefix ↦ Some prefix | Measures ↦ None | Sums n seed ↦ None ]
 
 -- a prefix has at least 1 byte, and no more than a mesh sink takes
 abbrev pub is_prefix : List ℕ → Bool
@@ -252,7 +257,8 @@ least_command grid_name script_name prefix (Some tolerance) spacing =
 abbrev pub meshes_command : List ℕ → List ℕ → List ℕ → List ℕ → List ℕ → List ℕ → Option Command
 meshes_command word i j prefix number step =
     if bytes_eq word (codes "mesh") then frames_command i j (as_meshes prefix) (budget_word number) (spacing_word step)
-    else if bytes_eq word (codes "strip") then frames_command i j (as_strips prefix) (budget_word number) (spacing_word step)
+    else if bytes_eq word (codes "strip")
+    then frames_command i j (as_strips prefix) (budget_word number) (spacing_word step)
     else if bytes_eq word (codes "least") then least_command i j prefix (tolerance_word number) (spacing_word step)
     else None
 
@@ -268,7 +274,8 @@ camera_word _ _ _ = None
 
 -- a certificate is made, if camera, budget and spacing are there
 abbrev pub make_command : List ℕ → Option CameraAt → Option ℕ → Option ℕ → Option Command
-make_command grid_name (Some place) (Some b) (Some s) = Some (OnGrid grid_name (Make (record { camera = place; budget = b; spacing = s })))
+make_command grid_name (Some place) (Some b) (Some s) =
+    Some (OnGrid grid_name (Make (record { camera = place; budget = b; spacing = s })))
 make_command grid_name _ _ _ = None
 
 -- a mesh is checked by a certificate, if budget and spacing are there
@@ -286,7 +293,8 @@ target_word word number =
 
 -- a mesh is fitted, if what it is fitted to and the spacing are there
 abbrev pub fit_command : List ℕ → List ℕ → Option Target → Option ℕ → Option Command
-fit_command grid_name begin (Some goal) (Some s) = Some (OnGrid grid_name (Fit (record { prefix = begin; target = goal; spacing = s })))
+fit_command grid_name begin (Some goal) (Some s) =
+    Some (OnGrid grid_name (Fit (record { prefix = begin; target = goal; spacing = s })))
 fit_command grid_name begin _ _ = None
 
 -- GRID, PREFIX, `error` or `budget`, a number and SPACING
@@ -296,20 +304,27 @@ fit_words grid_name begin word number step =
 
 -- a certificate of a fitted mesh is made, if what the mesh is fitted to and the spacing are there
 abbrev pub fit_make_command : List ℕ → Option Target → Option ℕ → Option Command
-fit_make_command grid_name (Some goal) (Some s) = Some (OnGrid grid_name (MakeFit (record { target = goal; spacing = s })))
+fit_make_command grid_name (Some goal) (Some s) =
+    Some (OnGrid grid_name (MakeFit (record { target = goal; spacing = s })))
 fit_make_command grid_name _ _ = None
 
 -- a fitted mesh is checked by a certificate, if what it is fitted to and the spacing are there
 abbrev pub fit_check_command : List ℕ → List ℕ → List ℕ → Option Target → Option ℕ → Option Command
 fit_check_command grid_name mesh_name cert_name (Some goal) (Some s) =
-    Some (OnGrid grid_name (CheckFit (record { mesh = mesh_name; certificate = cert_name; target = goal; spacing = s })))
+    Some (OnGrid grid_name (CheckFit (record {
+      mesh = mesh_name;
+      certificate = cert_name;
+      target = goal;
+      spacing = s;
+    })))
 fit_check_command grid_name mesh_name cert_name _ _ = None
 
 -- of six words: a mesh is fitted, a certificate of such a mesh is made, or a mesh is written for each frame
 abbrev pub six_command : List ℕ → List ℕ → List ℕ → List ℕ → List ℕ → List ℕ → Option Command
 six_command word i j k number step =
     if bytes_eq word (codes "fit") then fit_words i j k number step
-    else if bytes_eq word (codes "certify") && bytes_eq i (codes "make-fit") then fit_make_command j (target_word k number) (spacing_word step)
+    else if bytes_eq word (codes "certify") && bytes_eq i (codes "make-fit")
+    then fit_make_command j (target_word k number) (spacing_word step)
     else if is_prefix k then meshes_command word i j k number step
     else None
 
@@ -317,24 +332,27 @@ six_command word i j k number step =
 abbrev pub eight_command : List ℕ → List ℕ → List ℕ → List ℕ → List ℕ → List ℕ → List ℕ → List ℕ → Option Command
 eight_command word task grid_name i j k number step =
     if bytes_eq word (codes "certify") && bytes_eq task (codes "make")
-    then make_command grid_name (camera_word (coordinate_word i) (coordinate_word j) (coordinate_word k)) (budget_word number) (spacing_word step)
+    then make_command grid_name (camera_word (coordinate_word i) (coordinate_word j) (coordinate_word k))
+    (budget_word number) (spacing_word step)
     else if bytes_eq word (codes "certify") && bytes_eq task (codes "check-fit")
     then fit_check_command grid_name i j (target_word k number) (spacing_word step)
     else None
 
--- The command that the words are, None of other words: `info GRID`, `try N SEED`, `mesh GRID SCRIPT PREFIX BUDGET SPACING`,
--- `strip GRID SCRIPT PREFIX BUDGET SPACING`, `least GRID SCRIPT PREFIX TOLERANCE SPACING`, `measure GRID SCRIPT BUDGET SPACING`,
--- `certify check GRID OBJ CERT BUDGET SPACING`, `certify make GRID X Y Z BUDGET SPACING`, `fit GRID PREFIX TARGET SPACING`,
--- `certify check-fit GRID OBJ CERT TARGET SPACING`, or `certify make-fit GRID TARGET SPACING`, where TARGET is the two words `error E` or
--- `budget BUDGET`.
+-- The command that the words are, None of other words: `info GRID`, `try N SEED`, `mesh GRID SCRIPT PREFIX BUDGET
+-- SPACING`, `strip GRID SCRIPT PREFIX BUDGET SPACING`, `least GRID SCRIPT PREFIX TOLERANCE SPACING`, `measure GRID
+-- SCRIPT BUDGET SPACING`, `certify check GRID OBJ CERT BUDGET SPACING`, `certify make GRID X Y Z BUDGET SPACING`, `fit
+-- GRID PREFIX TARGET SPACING`, `certify check-fit GRID OBJ CERT TARGET SPACING`, or `certify make-fit GRID TARGET
+-- SPACING`, where TARGET is the two words `error E` or `budget BUDGET`.
 abbrev pub command_of : List (List ℕ) → Option Command
 command_of (word ∷ (i ∷ [])) = if bytes_eq word (codes "info") then Some (OnGrid i Facts) else None
 command_of (word ∷ (i ∷ (j ∷ []))) =
-    if bytes_eq word (codes "try") then try_command (number_word 1 greatest_level i) (number_word 0 greatest_seed j) else None
+    if bytes_eq word (codes "try") then try_command (number_word 1 greatest_level i)
+    (number_word 0 greatest_seed j) else None
 command_of (word ∷ (i ∷ (j ∷ (k ∷ (l ∷ []))))) =
     if bytes_eq word (codes "measure") then frames_command i j as_measures (budget_word k) (spacing_word l) else None
 command_of (word ∷ (i ∷ (j ∷ (k ∷ (l ∷ (m ∷ [])))))) = six_command word i j k l m
 command_of (word ∷ (i ∷ (j ∷ (k ∷ (l ∷ (m ∷ (o ∷ []))))))) =
-    if bytes_eq word (codes "certify") && bytes_eq i (codes "check") then check_command j k l (budget_word m) (spacing_word o) else None
+    if bytes_eq word (codes "certify") && bytes_eq i (codes "check")
+    then check_command j k l (budget_word m) (spacing_word o) else None
 command_of (word ∷ (i ∷ (j ∷ (k ∷ (l ∷ (m ∷ (o ∷ (p ∷ [])))))))) = eight_command word i j k l m o p
 command_of _ = None

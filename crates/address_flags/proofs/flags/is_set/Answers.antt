@@ -8,5 +8,6 @@ returns-then-place-flags c =
 
 pub returns-else-place-flags : goal.returns-else-place-flags
 returns-else-place-flags c = record {
-  value = flagged-none c.args.flags.now c.number-place.result c.args.t c.number-place.ensures.value c.if-place-flags.false;
+  value =
+      flagged-none c.args.flags.now c.number-place.result c.args.t c.number-place.ensures.value c.if-place-flags.false;
 }

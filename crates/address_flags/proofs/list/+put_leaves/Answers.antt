@@ -1,5 +1,6 @@
 -- The leaves of a member are those of its left child, and behind them those of its right child.
-use Rattle.std.proofs.Common.{◌≤◌, ◌≡◌, true, ◌+◌, ◌-◌, ◌*◌, ◌++◌, length, take, length-append, append_assoc, ap, ap₂, sym, ◌∙◌, arith}
+use Rattle.std.proofs.Common.{◌≤◌, ◌≡◌, true, ◌+◌, ◌-◌, ◌*◌, ◌++◌, length, take, length-append, append_assoc, ap, ap₂}
+use Rattle.std.proofs.Common.{sym, ◌∙◌, arith}
 use Rattle.mesh_defs.specs.ClosedSet.{leaves_under}
 use Rattle.least_laws.specs.Sweep.{is_flagged}
 use Rattle.closure_laws.proofs.LeafLemmas.{leaves_under-split}
@@ -14,7 +15,8 @@ put_leaves-requires t c =
     let left = ap (λ a. length (leaves_under (c.args.levels - 1) has a)) c.left.ensures.value in
     let right = ap (λ a. length (leaves_under (c.args.levels - 1) has a)) c.right.ensures.value in
     let whole = ap length (leaves_under-split c.args.levels has c.args.t some member)
-    ∙ length-append (leaves_under (c.args.levels - 1) has (2 * c.args.t)) (leaves_under (c.args.levels - 1) has (2 * c.args.t + 1)) in
+    ∙ length-append (leaves_under (c.args.levels - 1) has (2 * c.args.t))
+    (leaves_under (c.args.levels - 1) has (2 * c.args.t + 1)) in
     let count = c.put_leaves-between.ensures.count in
     let same = c.put_leaves-between.auto.list in
     let deep = c.requires.deep in
@@ -32,5 +34,6 @@ returns-clause-listed t c =
     let right = ap (leaves_under (c.args.levels - 1) has) c.right.ensures.value in
     c.put_leaves.ensures.listed
     ∙ ap₂ (λ x y. x ++ y) (c.put_leaves-between.ensures.listed ∙ ap (λ x. before ++ x) left) right
-    ∙ append_assoc before (leaves_under (c.args.levels - 1) has (2 * c.args.t)) (leaves_under (c.args.levels - 1) has (2 * c.args.t + 1))
+    ∙ append_assoc before (leaves_under (c.args.levels - 1) has (2 * c.args.t))
+    (leaves_under (c.args.levels - 1) has (2 * c.args.t + 1))
     ∙ ap (λ x. before ++ x) (sym (leaves_under-split c.args.levels has c.args.t some member))

@@ -10,21 +10,33 @@ use Rattle.address_flags.proofs.LeafListLemmas.{leaves-room, leaves-halves, leav
 use Rattle.address_flags.proofs.list.list_leaves.Goals as goal
 
 pub put_leaves-between-requires-clause-deep : goal.put_leaves-between-requires-clause-deep
-put_leaves-between-requires-clause-deep c = let level = level_of-root 2 (omega arith) (omega arith) in let n_high = c.requires.in_grid in omega arith
+put_leaves-between-requires-clause-deep c =
+    let level = level_of-root 2 (omega arith) (omega arith) in
+    let n_high = c.requires.in_grid in
+    omega arith
 
 pub put_leaves-requires-clause-deep : goal.put_leaves-requires-clause-deep
-put_leaves-requires-clause-deep c = let level = level_of-root 3 (omega arith) (omega arith) in let n_high = c.requires.in_grid in omega arith
+put_leaves-requires-clause-deep c =
+    let level = level_of-root 3 (omega arith) (omega arith) in
+    let n_high = c.requires.in_grid in
+    omega arith
 
 pub put_leaves-between-requires-clause-room : goal.put_leaves-between-requires-clause-room
 put_leaves-between-requires-clause-room c =
     let has = is_flagged c.args.flags.now in
-    let all = leaves-halves c.args.n has in let most = leaves-room c.args.n has in let room = c.requires.room in omega arith
+    let all = leaves-halves c.args.n has in
+    let most = leaves-room c.args.n has in
+    let room = c.requires.room in
+    omega arith
 
 pub put_leaves-requires-clause-room : goal.put_leaves-requires-clause-room
 put_leaves-requires-clause-room c =
     let has = is_flagged c.args.flags.now in
     let count = c.put_leaves-between.ensures.count in let same = c.put_leaves-between.auto.list in
-    let all = leaves-halves c.args.n has in let most = leaves-room c.args.n has in let room = c.requires.room in omega arith
+    let all = leaves-halves c.args.n has in
+    let most = leaves-room c.args.n has in
+    let room = c.requires.room in
+    omega arith
 
 pub returns-clause-listed : goal.returns-clause-listed
 returns-clause-listed c =

@@ -1,7 +1,8 @@
 use Rattle.std.proofs.Common.{◌≡◌, ℕ, ◌+◌, ◌-◌, ◌*◌, ◌%◌, Option, Some, None, refl, arith}
 use Rattle.mesh_defs.specs.Triangle.{level_of}
 use Rattle.bintree_laws.specs.Pair.{IsPair}
-use Rattle.bintree_laws.proofs.PairLemmas.{IsPair-root, no_pair-first, IsPair-inner_first, IsPair-inner_last, IsPair-outer, no_pair-outer, pair_answer, pair_no_answer, pair_range}
+use Rattle.bintree_laws.proofs.PairLemmas.{IsPair-root, no_pair-first, IsPair-inner_first, IsPair-inner_last}
+use Rattle.bintree_laws.proofs.PairLemmas.{IsPair-outer, no_pair-outer, pair_answer, pair_no_answer, pair_range}
 use Rattle.bintree_addr.proofs.pair.+address_across.Goals as goal
 use Rattle.bintree_addr.proofs.pair.+address_across.Goals.{In_ok-above-in_default-2}
 

@@ -6,7 +6,9 @@ use Rattle.cert_text.specs.CertLine.{line_word}
 use Rattle.cert_text.proofs.reading.named.Goals as goal
 
 pub returns-in-camera : goal.returns-in-camera
-returns-in-camera c = sym (ap line_word (text_from_reads c.args.field.now (codes "camera") (omega arith) (search rules)))
+returns-in-camera c =
+    sym (ap line_word (text_from_reads c.args.field.now (codes "camera") (omega arith) (search rules)))
 
 pub returns-in-parent : goal.returns-in-parent
-returns-in-parent c = sym (ap line_word (text_from_reads c.args.field.now (codes "parent") (omega arith) (search rules)))
+returns-in-parent c =
+    sym (ap line_word (text_from_reads c.args.field.now (codes "parent") (omega arith) (search rules)))

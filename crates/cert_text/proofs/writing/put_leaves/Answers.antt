@@ -9,27 +9,36 @@ use Rattle.page_laws.proofs.PageLemmas.{put-more, cut-longer, texts-cut, texts-n
 use Rattle.cert_text.proofs.writing.put_leaves.Goals as goal
 
 pub loop-leaf-init : goal.loop-leaf-init
-loop-leaf-init g c = record { put = λ before text put. put-more before _ _ _ text [] (sym (append-nil c.args.page.now.items)) put; calm = refl; in_time = λ late calm. late }
+loop-leaf-init g c = record {
+  put = λ before text put. put-more before _ _ _ text [] (sym (append-nil c.args.page.now.items)) put;
+  calm = refl;
+  in_time = λ late calm. late;
+}
 
 pub loop-leaf-preserved : goal.loop-leaf-preserved
 loop-leaf-preserved g c =
     let below : c.loop-leaf.leaf-index < length c.args.leaves.now = omega arith in
     record {
       put = λ before text put. subst (IsPut before (g.S.Sink.contents c.put_line.new.out) c.put_line.new.page.items)
-          (sym (texts-next leaf_text text c.args.leaves.now c.loop-leaf.leaf-index c.leaf-item.result below c.leaf-item.is))
-          (c.in_ok-put_line.ensures.ok before (text ++ flat_map leaf_text (take c.loop-leaf.leaf-index c.args.leaves.now))
+          (sym (texts-next leaf_text text c.args.leaves.now c.loop-leaf.leaf-index
+          c.leaf-item.result below c.leaf-item.is))
+          (c.in_ok-put_line.ensures.ok before
+          (text ++ flat_map leaf_text (take c.loop-leaf.leaf-index c.args.leaves.now))
           (c.loop-leaf.invariant.put before text put));
       calm = c.in_ok-put_line.ensures.faults.ok ∙ c.loop-leaf.invariant.calm;
-      in_time = λ late calm. c.in_ok-put_line.ensures.in_time (c.loop-leaf.invariant.in_time late calm) (c.loop-leaf.invariant.calm ∙ calm);
+      in_time = λ late calm. c.in_ok-put_line.ensures.in_time (c.loop-leaf.invariant.in_time late calm)
+          (c.loop-leaf.invariant.calm ∙ calm);
     }
 
 pub returns-in_err-put_line-clause-err : goal.returns-in_err-put_line-clause-err
 returns-in_err-put_line-clause-err g c =
     let p = err_from_is_err_and c.from_residual.result c.from_residual.ensures.1 in
     let k = c.loop-leaf.leaf-index in
-    rw p.1 (λ before text put. cut-longer before _ (text ++ flat_map leaf_text (take k c.args.leaves.now)) (flat_map leaf_text (drop k c.args.leaves.now)) _
+    rw p.1 (λ before text put. cut-longer before _ (text ++ flat_map leaf_text (take k c.args.leaves.now))
+    (flat_map leaf_text (drop k c.args.leaves.now)) _
     (texts-cut leaf_text text c.args.leaves.now k)
-    (c.in_err-put_line.ensures.err before (text ++ flat_map leaf_text (take k c.args.leaves.now)) (c.loop-leaf.invariant.put before text put)))
+    (c.in_err-put_line.ensures.err before (text ++ flat_map leaf_text (take k c.args.leaves.now))
+    (c.loop-leaf.invariant.put before text put)))
 
 pub returns-clause-ok : goal.returns-clause-ok
 returns-clause-ok g c before text put =

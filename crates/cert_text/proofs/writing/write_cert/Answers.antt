@@ -18,9 +18,11 @@ first before page empty = subst (λ l. IsPut before before l []) (sym empty) (pu
 
 -- the text of the parts of a certificate
 abbrev parts : CameraAt → List ℕ → List Reason → List ℕ
-parts seen_from leaves reasons = ended_line (CameraLine seen_from) ++ flat_map leaf_text leaves ++ flat_map reason_text reasons
+parts seen_from leaves reasons =
+    ended_line (CameraLine seen_from) ++ flat_map leaf_text leaves ++ flat_map reason_text reasons
 
-same_parts : (seen_from camera : CameraAt) (mesh leaves : List ℕ) (why reasons : List Reason) → seen_from ≡ camera → mesh ≡ leaves → why ≡ reasons →
+same_parts : (seen_from camera : CameraAt) (mesh leaves : List ℕ) (why reasons : List Reason) → seen_from ≡ camera →
+    mesh ≡ leaves → why ≡ reasons →
     parts seen_from mesh why ≡ parts camera leaves reasons
 same_parts seen_from camera mesh leaves why reasons e f h =
     ap (λ k. parts k mesh why) e ∙ ap (λ k. parts camera k why) f ∙ ap (λ k. parts camera leaves k) h
@@ -29,7 +31,8 @@ pub returns-in_err-put_line-clause-bytes : goal.returns-in_err-put_line-clause-b
 returns-in_err-put_line-clause-bytes g c =
     let p = err_from_is_err_and c.from_residual.result c.from_residual.ensures.1 in
     let before = g.S.Sink.contents c.args.out.now in
-    rw p.1 (appends-cut before _ (cert_text c.args.cert.now) _ (cut-longer before _ [] (cert_text c.args.cert.now) (cert_text c.args.cert.now) refl
+    rw p.1 (appends-cut before _ (cert_text c.args.cert.now) _
+    (cut-longer before _ [] (cert_text c.args.cert.now) (cert_text c.args.cert.now) refl
     (c.in_err-put_line.ensures.err before [] (first before c.new-page.result.items c.new-page.ensures))))
 
 pub returns-in_err-put_leaves-clause-bytes : goal.returns-in_err-put_leaves-clause-bytes
@@ -39,13 +42,17 @@ returns-in_err-put_leaves-clause-bytes g c =
     let cert = c.args.cert.now in
     let start = first before c.new-page.result.items c.new-page.ensures in
     rw p.1 (appends-cut before _ (cert_text cert) _
-    (cut-longer before _ (ended_line (CameraLine c.camera.result) ++ flat_map leaf_text c.leaves.result.now) (flat_map reason_text cert.reasons) (cert_text cert)
-    (sym (same_parts c.camera.result cert.camera c.leaves.result.now cert.leaves cert.reasons cert.reasons c.camera.ensures c.leaves.ensures.value refl))
-    (c.in_err-put_leaves.ensures.err before (ended_line (CameraLine c.camera.result)) (c.in_ok-put_line.ensures.ok before [] start))))
+    (cut-longer before _ (ended_line (CameraLine c.camera.result) ++ flat_map leaf_text c.leaves.result.now)
+    (flat_map reason_text cert.reasons) (cert_text cert)
+    (sym (same_parts c.camera.result cert.camera c.leaves.result.now cert.leaves cert.reasons cert.reasons
+    c.camera.ensures c.leaves.ensures.value refl))
+    (c.in_err-put_leaves.ensures.err before (ended_line (CameraLine c.camera.result))
+    (c.in_ok-put_line.ensures.ok before [] start))))
 
 pub returns-in_err-put_reasons-clause-bytes : goal.returns-in_err-put_reasons-clause-bytes
 returns-in_err-put_reasons-clause-bytes g c =
-    let p = err_from_is_err_and c.from_residual-in_err-put_reasons.result c.from_residual-in_err-put_reasons.ensures.1 in
+    let p =
+    err_from_is_err_and c.from_residual-in_err-put_reasons.result c.from_residual-in_err-put_reasons.ensures.1 in
     let before = g.S.Sink.contents c.args.out.now in
     let cert = c.args.cert.now in
     let start = first before c.new-page.result.items c.new-page.ensures in
@@ -53,8 +60,10 @@ returns-in_err-put_reasons-clause-bytes g c =
     rw p.1 (appends-cut before _ (cert_text cert) _ (cut-longer before _ text [] (cert_text cert)
     (sym (same_parts c.camera.result cert.camera c.leaves.result.now cert.leaves c.reasons.result.now cert.reasons
     c.camera.ensures c.leaves.ensures.value c.reasons.ensures.value) ∙ sym (append-nil text))
-    (c.in_err-put_reasons.ensures.err before (ended_line (CameraLine c.camera.result) ++ flat_map leaf_text c.leaves.result.now)
-    (c.in_ok-put_leaves.ensures.ok before (ended_line (CameraLine c.camera.result)) (c.in_ok-put_line.ensures.ok before [] start)))))
+    (c.in_err-put_reasons.ensures.err before
+    (ended_line (CameraLine c.camera.result) ++ flat_map leaf_text c.leaves.result.now)
+    (c.in_ok-put_leaves.ensures.ok before (ended_line (CameraLine c.camera.result))
+    (c.in_ok-put_line.ensures.ok before [] start)))))
 
 pub returns-clause-bytes : goal.returns-clause-bytes
 returns-clause-bytes g c =
@@ -66,5 +75,7 @@ returns-clause-bytes g c =
     (same_parts c.camera.result cert.camera c.leaves.result.now cert.leaves c.reasons.result.now cert.reasons
     c.camera.ensures c.leaves.ensures.value c.reasons.ensures.value)
     (c.put_rest.ensures.bytes before text
-    (c.in_ok-put_reasons.ensures.ok before (ended_line (CameraLine c.camera.result) ++ flat_map leaf_text c.leaves.result.now)
-    (c.in_ok-put_leaves.ensures.ok before (ended_line (CameraLine c.camera.result)) (c.in_ok-put_line.ensures.ok before [] start))))
+    (c.in_ok-put_reasons.ensures.ok before
+    (ended_line (CameraLine c.camera.result) ++ flat_map leaf_text c.leaves.result.now)
+    (c.in_ok-put_leaves.ensures.ok before (ended_line (CameraLine c.camera.result))
+    (c.in_ok-put_line.ensures.ok before [] start))))

@@ -7,10 +7,12 @@ pub returns-clause-closed : goal.returns-clause-closed
 returns-clause-closed c = without_diamond-closed
 
 pub returns-clause-pair : goal.returns-clause-pair
-returns-clause-pair c n before d after rises closed can without = (without_diamond-length n before d after rises closed can without).0
+returns-clause-pair c n before d after rises closed can without =
+    (without_diamond-length n before d after rises closed can without).0
 
 pub returns-clause-single : goal.returns-clause-single
-returns-clause-single c n before d after rises closed can without = (without_diamond-length n before d after rises closed can without).1
+returns-clause-single c n before d after rises closed can without =
+    (without_diamond-length n before d after rises closed can without).1
 
 pub returns-clause-leaves : goal.returns-clause-leaves
 returns-clause-leaves c = merge_leaves

@@ -1,5 +1,6 @@
 -- Each clause is a lemma.
-use Rattle.closure_laws.proofs.ClosureLemmas.{IsLeastClosed-unique, IsSubset-closures, closure_of, leaves_of-same, leaves_of-more}
+use Rattle.closure_laws.proofs.ClosureLemmas.{IsLeastClosed-unique, IsSubset-closures, closure_of, leaves_of-same}
+use Rattle.closure_laws.proofs.ClosureLemmas.{leaves_of-more}
 use Rattle.closure_laws.proofs.SizeLemmas.{length-leaves_once}
 use Rattle.mesh_defs.proofs.ListLemmas.{among-in}
 use Rattle.closure_laws.proofs.laws.closed_set_laws.Goals as goal
@@ -20,4 +21,5 @@ pub returns-clause-more_leaves : goal.returns-clause-more_leaves
 returns-clause-more_leaves c = leaves_of-more
 
 pub returns-clause-counted : goal.returns-clause-counted
-returns-clause-counted c n members once closed = length-leaves_once n members (λ a h. once a (among-in a members h)) closed
+returns-clause-counted c n members once closed =
+    length-leaves_once n members (λ a h. once a (among-in a members h)) closed

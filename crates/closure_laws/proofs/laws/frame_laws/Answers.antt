@@ -1,5 +1,6 @@
 -- Each clause is a lemma.
-use Rattle.closure_laws.proofs.FrameLemmas.{IsFrame-unique, IsFrame-same, IsBestMesh-frame, unblocked, certificate, IsFrame-done, IsFrame-stopped}
+use Rattle.closure_laws.proofs.FrameLemmas.{IsFrame-unique, IsFrame-same, IsBestMesh-frame, unblocked, certificate}
+use Rattle.closure_laws.proofs.FrameLemmas.{IsFrame-done, IsFrame-stopped}
 use Rattle.closure_laws.proofs.laws.frame_laws.Goals as goal
 
 pub returns-clause-unique : goal.returns-clause-unique

@@ -1,12 +1,15 @@
 -- Each clause is a lemma.
-use Rattle.closure_laws.proofs.RankLemmas.{IsRankClosure-greedy, IsGreedyEnd-closure, IsBlockedBy-greedy, first_leaf-blocked, IsBestMesh-end}
+use Rattle.closure_laws.proofs.RankLemmas.{IsRankClosure-greedy, IsGreedyEnd-closure, IsBlockedBy-greedy}
+use Rattle.closure_laws.proofs.RankLemmas.{first_leaf-blocked, IsBestMesh-end}
 use Rattle.closure_laws.proofs.laws.greedy_laws.Goals as goal
 
 pub returns-clause-closure : goal.returns-clause-closure
-returns-clause-closure c n budget priority ranking has ranked falling = IsRankClosure-greedy n priority ranking ranked falling budget has
+returns-clause-closure c n budget priority ranking has ranked falling =
+    IsRankClosure-greedy n priority ranking ranked falling budget has
 
 pub returns-clause-end : goal.returns-clause-end
-returns-clause-end c n budget priority ranking chosen has ranked falling = IsGreedyEnd-closure n priority ranking ranked falling budget chosen has
+returns-clause-end c n budget priority ranking chosen has ranked falling =
+    IsGreedyEnd-closure n priority ranking ranked falling budget chosen has
 
 pub returns-clause-blocked : goal.returns-clause-blocked
 returns-clause-blocked c n budget priority ranking chosen has next f ranked falling =

@@ -6,11 +6,13 @@ use Rattle.deferred_loop.proofs.asking.ask.Goals as goal
 
 pub tell-requires-clause-entry : goal.tell-requires-clause-entry
 tell-requires-clause-entry g c =
-    subst (λ z. IsEntry (g.M.QueuedMesh.seen c.args.mesh.now).set.n (among (g.M.QueuedMesh.seen c.args.mesh.now).set.members) z)
+    subst (λ z. IsEntry (g.M.QueuedMesh.seen c.args.mesh.now).set.n
+    (among (g.M.QueuedMesh.seen c.args.mesh.now).set.members) z)
     (sym c.rank-rank.ensures.tri) c.requires.entry
 
 pub tell-requires-clause-unknown : goal.tell-requires-clause-unknown
-tell-requires-clause-unknown g c = subst (λ z. (g.M.QueuedMesh.seen c.args.mesh.now).known z ≡ false) (sym c.rank-rank.ensures.tri)
+tell-requires-clause-unknown g c =
+    subst (λ z. (g.M.QueuedMesh.seen c.args.mesh.now).known z ≡ false) (sym c.rank-rank.ensures.tri)
     c.requires.unknown
 
 pub returns-clause-known : goal.returns-clause-known

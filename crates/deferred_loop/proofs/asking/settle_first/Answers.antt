@@ -15,37 +15,45 @@ use Rattle.deferred_loop.proofs.asking.settle_first.Goals as goal
 
 pub returns-then-head-eq0-clause-first : goal.returns-then-head-eq0-clause-first
 returns-then-head-eq0-clause-first g c =
-    subst (λ (z : PoolSet). All (λ a. g.w.priority a ≡ 0) (leaves_of g.w.n (among z.members))) c.asking.invariant.asked.set
-    (head_zero g.w c.requires.1.1.0 (g.M.QueuedMesh.seen c.asking.mesh) c.asking.invariant.asked.settled c.first-head.result
+    subst (λ (z : PoolSet). All (λ a. g.w.priority a ≡ 0) (leaves_of g.w.n (among z.members)))
+    c.asking.invariant.asked.set
+    (head_zero g.w c.requires.1.1.0
+    (g.M.QueuedMesh.seen c.asking.mesh) c.asking.invariant.asked.settled c.first-head.result
     c.first-head.ensures.head c.if-head-eq0.true)
 
 pub returns-then-head-clause-first : goal.returns-then-head-clause-first
 returns-then-head-clause-first g c =
-    subst (λ (z : PoolSet). IsFirstRank g.w.n g.w.priority z.members c.first-head.result.rank) c.asking.invariant.asked.set
-    (head_known g.w c.requires.1.1.0 (g.M.QueuedMesh.seen c.asking.mesh) c.asking.invariant.asked.settled c.first-head.result
+    subst (λ (z : PoolSet). IsFirstRank g.w.n g.w.priority z.members c.first-head.result.rank)
+    c.asking.invariant.asked.set
+    (head_known g.w c.requires.1.1.0
+    (g.M.QueuedMesh.seen c.asking.mesh) c.asking.invariant.asked.settled c.first-head.result
     c.first-head.ensures.head c.if-head.true c.if-head-eq0.false)
 
 pub ask-requires-clause-level : goal.ask-requires-clause-level
 ask-requires-clause-level g c =
     subst (λ (t : Located). level_of t.tri ≤ 2 * (g.G.Gauge.told c.asking.gauge).n) (sym c.leaf.ensures)
-    (head_level g.w c.requires.1.1.0 (g.M.QueuedMesh.seen c.asking.mesh) c.asking.invariant.asked.settled c.first-head.result
+    (head_level g.w c.requires.1.1.0
+    (g.M.QueuedMesh.seen c.asking.mesh) c.asking.invariant.asked.settled c.first-head.result
     c.first-head.ensures.head
     (g.G.Gauge.told c.asking.gauge) (c.asking.invariant.told ∙ c.requires.1.1.1.0))
 
 pub ask-requires-clause-at : goal.ask-requires-clause-at
 ask-requires-clause-at g c =
-    subst (λ (t : Located). g.M.QueuedMesh.tri_at c.asking.mesh t.slot.0 ≡ t.tri) (sym c.leaf.ensures) c.first-head.ensures.at
+    subst (λ (t : Located). g.M.QueuedMesh.tri_at c.asking.mesh t.slot.0 ≡ t.tri)
+    (sym c.leaf.ensures) c.first-head.ensures.at
 
 pub ask-requires-clause-entry : goal.ask-requires-clause-entry
 ask-requires-clause-entry g c =
     let seen = g.M.QueuedMesh.seen c.asking.mesh in
     subst (λ (t : Located). IsEntry seen.set.n (among seen.set.members) t.tri) (sym c.leaf.ensures)
-    (head_entry g.w c.requires.1.1.0 seen c.asking.invariant.asked.settled c.first-head.result c.first-head.ensures.head)
+    (head_entry g.w c.requires.1.1.0 seen c.asking.invariant.asked.settled c.first-head.result
+    c.first-head.ensures.head)
 
 pub ask-requires-clause-unknown : goal.ask-requires-clause-unknown
 ask-requires-clause-unknown g c =
     subst (λ (t : Located). (g.M.QueuedMesh.seen c.asking.mesh).known t.tri ≡ false) (sym c.leaf.ensures)
-    (unsure (g.M.QueuedMesh.seen c.asking.mesh) c.first-head.result.rank.tri (sym c.first-head.ensures.head.marked ∙ c.if-head.false))
+    (unsure (g.M.QueuedMesh.seen c.asking.mesh) c.first-head.result.rank.tri
+    (sym c.first-head.ensures.head.marked ∙ c.if-head.false))
 
 pub asking-init : goal.asking-init
 asking-init g c = record {
@@ -62,7 +70,8 @@ asking-smaller g c =
     told_less before (g.M.QueuedMesh.seen c.ask.new.mesh)
     (record { p = (g.G.Gauge.told c.asking.gauge).of c.leaf.result.tri; tri = c.leaf.result.tri })
     c.first-head.result.rank.tri c.ask.ensures.known (ap (λ (t : Located). t.tri) c.leaf.ensures)
-    (head_entry g.w c.requires.1.1.0 before c.asking.invariant.asked.settled c.first-head.result c.first-head.ensures.head)
+    (head_entry g.w c.requires.1.1.0 before c.asking.invariant.asked.settled c.first-head.result
+    c.first-head.ensures.head)
     (unsure before c.first-head.result.rank.tri (sym c.first-head.ensures.head.marked ∙ c.if-head.false))
 
 pub asking-preserved : goal.asking-preserved
@@ -72,7 +81,8 @@ asking-preserved g c =
     let more = g.G.Gauge.count c.ask.new.gauge in
     let rank : Rank = record { p = (g.G.Gauge.told c.asking.gauge).of c.leaf.result.tri; tri = c.leaf.result.tri } in
     let value = ap (λ (z : Priorities). z.of c.leaf.result.tri) (c.asking.invariant.told ∙ c.requires.1.1.1.0) in
-    let few = subst (λ (z : PoolSet). leaf_count g.w.n z.members ≤ g.w.budget) (sym c.asking.invariant.asked.set) c.requires.1.1.1.1.1 in
+    let few = subst (λ (z : PoolSet). leaf_count g.w.n z.members ≤ g.w.budget)
+    (sym c.asking.invariant.asked.set) c.requires.1.1.1.1.1 in
     record {
       told = c.ask.ensures.told ∙ c.asking.invariant.told;
       readings = c.ask.ensures.readings ∙ c.asking.invariant.readings;
@@ -83,6 +93,7 @@ asking-preserved g c =
           (λ evaluations added removed charged. charged_asked g.w before after rank c.first-head.result.rank.tri
           c.ask.ensures.known (ap (λ (t : Located). t.tri) c.leaf.ensures)
           evaluations added removed (g.G.Gauge.count c.asking.gauge) more c.ask.ensures.most charged
-          (head_may g.w c.requires.1.1.0 before c.asking.invariant.asked.settled c.first-head.result c.first-head.ensures.head
+          (head_may g.w c.requires.1.1.0 before c.asking.invariant.asked.settled c.first-head.result
+          c.first-head.ensures.head
           few c.if-head.false c.if-head-eq0.false evaluations added removed (g.G.Gauge.count c.asking.gauge) charged));
     }

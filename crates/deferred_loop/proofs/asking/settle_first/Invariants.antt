@@ -8,7 +8,8 @@ invariant-asking g l = record {
   told : g.G.Gauge.told l.gauge ≡ g.G.Gauge.told l.fn.gauge;
   readings : g.G.Gauge.readings l.gauge ≡ g.G.Gauge.readings l.fn.gauge;
   log : g.M.QueuedMesh.log l.mesh ≡ g.M.QueuedMesh.log l.fn.mesh;
-  asked : IsAskedOnly g.w (g.M.QueuedMesh.seen l.fn.mesh) (g.M.QueuedMesh.seen l.mesh) (g.G.Gauge.count l.fn.gauge) (g.G.Gauge.count l.gauge);
+  asked : IsAskedOnly g.w (g.M.QueuedMesh.seen l.fn.mesh) (g.M.QueuedMesh.seen l.mesh) (g.G.Gauge.count l.fn.gauge)
+      (g.G.Gauge.count l.gauge);
 }
 
 abbrev pub decreases-asking : goal.decreases-asking

@@ -9,15 +9,18 @@ use Rattle.deferred_loop.specs.Choice.{Priorities, IsLastRank}
 use Rattle.deferred_loop.specs.Kept.{IsAllowed, IsNoneMet}
 use Rattle.deferred_loop.specs.declared.queued.Located.{Located}
 use Rattle.deferred_loop.proofs.TellLemmas.{asked_none, told_only, told_less}
-use Rattle.deferred_loop.proofs.HeadLemmas.{last_decided, last_part, none_empty, none_met, last_is, last_entry, last_level}
+use Rattle.deferred_loop.proofs.HeadLemmas.{last_decided, last_part, none_empty, none_met, last_is, last_entry}
+use Rattle.deferred_loop.proofs.HeadLemmas.{last_level}
 use Rattle.deferred_loop.proofs.ChargeLemmas.{charged_asked, last_may}
 use Rattle.deferred_loop.proofs.asking.settle_last.Goals as goal
 
 pub returns-in_default-clause-last : goal.returns-in_default-clause-last
 returns-in_default-clause-last g c =
     subst (λ (z : PoolSet). IsNoneMet g.w z.members c.args.limit.now) c.asking.invariant.asked.set
-    (none_empty g.w c.requires.1.1.0 (g.M.QueuedMesh.seen c.asking.mesh) c.asking.invariant.asked.settled c.args.limit.now
-    (subst (λ (z : PoolSet). IsAllowed g.w z.members c.args.limit.now) (sym c.asking.invariant.asked.set) c.requires.1.1.1.1.1)
+    (none_empty g.w c.requires.1.1.0
+    (g.M.QueuedMesh.seen c.asking.mesh) c.asking.invariant.asked.settled c.args.limit.now
+    (subst (λ (z : PoolSet). IsAllowed g.w z.members c.args.limit.now)
+    (sym c.asking.invariant.asked.set) c.requires.1.1.1.1.1)
     c.in_default.ensures.head)
 
 pub returns-then-not-is_met-clause-last : goal.returns-then-not-is_met-clause-last
@@ -25,7 +28,8 @@ returns-then-not-is_met-clause-last g c =
     subst (λ (z : PoolSet). IsNoneMet g.w z.members c.args.limit.now) c.asking.invariant.asked.set
     (none_met g.w c.requires.1.1.0 (g.M.QueuedMesh.seen c.asking.mesh) c.asking.invariant.asked.settled c.in-Some.head
     c.in-Some.ensures.head c.args.limit.now
-    (subst (λ (z : PoolSet). IsAllowed g.w z.members c.args.limit.now) (sym c.asking.invariant.asked.set) c.requires.1.1.1.1.1)
+    (subst (λ (z : PoolSet). IsAllowed g.w z.members c.args.limit.now)
+    (sym c.asking.invariant.asked.set) c.requires.1.1.1.1.1)
     (λ met. both_ways c.is_met.result c.if-not-is_met.true (c.is_met.ensures.1 met)))
 
 pub returns-in_default-unasked-clause-last : goal.returns-in_default-unasked-clause-last
@@ -49,7 +53,8 @@ ask-requires-clause-level g c =
 pub ask-requires-clause-at : goal.ask-requires-clause-at
 ask-requires-clause-at g c =
     subst (λ (z : Located). g.M.QueuedMesh.tri_at c.asking.mesh z.slot.0 ≡ z.tri) (sym c.in-Some-unasked.t-is)
-    (subst (λ (o : Option Located). IfSome o (λ t. g.M.QueuedMesh.tri_at c.asking.mesh t.slot.0 ≡ t.tri)) c.in-Some-unasked.is
+    (subst (λ (o : Option Located). IfSome o (λ t. g.M.QueuedMesh.tri_at c.asking.mesh t.slot.0 ≡ t.tri))
+    c.in-Some-unasked.is
     c.in-Some.ensures.unasked_at)
 
 pub ask-requires-clause-entry : goal.ask-requires-clause-entry
@@ -86,7 +91,8 @@ asking-smaller g c =
     subst (λ (z : Located). IsRated before after (record { p = (g.G.Gauge.told c.asking.gauge).of z.tri; tri = z.tri }))
     c.in-Some-unasked.t-is c.ask.ensures.known in
     told_less before after rank t.tri known refl
-    (last_entry g.w c.requires.1.1.0 before c.asking.invariant.asked.settled c.in-Some.head c.in-Some.ensures.head t.tri part.0)
+    (last_entry g.w c.requires.1.1.0 before c.asking.invariant.asked.settled c.in-Some.head
+    c.in-Some.ensures.head t.tri part.0)
     part.1
 
 pub asking-preserved : goal.asking-preserved

@@ -36,11 +36,13 @@ returns-clause-charged g c =
     start_charged g.w c.requires.1.1.0 (g.G.Gauge.readings c.args.gauge.now) c.args.odometer
     (g.M.QueuedMesh.seen c.args.mesh.now) (g.M.QueuedMesh.seen c.begin.new.self) c.requires.1.1.1.1.0
     c.begin.ensures.begun
-    (g.M.QueuedMesh.seen c.enter_fresh.new.mesh) c.enter_fresh.ensures.entered (g.G.Gauge.count c.args.gauge.now) (g.G.Gauge.count c.enter_fresh.new.gauge) c.enter_fresh.ensures.most c.enter_fresh.ensures.least
+    (g.M.QueuedMesh.seen c.enter_fresh.new.mesh) c.enter_fresh.ensures.entered (g.G.Gauge.count c.args.gauge.now)
+    (g.G.Gauge.count c.enter_fresh.new.gauge) c.enter_fresh.ensures.most c.enter_fresh.ensures.least
 
 pub returns-clause-stamped : goal.returns-clause-stamped
 returns-clause-stamped g c =
     start_stamped g.w c.requires.1.1.0 (g.G.Gauge.readings c.args.gauge.now) c.args.odometer
     (g.M.QueuedMesh.seen c.args.mesh.now) (g.M.QueuedMesh.seen c.begin.new.self) c.requires.1.1.1.1.0
     c.begin.ensures.begun
-    (g.M.QueuedMesh.seen c.enter_fresh.new.mesh) c.enter_fresh.ensures.entered (g.G.Gauge.count c.args.gauge.now) (g.G.Gauge.count c.enter_fresh.new.gauge) c.enter_fresh.ensures.most c.enter_fresh.ensures.least
+    (g.M.QueuedMesh.seen c.enter_fresh.new.mesh) c.enter_fresh.ensures.entered (g.G.Gauge.count c.args.gauge.now)
+    (g.G.Gauge.count c.enter_fresh.new.gauge) c.enter_fresh.ensures.most c.enter_fresh.ensures.least

@@ -8,7 +8,8 @@ use Rattle.deferred_loop.proofs.entering.enter_fresh.Goals as goal
 pub reading-reading-requires : goal.reading-reading-requires
 reading-reading-requires g c = record {
   level = asked_level g.w (g.G.Gauge.told c.entering.gauge) c.in-Some.t (c.entering.invariant.told ∙ c.requires.1.1.0)
-      (c.requires.1.1.1.1.1.1.0 c.in-Some.t (c.entering.invariant.entering.rest c.in-Some.t (next_listed (g.M.QueuedMesh.seen c.entering.mesh) c.in-Some.t c.in-Some.ensures)));
+      (c.requires.1.1.1.1.1.1.0 c.in-Some.t (c.entering.invariant.entering.rest c.in-Some.t
+      (next_listed (g.M.QueuedMesh.seen c.entering.mesh) c.in-Some.t c.in-Some.ensures)));
 }
 
 pub entering-preserved : goal.entering-preserved
@@ -24,7 +25,8 @@ entering-preserved g c =
           (c.reading-reading.ensures.slack ∙ ap (λ (z : Readings). z.slack c.in-Some.t) readings)
           (c.reading-reading.ensures.hi ∙ ap (λ (z : Readings). z.upper c.in-Some.t) readings)
           (c.reading-reading.ensures.lo ∙ ap (λ (z : Readings). z.lower c.in-Some.t) readings)
-          (g.M.QueuedMesh.seen c.args.mesh.now) (g.G.Gauge.count c.args.gauge.now) (g.G.Gauge.count c.entering.gauge) (g.G.Gauge.count c.reading-reading.new.self)
+          (g.M.QueuedMesh.seen c.args.mesh.now) (g.G.Gauge.count c.args.gauge.now) (g.G.Gauge.count c.entering.gauge)
+          (g.G.Gauge.count c.reading-reading.new.self)
           c.requires.1.1.1.0 c.requires.1.1.1.1.1.0 c.entering.invariant.entering
           c.reading-reading.ensures.rises c.reading-reading.ensures.most c.reading-reading.ensures.counted;
     }

@@ -25,8 +25,10 @@ invariant-steps g l = record {
   counters : IsCountedBy (g.M.QueuedMesh.seen l.fn.mesh).set (g.M.QueuedMesh.seen l.mesh).set l.splits l.merges;
   log : IsLogged (g.M.QueuedMesh.seen l.fn.mesh).set (g.M.QueuedMesh.seen l.mesh).set
       (emptied (g.M.QueuedMesh.log l.fn.mesh)) (g.M.QueuedMesh.log l.mesh);
-  charged : IsCharged g.w (g.G.Gauge.count l.fn.gauge) (g.M.QueuedMesh.seen l.mesh) l.splits l.merges (g.G.Gauge.count l.gauge);
-  stamped : IsStamped (g.G.Gauge.readings l.fn.gauge) l.odometer (g.M.QueuedMesh.seen l.fn.mesh) (g.G.Gauge.count l.fn.gauge) (g.M.QueuedMesh.seen l.mesh) (g.G.Gauge.count l.gauge);
+  charged : IsCharged g.w (g.G.Gauge.count l.fn.gauge) (g.M.QueuedMesh.seen l.mesh) l.splits l.merges
+      (g.G.Gauge.count l.gauge);
+  stamped : IsStamped (g.G.Gauge.readings l.fn.gauge) l.odometer (g.M.QueuedMesh.seen l.fn.mesh)
+      (g.G.Gauge.count l.fn.gauge) (g.M.QueuedMesh.seen l.mesh) (g.G.Gauge.count l.gauge);
 }
 
 abbrev pub decreases-steps : goal.decreases-steps

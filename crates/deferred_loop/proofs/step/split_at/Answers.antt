@@ -6,12 +6,14 @@ use Rattle.frame_steps.specs.Steps.{IsSplitStep, leaf_count}
 use Rattle.deferred_loop.proofs.ChoiceLemmas.{split_counted, split_room}
 use Rattle.deferred_loop.proofs.HeadLemmas.{grid_set_here}
 use Rattle.deferred_loop.proofs.LogLemmas.{logged_on}
-use Rattle.deferred_loop.proofs.StepLemmas.{split_sound, fresh_address, split_charged, step_stamped, split_step, splittable}
+use Rattle.deferred_loop.proofs.StepLemmas.{split_sound, fresh_address, split_charged, step_stamped, split_step}
+use Rattle.deferred_loop.proofs.StepLemmas.{splittable}
 use Rattle.deferred_loop.proofs.step.split_at.Goals as goal
 
 pub split-requires-clause-splittable : goal.split-requires-clause-splittable
 split-requires-clause-splittable g c =
-    splittable g.w c.requires.1.1.0 (g.M.QueuedMesh.seen c.args.mesh.now) c.requires.1.1.1.1.0 c.args.t.tri c.requires.1.1.1.1.1.0
+    splittable g.w c.requires.1.1.0
+    (g.M.QueuedMesh.seen c.args.mesh.now) c.requires.1.1.1.1.0 c.args.t.tri c.requires.1.1.1.1.1.0
 
 pub split-requires-clause-leaf : goal.split-requires-clause-leaf
 split-requires-clause-leaf g c =
@@ -23,7 +25,8 @@ split-requires-clause-room g c after forced =
     let s = g.M.QueuedMesh.seen c.args.mesh.now in
     let grid = c.requires.1.1.1.1.0.grid in
     subst (λ z. leaf_count z after ≤ s.set.most) (sym grid)
-    (split_room g.w.n s.set.most g.w.budget g.w.priority s.set.members c.args.t.tri after c.requires.1.1.1.1.1.1.1.1.1.1.0
+    (split_room g.w.n s.set.most g.w.budget g.w.priority s.set.members c.args.t.tri after
+    c.requires.1.1.1.1.1.1.1.1.1.1.0
     c.requires.1.1.1.1.1.0 (subst (λ z. IsForced z s.set.members c.args.t.tri after) grid forced))
 
 pub overflow_sub-splits : goal.overflow_sub-splits
@@ -43,7 +46,8 @@ overflow_add-splits g c =
 
 pub enter_fresh-requires : goal.enter_fresh-requires
 enter_fresh-requires g c κs within =
-    let sound = split_sound g.w (g.M.QueuedMesh.seen c.args.mesh.now) (g.M.QueuedMesh.seen c.split.new.self) c.args.t.tri
+    let sound =
+    split_sound g.w (g.M.QueuedMesh.seen c.args.mesh.now) (g.M.QueuedMesh.seen c.split.new.self) c.args.t.tri
     c.requires.1.1.1.1.0 c.split.ensures.split in (
       within.0,
       (
@@ -57,7 +61,8 @@ enter_fresh-requires g c κs within =
               (
                 c.split.ensures.split.renewed.unknown,
                 (
-                  λ a i. fresh_address g.w (g.M.QueuedMesh.seen c.args.mesh.now) (g.M.QueuedMesh.seen c.split.new.self) a sound
+                  λ a i. fresh_address g.w (g.M.QueuedMesh.seen c.args.mesh.now)
+                      (g.M.QueuedMesh.seen c.split.new.self) a sound
                       c.split.ensures.split.renewed i,
                   c.requires.1.1.1.1.1.1.1.0,
                 ),
@@ -70,9 +75,11 @@ enter_fresh-requires g c κs within =
 
 pub returns-clause-step : goal.returns-clause-step
 returns-clause-step g c =
-    subst (λ (z : PoolSet). IsSplitStep g.w.n g.w.budget g.w.priority (g.M.QueuedMesh.seen c.args.mesh.now).set.members z.members)
+    subst (λ (z : PoolSet).
+    IsSplitStep g.w.n g.w.budget g.w.priority (g.M.QueuedMesh.seen c.args.mesh.now).set.members z.members)
     (sym c.enter_fresh.ensures.entered.set)
-    (split_step g.w (g.M.QueuedMesh.seen c.args.mesh.now).set.members c.args.t.tri (g.M.QueuedMesh.seen c.split.new.self).set.members
+    (split_step g.w (g.M.QueuedMesh.seen c.args.mesh.now).set.members c.args.t.tri
+    (g.M.QueuedMesh.seen c.split.new.self).set.members
     c.requires.1.1.1.1.1.0
     (subst (λ z. IsForced z (g.M.QueuedMesh.seen c.args.mesh.now).set.members c.args.t.tri
     (g.M.QueuedMesh.seen c.split.new.self).set.members) c.requires.1.1.1.1.0.grid c.split.ensures.split.forced))
@@ -83,7 +90,8 @@ returns-clause-counters g c =
     let k = split_counted before.n now.n before.members c.args.t.tri now.members c.split.ensures.split.n
     (grid_set_here g.w (g.M.QueuedMesh.seen c.args.mesh.now) c.requires.1.1.1.1.0) c.split.ensures.split.forced in
     λ start removed counted.
-    subst (λ (z : PoolSet). IsCountedBy start z (c.args.splits.now + (c.leaf_count.result - c.leaf_count-before.result)) removed)
+    subst (λ (z : PoolSet).
+    IsCountedBy start z (c.args.splits.now + (c.leaf_count.result - c.leaf_count-before.result)) removed)
     (sym c.enter_fresh.ensures.entered.set) record {
       most = c.split.ensures.split.most ∙ counted.most;
       splits_rose = omega (
@@ -103,11 +111,13 @@ returns-clause-charged g c =
     let before = (g.M.QueuedMesh.seen c.args.mesh.now).set in let now = (g.M.QueuedMesh.seen c.split.new.self).set in
     let k = split_counted before.n now.n before.members c.args.t.tri now.members c.split.ensures.split.n
     (grid_set_here g.w (g.M.QueuedMesh.seen c.args.mesh.now) c.requires.1.1.1.1.0) c.split.ensures.split.forced in
-    let forced = subst (λ z. IsForced z before.members c.args.t.tri now.members) settled.grid c.split.ensures.split.forced in
+    let forced =
+    subst (λ z. IsForced z before.members c.args.t.tri now.members) settled.grid c.split.ensures.split.forced in
     λ evaluations removed charged.
     split_charged g.w (g.M.QueuedMesh.seen c.args.mesh.now) (g.M.QueuedMesh.seen c.split.new.self)
     (g.M.QueuedMesh.seen c.enter_fresh.new.mesh) settled c.split.ensures.split.n c.split.ensures.split.renewed
-    (g.G.Gauge.readings c.args.gauge.now) c.args.odometer c.enter_fresh.ensures.entered c.args.t.tri evaluations c.args.splits.now removed
+    (g.G.Gauge.readings c.args.gauge.now) c.args.odometer c.enter_fresh.ensures.entered c.args.t.tri evaluations
+    c.args.splits.now removed
     (c.args.splits.now + (c.leaf_count.result - c.leaf_count-before.result)) (g.G.Gauge.count c.args.gauge.now)
     (g.G.Gauge.count c.enter_fresh.new.gauge)
     settled.valid forced
@@ -120,12 +130,14 @@ returns-clause-stamped g c =
     step_stamped g.w (g.M.QueuedMesh.seen c.args.mesh.now) (g.M.QueuedMesh.seen c.split.new.self)
     (g.M.QueuedMesh.seen c.enter_fresh.new.mesh) c.requires.1.1.1.1.0 c.split.ensures.split.n
     c.split.ensures.split.renewed
-    (g.G.Gauge.readings c.args.gauge.now) c.args.odometer c.enter_fresh.ensures.entered start first (g.G.Gauge.count c.args.gauge.now)
+    (g.G.Gauge.readings c.args.gauge.now) c.args.odometer c.enter_fresh.ensures.entered start first
+    (g.G.Gauge.count c.args.gauge.now)
     (g.G.Gauge.count c.enter_fresh.new.gauge) c.enter_fresh.ensures.least stamped
 
 pub returns-clause-log : goal.returns-clause-log
 returns-clause-log g c =
     logged_on (g.M.QueuedMesh.seen c.args.mesh.now).set (g.M.QueuedMesh.seen c.split.new.self).set
     (g.M.QueuedMesh.seen c.enter_fresh.new.mesh).set
-    (g.M.QueuedMesh.log c.args.mesh.now) (g.M.QueuedMesh.log c.split.new.self) (g.M.QueuedMesh.log c.enter_fresh.new.mesh)
+    (g.M.QueuedMesh.log c.args.mesh.now) (g.M.QueuedMesh.log c.split.new.self)
+    (g.M.QueuedMesh.log c.enter_fresh.new.mesh)
     c.split.ensures.log c.enter_fresh.ensures.entered.set c.enter_fresh.ensures.log

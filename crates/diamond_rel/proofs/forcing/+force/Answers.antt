@@ -6,7 +6,8 @@ use Rattle.diamond_rel.proofs.forcing.+force.Goals as goal
 
 pub force-returns-in_ok-insert-in-None-clause-least : goal.force-returns-in_ok-insert-in-None-clause-least
 force-returns-in_ok-insert-in-None-clause-least t c =
-    IsLeastClosed-single c.args.n (among c.args.members.now.items) (among c.force_parent.new.members.items) (among c.insert.new.members.items) c.args.t
+    IsLeastClosed-single c.args.n (among c.args.members.now.items) (among c.force_parent.new.members.items)
+    (among c.insert.new.members.items) c.args.t
     c.requires.splittable c.in_ok-force_parent.ensures.prepared
     (λ b m. let e = (c.in-None.ensures.mate b).1 m in cc)
     c.in_ok-insert-in-None.ensures.ok
@@ -15,7 +16,8 @@ pub force-returns-in_ok-insert-in-Some-2-clause-least : goal.force-returns-in_ok
 force-returns-in_ok-insert-in-Some-2-clause-least t c =
     let e : Some c.in-Some.mate ≡ Some c.in-Some.mate = cc in
     IsLeastClosed-pair c.args.n (among c.args.members.now.items) (among c.force_parent.new.members.items)
-    (among c.force_parent-in-Some.new.members.items) (among c.insert-in-Some.new.members.items) (among c.insert-in-Some-2.new.members.items)
+    (among c.force_parent-in-Some.new.members.items) (among c.insert-in-Some.new.members.items)
+    (among c.insert-in-Some-2.new.members.items)
     c.args.t c.in-Some.mate c.requires.splittable ((c.in-Some.ensures.mate c.in-Some.mate).0 e)
     c.in_ok-force_parent.ensures.prepared c.in_ok-force_parent-in-Some.ensures.prepared
     c.in_ok-insert-in-Some.ensures.ok c.in_ok-insert-in-Some-2.ensures.ok

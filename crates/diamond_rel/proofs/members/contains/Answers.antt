@@ -5,5 +5,6 @@ use Rattle.diamond_rel.proofs.members.contains.Goals as goal
 
 pub returns : goal.returns
 returns c = record {
-  value = c.is_ok.ensures.value ∙ is_ok-searched c.args.members.now c.args.t c.binary_search.result c.requires.ascending c.binary_search.ensures.position;
+  value = c.is_ok.ensures.value ∙ is_ok-searched c.args.members.now c.args.t c.binary_search.result c.requires.ascending
+      c.binary_search.ensures.position;
 }

@@ -10,7 +10,8 @@ invariant-loop-t l = record {
   most : l.exchange.most ≡ l.initial.exchange.most;
   points : l.exchange.points ≡ l.initial.exchange.points;
   given : l.exchange.given ≡ l.initial.exchange.given;
-  total : (a : ℕ) → times l.exchange.triangles a + times (addresses_of l.exchange.waiting) a + times (take l.t-index l.gone) a
+  total : (a : ℕ) →
+      times l.exchange.triangles a + times (addresses_of l.exchange.waiting) a + times (take l.t-index l.gone) a
       ≡ times l.initial.exchange.triangles a + times (addresses_of l.initial.exchange.waiting) a;
   here : (a : ℕ) → times (drop l.t-index l.gone) a ≤ times l.exchange.triangles a;
   waiting : length l.exchange.waiting ≡ length l.initial.exchange.waiting - l.t-index;

@@ -8,7 +8,8 @@ use Rattle.draw_buffer.proofs.buffer.settle_all.Goals as goal
 
 -- none waits any more
 nothing : (b : Bool) (m : ℕ) → (IsTrue b → 0 < m) × (0 < m → IsTrue b) → b ≡ false → m ≡ 0
-nothing b m h off = ⊎_elim (λ (e : 0 < m). absurd (false≢true (sym off ∙ h.1 e))) (λ (e : m ≤ 0). omega arith) (cases_lt 0 m)
+nothing b m h off =
+    ⊎_elim (λ (e : 0 < m). absurd (false≢true (sym off ∙ h.1 e))) (λ (e : m ≤ 0). omega arith) (cases_lt 0 m)
 
 pub returns-clause-total : goal.returns-clause-total
 returns-clause-total c a =

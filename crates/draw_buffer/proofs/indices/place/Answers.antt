@@ -7,7 +7,8 @@ pub returns-clause-within : goal.returns-clause-within
 returns-clause-within c =
     let column = c.requires.column in
     let row = c.requires.row in
-    let h = mul-add-lt (2 ^ c.args.n - c.args.point.y) (2 ^ c.args.n + 1) c.args.point.x (2 ^ c.args.n + 1) (omega arith) (omega arith) in
+    let h = mul-add-lt (2 ^ c.args.n - c.args.point.y) (2 ^ c.args.n + 1) c.args.point.x (2 ^ c.args.n + 1)
+    (omega arith) (omega arith) in
     let small = side_small c.args.n c.requires.in_grid in
     let last : 1 * 2 ^ c.args.n % 4294967296 ≡ 2 ^ c.args.n = omega (arith, small.1) in
     rw last h

@@ -8,7 +8,10 @@ use Rattle.edge_laws.proofs.LeafLemmas.{named_edge}
 use Rattle.edge_laws.proofs.laws.edge_laws.Goals as goal
 
 pub returns-clause-mate : goal.returns-clause-mate
-returns-clause-mate c n a b low fits = ((λ m. let is = mate_of-IsMate n a b low fits m in let two = m.address.low in (omega arith, is)), (λ v. subst (λ t. IsMate n a t) v.1 (IsMate-mate_of n a low fits v.0)))
+returns-clause-mate c n a b low fits = (
+  (λ m. let is = mate_of-IsMate n a b low fits m in let two = m.address.low in (omega arith, is)),
+  (λ v. subst (λ t. IsMate n a t) v.1 (IsMate-mate_of n a low fits v.0)),
+)
 
 pub returns-clause-back : goal.returns-clause-back
 returns-clause-back c = mate_of-back

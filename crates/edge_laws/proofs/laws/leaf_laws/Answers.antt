@@ -1,5 +1,6 @@
 -- Each clause is a lemma.
-use Rattle.edge_laws.proofs.LeafLemmas.{one_leaf, edge-reversed, edge-alone, leaf_across, edge-border, base-across, leg-across}
+use Rattle.edge_laws.proofs.LeafLemmas.{one_leaf, edge-reversed, edge-alone, leaf_across, edge-border, base-across}
+use Rattle.edge_laws.proofs.LeafLemmas.{leg-across}
 use Rattle.edge_laws.proofs.DiamondEdgeLemmas.{across_children, across_merged}
 use Rattle.edge_laws.proofs.laws.leaf_laws.Goals as goal
 

@@ -1,5 +1,6 @@
 -- Each clause is a lemma.
-use Rattle.edge_laws.proofs.SlotLemmas.{square-children, slot_of, parent_has_children, IsLeafOf-slot, leaf_slot, leaves_count, IsMerge-IsSplit, IsSplit-IsMerge}
+use Rattle.edge_laws.proofs.SlotLemmas.{square-children, slot_of, parent_has_children, IsLeafOf-slot, leaf_slot}
+use Rattle.edge_laws.proofs.SlotLemmas.{leaves_count, IsMerge-IsSplit, IsSplit-IsMerge}
 use Rattle.edge_laws.proofs.laws.slot_laws.Goals as goal
 
 pub returns-clause-members : goal.returns-clause-members

@@ -5,7 +5,8 @@ use Rattle.mesh_defs.specs.Triangle.{level_of}
 use Rattle.engine_tests.proofs.mesh_frames.check_falling.Goals as goal
 
 -- past the end of a list that ends where the finest triangles begin there are none
-finest_zero : (n a : ℕ) (list : List ℕ) → length list ≤ 2 * 2 ^ (2 * n) → 2 ≤ a → level_of a ≡ 2 * n → get_or list a 0 ≡ 0
+finest_zero : (n a : ℕ) (list : List ℕ) → length list ≤ 2 * 2 ^ (2 * n) → 2 ≤ a →
+    level_of a ≡ 2 * n → get_or list a 0 ≡ 0
 finest_zero n a list short low level =
     let least : 2 ^ (level_of a + 1) ≤ a = (IsAtLevel-level_of a low).low in
     let same : 2 ^ (2 * n + 1) ≤ a = rw level at least in

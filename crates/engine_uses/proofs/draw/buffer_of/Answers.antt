@@ -15,7 +15,8 @@ patch-requires-clause-come c a =
     let e = c.args.engine.now in
     let empty = ap (λ (xs : List ℕ). times xs a) (c.in_ok-buffer.ensures.triangles) ∙ times-none a in
     let leaves = ap (λ (xs : List ℕ). times xs a) c.view.ensures.leaves in
-    let leaf = times-leaves (mesh_seen e) a (c.set_leaf_laws.ensures.once e.state.grid.n (among (pool_members e.mesh.pool)) a) in
+    let leaf = times-leaves (mesh_seen e) a
+    (c.set_leaf_laws.ensures.once e.state.grid.n (among (pool_members e.mesh.pool)) a) in
     omega arith
 
 pub returns : goal.returns
@@ -31,14 +32,16 @@ returns c =
     let none = times-none a in
     let members = c.patch.ensures.members a in
     omega arith in
-    let places : IsPermutation (mesh_seen e) new.triangles = c.times_laws.ensures.permutation (mesh_seen e) new.triangles same in
+    let places : IsPermutation (mesh_seen e) new.triangles =
+    c.times_laws.ensures.permutation (mesh_seen e) new.triangles same in
     record {
       step = record {
         room = rw (most, c.most.ensures, n) (omega arith);
         drawn = record {
           grid = grid;
           places = places;
-          corners = rw (c.patch.ensures.drawn, grid) (IsPermutation-map (grid_indices e.state.grid.n) (mesh_seen e) new.triangles places);
+          corners = rw (c.patch.ensures.drawn, grid)
+              (IsPermutation-map (grid_indices e.state.grid.n) (mesh_seen e) new.triangles places);
         };
       };
     }

@@ -17,8 +17,10 @@ patch-requires-clause-levels c =
     let behind = c.requires.behind in
     let level : ℕ → Type 0 = λ a. level_of a ≤ 2 * c.args.engine.now.state.grid.n in
     let come = c.changes-changes.ensures.come ∙ behind.changed.new in
-    let seen : All level (mesh_seen c.args.engine.now) = subst (All level) c.view-few.ensures.leaves c.view-few.ensures.levels in
-    rw (come, behind.drawn.grid) (All-filter (λ a. not (among behind.before a)) level (mesh_seen c.args.engine.now) seen)
+    let seen : All level (mesh_seen c.args.engine.now) =
+    subst (All level) c.view-few.ensures.leaves c.view-few.ensures.levels in
+    rw (come, behind.drawn.grid)
+    (All-filter (λ a. not (among behind.before a)) level (mesh_seen c.args.engine.now) seen)
 
 pub patch-requires-clause-gone : goal.patch-requires-clause-gone
 patch-requires-clause-gone c a =
@@ -35,7 +37,8 @@ patch-requires-clause-come c a =
     let come = ap (λ (xs : List ℕ). times xs a) (c.changes-changes.ensures.come ∙ behind.changed.new) in
     let moved = times-moved behind.before c.args.buffer.now.triangles a behind.drawn.places in
     let here = c.triangles-once.ensures.once a in
-    let leaf = times-leaves (mesh_seen e) a (c.set_leaf_laws.ensures.once e.state.grid.n (among (pool_members e.mesh.pool)) a) in
+    let leaf = times-leaves (mesh_seen e) a
+    (c.set_leaf_laws.ensures.once e.state.grid.n (among (pool_members e.mesh.pool)) a) in
     let all = times-come behind.before (mesh_seen e) a (omega arith) leaf in
     omega arith
 
@@ -48,7 +51,8 @@ patch-requires-clause-room c =
     let moved = times-moved behind.before c.args.buffer.now.triangles a behind.drawn.places in
     let here = c.triangles-once.ensures.once a in
     omega arith in
-    let leaf : (a : ℕ) → times (mesh_seen e) a ≤ 1 = λ a. times-leaves (mesh_seen e) a (c.set_leaf_laws.ensures.once e.state.grid.n has a) in
+    let leaf : (a : ℕ) → times (mesh_seen e) a ≤ 1 =
+    λ a. times-leaves (mesh_seen e) a (c.set_leaf_laws.ensures.once e.state.grid.n has a) in
     let whole = length-step behind.before (mesh_seen e) c.times_laws.ensures.permutation once leaf in
     let gone = ap length (c.changes-changes.ensures.gone ∙ behind.changed.left) in
     let come = ap length (c.changes-changes.ensures.come ∙ behind.changed.new) in
@@ -75,12 +79,14 @@ returns-clause-step c =
     let come = ap (λ (xs : List ℕ). times xs a) (c.changes-changes.ensures.come ∙ behind.changed.new) in
     let members = c.patch.ensures.members a in
     omega arith in
-    let places : IsPermutation (mesh_seen e) new.triangles = c.times_laws.ensures.permutation (mesh_seen e) new.triangles same in
+    let places : IsPermutation (mesh_seen e) new.triangles =
+    c.times_laws.ensures.permutation (mesh_seen e) new.triangles same in
     record {
       room = rw c.patch.ensures.most behind.room;
       drawn = record {
         grid = grid;
         places = places;
-        corners = rw (c.patch.ensures.drawn, grid) (IsPermutation-map (grid_indices e.state.grid.n) (mesh_seen e) new.triangles places);
+        corners = rw (c.patch.ensures.drawn, grid)
+            (IsPermutation-map (grid_indices e.state.grid.n) (mesh_seen e) new.triangles places);
       };
     }

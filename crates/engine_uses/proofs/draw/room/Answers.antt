@@ -5,7 +5,8 @@ use Rattle.engine_uses.proofs.draw.room.Goals as goal
 -- a power of 4 up to the eleventh
 within : (n : ℕ) → n ≤ 11 → (1 ≤ 4 ^ n) × (4 ^ n ≤ 4194304)
 within n small =
-    let low : 4 ^ 0 ≤ 4 ^ n = pow-le-pow_right {n = 4} (let h : 0 < 4 = omega arith in h) {i = 0} {j = n} (let h : 0 ≤ n = omega arith in h) in
+    let low : 4 ^ 0 ≤ 4 ^ n = pow-le-pow_right {n = 4} (let h : 0 < 4 = omega arith in
+    h) {i = 0} {j = n} (let h : 0 ≤ n = omega arith in h) in
     let high : 4 ^ n ≤ 4 ^ 11 = pow-le-pow_right {n = 4} (let h : 0 < 4 = omega arith in h) small in
     (omega arith, omega arith)
 

@@ -16,15 +16,19 @@ loop-place-preserved c =
     let place = c.place-item.result in
     let start : State = start_state c.args.grid 1 c.args.budget in
     let below : c.loop-place.place-index < length c.args.path.now = omega arith in
-    let there : with_camera c.place-item.result c.loop-place.engine.state ≡ with_camera c.place-item.result (start_state c.args.grid 1 c.args.budget) = ap (with_camera c.place-item.result) before.state in
+    let there : with_camera c.place-item.result c.loop-place.engine.state ≡ with_camera c.place-item.result
+    (start_state c.args.grid 1 c.args.budget) = ap (with_camera c.place-item.result) before.state in
     let moved = c.frame_from.ensures.state ∙ there in
     let seen : IsBestFrom c.args.grid c.args.budget c.place-item.result c.frame_from.result = record {
       triangles = mesh_seen c.frame_from.new.engine;
-      seen = subst (λ (s : State). IsBestSeen s (mesh_seen c.frame_from.new.engine) c.frame_from.result) there c.frame_from.ensures.best;
+      seen = subst (λ (s : State). IsBestSeen s (mesh_seen c.frame_from.new.engine) c.frame_from.result) there
+          c.frame_from.ensures.best;
     } in
     record {
-      best = subst (λ (sights : List Sight). AreBestFrom c.args.grid c.args.budget (take (index + 1) path) sights) (sym c.in_ok-push.ensures.items)
-          (all-zip-take (IsBestFrom c.args.grid c.args.budget) path c.loop-place.sights.items index place c.frame_from.result below c.place-item.is before.best seen);
+      best = subst (λ (sights : List Sight). AreBestFrom c.args.grid c.args.budget (take (index + 1) path) sights)
+          (sym c.in_ok-push.ensures.items)
+          (all-zip-take (IsBestFrom c.args.grid c.args.budget) path c.loop-place.sights.items index place
+          c.frame_from.result below c.place-item.is before.best seen);
       state = moved ∙ ap (λ (p : CameraAt). with_camera p start) (sym (ap (λ (s : State). s.view.camera) moved));
       odometer = omega (arith, c.frame_from.ensures.odometer, before.odometer);
       frames = omega (arith, c.frame_from.ensures.frames, before.frames);

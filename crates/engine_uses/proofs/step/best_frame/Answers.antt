@@ -11,7 +11,8 @@ returns-clause-best c =
     let done = c.frame-note.ensures.done in
     let pool = c.frame-note.new.self.mesh.pool in
     rw done.state (record {
-      best = subst (λ (s : State). IsBestMesh s.grid.n s.budget (priority_in s) (leaves_of s.grid.n (among (pool_members pool)))) done.state c.frame-note.ensures.best;
+      best = subst (λ (s : State). IsBestMesh s.grid.n s.budget (priority_in s)
+          (leaves_of s.grid.n (among (pool_members pool)))) done.state c.frame-note.ensures.best;
       count = done.triangles;
       greatest = done.frame.greatest;
     })

@@ -6,4 +6,5 @@ use Rattle.fit_cert_text.specs.FitLine.{fit_line_word}
 use Rattle.fit_cert_text.proofs.reading.named.Goals as goal
 
 pub returns-in-tolerance : goal.returns-in-tolerance
-returns-in-tolerance c = sym (ap fit_line_word (text_from_reads c.args.field.now (codes "tolerance") (omega arith) (search rules)))
+returns-in-tolerance c =
+    sym (ap fit_line_word (text_from_reads c.args.field.now (codes "tolerance") (omega arith) (search rules)))

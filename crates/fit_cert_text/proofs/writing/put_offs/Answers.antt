@@ -20,12 +20,15 @@ loop-reason-preserved g c =
     let below : c.loop-reason.reason-index < length c.args.reasons.now = omega arith in
     record {
       put = λ before text put. subst (IsPut before (g.S.Sink.contents c.put_line.new.out) c.put_line.new.page.items)
-          (sym (texts-next off_text text c.args.reasons.now c.loop-reason.reason-index c.reason-item.result below c.reason-item.is))
-          (c.in_ok-put_line.ensures.ok before (text ++ flat_map off_text (take c.loop-reason.reason-index c.args.reasons.now))
+          (sym (texts-next off_text text c.args.reasons.now c.loop-reason.reason-index c.reason-item.result
+          below c.reason-item.is))
+          (c.in_ok-put_line.ensures.ok before
+          (text ++ flat_map off_text (take c.loop-reason.reason-index c.args.reasons.now))
           (c.loop-reason.invariant.put before text put));
       calm = c.in_ok-put_line.ensures.faults.ok ∙ c.loop-reason.invariant.calm;
       in_time = λ late calm.
-          c.in_ok-put_line.ensures.in_time (c.loop-reason.invariant.in_time late calm) (c.loop-reason.invariant.calm ∙ calm);
+          c.in_ok-put_line.ensures.in_time (c.loop-reason.invariant.in_time late calm)
+          (c.loop-reason.invariant.calm ∙ calm);
     }
 
 pub returns-in_err-put_line-clause-err : goal.returns-in_err-put_line-clause-err
@@ -40,5 +43,6 @@ returns-in_err-put_line-clause-err g c =
 
 pub returns-clause-ok : goal.returns-clause-ok
 returns-clause-ok g c before text put =
-    subst (λ l. IsPut before (g.S.Sink.contents c.loop-reason.out) c.loop-reason.page.items (text ++ flat_map off_text l))
+    subst (λ l. IsPut before (g.S.Sink.contents c.loop-reason.out) c.loop-reason.page.items
+    (text ++ flat_map off_text l))
     (take_all c.loop-reason.reason-index c.args.reasons.now (omega arith)) (c.loop-reason.invariant.put before text put)

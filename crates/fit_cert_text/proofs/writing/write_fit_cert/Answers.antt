@@ -17,18 +17,23 @@ first before page empty = subst (λ l. IsPut before before l []) (sym empty) (pu
 
 -- the text of the parts of a certificate
 abbrev parts : ℕ → List Off → List Off → List ℕ
-parts tolerance needed beyond = ended_fit_line (ToleranceLine tolerance) ++ flat_map off_text needed ++ ended_fit_line MeshLine ++ flat_map off_text beyond
+parts tolerance needed beyond =
+    ended_fit_line (ToleranceLine tolerance) ++ flat_map off_text needed ++ ended_fit_line MeshLine
+    ++ flat_map off_text beyond
 
-same_parts : (own tolerance : ℕ) (front needed back beyond : List Off) → own ≡ tolerance → front ≡ needed → back ≡ beyond →
+same_parts : (own tolerance : ℕ) (front needed back beyond : List Off) → own ≡ tolerance →
+    front ≡ needed → back ≡ beyond →
     parts own front back ≡ parts tolerance needed beyond
 same_parts own tolerance front needed back beyond e f h =
     ap (λ k. parts k front back) e ∙ ap (λ k. parts tolerance k back) f ∙ ap (λ k. parts tolerance needed k) h
 
 -- the first parts, and the others
 front_parts : (tolerance : ℕ) (needed beyond : List Off) → parts tolerance needed beyond
-    ≡ (ended_fit_line (ToleranceLine tolerance) ++ flat_map off_text needed) ++ (ended_fit_line MeshLine ++ flat_map off_text beyond)
+    ≡ (ended_fit_line (ToleranceLine tolerance) ++ flat_map off_text needed)
+    ++ (ended_fit_line MeshLine ++ flat_map off_text beyond)
 front_parts tolerance needed beyond =
-    append_assoc (ended_fit_line (ToleranceLine tolerance) ++ flat_map off_text needed) (ended_fit_line MeshLine) (flat_map off_text beyond)
+    append_assoc (ended_fit_line (ToleranceLine tolerance) ++ flat_map off_text needed) (ended_fit_line MeshLine)
+    (flat_map off_text beyond)
 
 pub returns-in_err-put_line-clause-bytes : goal.returns-in_err-put_line-clause-bytes
 returns-in_err-put_line-clause-bytes g c =
@@ -50,7 +55,8 @@ returns-in_err-put_offs-clause-bytes g c =
     (sym (same_parts c.tolerance.result cert.tolerance c.needed.result.now cert.needed cert.beyond cert.beyond
     c.tolerance.ensures c.needed.ensures.value refl)
     ∙ front_parts c.tolerance.result c.needed.result.now cert.beyond)
-    (c.in_err-put_offs.ensures.err before (ended_fit_line (ToleranceLine c.tolerance.result)) (c.in_ok-put_line.ensures.ok before [] start))))
+    (c.in_err-put_offs.ensures.err before (ended_fit_line (ToleranceLine c.tolerance.result))
+    (c.in_ok-put_line.ensures.ok before [] start))))
 
 pub returns-in_err-put_line-2-clause-bytes : goal.returns-in_err-put_line-2-clause-bytes
 returns-in_err-put_line-2-clause-bytes g c =
@@ -65,7 +71,8 @@ returns-in_err-put_line-2-clause-bytes g c =
     c.tolerance.ensures c.needed.ensures.value refl)
     ∙ front_parts c.tolerance.result c.needed.result.now cert.beyond)
     (c.in_err-put_line-2.ensures.err before text
-    (c.in_ok-put_offs.ensures.ok before (ended_fit_line (ToleranceLine c.tolerance.result)) (c.in_ok-put_line.ensures.ok before [] start)))))
+    (c.in_ok-put_offs.ensures.ok before (ended_fit_line (ToleranceLine c.tolerance.result))
+    (c.in_ok-put_line.ensures.ok before [] start)))))
 
 pub returns-in_err-put_offs-2-clause-bytes : goal.returns-in_err-put_offs-2-clause-bytes
 returns-in_err-put_offs-2-clause-bytes g c =
@@ -79,7 +86,8 @@ returns-in_err-put_offs-2-clause-bytes g c =
     (sym (same_parts c.tolerance.result cert.tolerance c.needed.result.now cert.needed c.beyond.result.now cert.beyond
     c.tolerance.ensures c.needed.ensures.value c.beyond.ensures.value) ∙ sym (append-nil whole))
     (c.in_err-put_offs-2.ensures.err before (text ++ ended_fit_line MeshLine) (c.in_ok-put_line-2.ensures.ok before text
-    (c.in_ok-put_offs.ensures.ok before (ended_fit_line (ToleranceLine c.tolerance.result)) (c.in_ok-put_line.ensures.ok before [] start))))))
+    (c.in_ok-put_offs.ensures.ok before (ended_fit_line (ToleranceLine c.tolerance.result))
+    (c.in_ok-put_line.ensures.ok before [] start))))))
 
 pub returns-clause-bytes : goal.returns-clause-bytes
 returns-clause-bytes g c =
@@ -92,4 +100,5 @@ returns-clause-bytes g c =
     c.tolerance.ensures c.needed.ensures.value c.beyond.ensures.value)
     (c.put_rest.ensures.bytes before (parts c.tolerance.result c.needed.result.now c.beyond.result.now)
     (c.in_ok-put_offs-2.ensures.ok before (text ++ ended_fit_line MeshLine) (c.in_ok-put_line-2.ensures.ok before text
-    (c.in_ok-put_offs.ensures.ok before (ended_fit_line (ToleranceLine c.tolerance.result)) (c.in_ok-put_line.ensures.ok before [] start)))))
+    (c.in_ok-put_offs.ensures.ok before (ended_fit_line (ToleranceLine c.tolerance.result))
+    (c.in_ok-put_line.ensures.ok before [] start)))))

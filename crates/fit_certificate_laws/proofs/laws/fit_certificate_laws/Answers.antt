@@ -18,7 +18,8 @@ pub returns-clause-order : goal.returns-clause-order
 returns-clause-order c = sound-order
 
 pub returns-clause-certified : goal.returns-clause-certified
-returns-clause-certified c n heights target cert mesh verdict sound is = sound-certified n heights target cert mesh sound verdict is
+returns-clause-certified c n heights target cert mesh verdict sound is =
+    sound-certified n heights target cert mesh sound verdict is
 
 pub returns-clause-verdict : goal.returns-clause-verdict
 returns-clause-verdict c = verdict_found

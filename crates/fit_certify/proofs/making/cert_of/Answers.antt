@@ -16,7 +16,8 @@ settle-requires-clause-closed c =
 
 pub settle_below-requires-clause-closed : goal.settle_below-requires-clause-closed
 settle_below-requires-clause-closed c =
-    leads-closed c.args.grid.now.n c.args.grid.now.heights c.args.tolerance (is_flagged c.args.flags.now) c.in_ok-needed.needed.items
+    leads-closed c.args.grid.now.n c.args.grid.now.heights c.args.tolerance
+    (is_flagged c.args.flags.now) c.in_ok-needed.needed.items
     (is_flagged c.settle.new.flags)
     (closed-same c.args.grid.now.n (λ a. false) (is_flagged c.args.flags.now) (λ a. sym (c.requires.empty a))
     (nothing_closed c.args.grid.now.n))

@@ -16,5 +16,6 @@ returns-clause-mesh c target mesh sound =
     let count = c.list_mesh-count.result in
     let listed = c.list_mesh-count.new.room in
     c.truncate.ensures.items
-    ∙ take-take count c.in_ok-room.room.len _ (omega (arith, c.list_mesh-count.ensures.within, c.list_mesh-count.ensures.room, c.deref_mut-2.ensures.len))
+    ∙ take-take count c.in_ok-room.room.len _
+    (omega (arith, c.list_mesh-count.ensures.within, c.list_mesh-count.ensures.room, c.deref_mut-2.ensures.len))
     ∙ take-append-le count listed _ c.list_mesh-count.ensures.within ∙ is

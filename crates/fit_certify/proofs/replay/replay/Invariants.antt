@@ -9,5 +9,6 @@ abbrev pub invariant-loop-index : goal.invariant-loop-index
 invariant-loop-index l = record {
   flags : length l.flags ≡ length l.fn.flags;
   closed : IsClosed l.grid.n (is_flagged l.flags);
-  leads : LeadsTo l.grid.n l.grid.heights l.tolerance (is_flagged l.fn.flags) (take l.index l.reasons) (is_flagged l.flags);
+  leads : LeadsTo l.grid.n l.grid.heights l.tolerance (is_flagged l.fn.flags)
+      (take l.index l.reasons) (is_flagged l.flags);
 }

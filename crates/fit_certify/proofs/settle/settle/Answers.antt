@@ -13,6 +13,7 @@ loop-again-smaller c =
 pub returns-clause-few : goal.returns-clause-few
 returns-clause-few c =
     let has = is_flagged c.args.flags.now in
-    reasons-few c.args.grid.now.n c.args.grid.now.heights c.args.tolerance has c.loop-again.reasons.items (is_flagged c.loop-again.flags)
+    reasons-few c.args.grid.now.n c.args.grid.now.heights c.args.tolerance has c.loop-again.reasons.items
+    (is_flagged c.loop-again.flags)
     (subst (λ k. k ≤ 11) c.n-level.ensures.value c.n-level.ensures.high) c.requires.closed
     (c.loop-again.invariant.going.leads has (λ a. refl))

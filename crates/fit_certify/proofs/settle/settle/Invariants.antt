@@ -1,4 +1,5 @@
--- The reasons lead to the flags; and after a pass that split nothing no leaf is off. Each pass but the last splits a leaf.
+-- The reasons lead to the flags; and after a pass that split nothing no leaf is off. Each pass but the last splits a
+-- leaf.
 use Rattle.std.proofs.Common.{◌≡◌, ◌+◌, ◌-◌, ◌*◌, ◌^◌, ◌≤◌, false, cond, [], length}
 use Rattle.mesh_defs.specs.ClosedSet.{leaves_of}
 use Rattle.mesh_defs.specs.Priority.{worst_of}
@@ -11,7 +12,8 @@ abbrev pub invariant-loop-again : goal.invariant-loop-again
 invariant-loop-again l = record {
   flags : length l.flags ≡ length l.fn.flags;
   going : IsGoingOn l.grid.n l.grid.heights l.tolerance l.fn.flags [] l.flags l.reasons.items;
-  within : l.again ≡ false → worst_of (error_of l.grid.n l.grid.heights) (leaves_of l.grid.n (is_flagged l.flags)) ≤ l.tolerance;
+  within : l.again ≡ false →
+      worst_of (error_of l.grid.n l.grid.heights) (leaves_of l.grid.n (is_flagged l.flags)) ≤ l.tolerance;
 }
 
 abbrev pub decreases-loop-again : goal.decreases-loop-again

@@ -16,9 +16,11 @@ pub returns-in_ok-push-in-Some-clause-going : goal.returns-in_ok-push-in-Some-cl
 returns-in_ok-push-in-Some-clause-going c =
     let n : ℕ = c.args.grid.now.n in
     let leaf = (c.is_leaf.ensures n c.requires.closed c.requires.splittable).0 c.if-not-is_leaf.false in
-    let least = subst (λ (k : ℕ). IsLeastClosed k (with_triangle (is_flagged c.args.flags.now) c.args.t) (is_flagged c.force.new.flags))
+    let least = subst (λ (k : ℕ). IsLeastClosed k (with_triangle (is_flagged c.args.flags.now) c.args.t)
+    (is_flagged c.force.new.flags))
     c.n.ensures.value c.force.ensures.least in
-    split-going n c.args.grid.now.heights c.args.tolerance c.args.flags.now c.force.new.flags c.args.t c.requires.closed leaf least
+    split-going n c.args.grid.now.heights c.args.tolerance c.args.flags.now c.force.new.flags c.args.t
+    c.requires.closed leaf least
     c.args.reasons.now.items c.push.new.self.items c.in-Some.point c.requires.splittable c.in-Some.ensures.found
     c.in_ok-push-in-Some.ensures.items
 
@@ -26,6 +28,8 @@ pub returns-in_ok-push-in-Some-clause-more : goal.returns-in_ok-push-in-Some-cla
 returns-in_ok-push-in-Some-clause-more c _ =
     let n : ℕ = c.args.grid.now.n in
     let leaf = (c.is_leaf.ensures n c.requires.closed c.requires.splittable).0 c.if-not-is_leaf.false in
-    let least = subst (λ (k : ℕ). IsLeastClosed k (with_triangle (is_flagged c.args.flags.now) c.args.t) (is_flagged c.force.new.flags))
+    let least = subst (λ (k : ℕ). IsLeastClosed k (with_triangle (is_flagged c.args.flags.now) c.args.t)
+    (is_flagged c.force.new.flags))
     c.n.ensures.value c.force.ensures.least in
-    split-grown n c.args.grid.now.heights c.args.tolerance c.args.flags.now c.force.new.flags c.args.t c.requires.closed leaf least
+    split-grown n c.args.grid.now.heights c.args.tolerance c.args.flags.now c.force.new.flags c.args.t
+    c.requires.closed leaf least

@@ -17,7 +17,8 @@ loop-number-init c =
     let has = is_flagged c.args.flags.now in
     record {
       flags = refl;
-      going = going-same n c.args.grid.now.heights c.args.tolerance c.args.flags.now c.args.reasons.now.items c.requires.closed;
+      going = going-same n c.args.grid.now.heights c.args.tolerance c.args.flags.now
+          c.args.reasons.now.items c.requires.closed;
       more = λ e. absurd (false≢true e);
       none = λ _. (
         refl,
@@ -50,15 +51,18 @@ loop-number-preserved c =
       flags = e.flags ∙ i.flags;
       going = going-through n heights c.args.tolerance c.args.flags.now c.loop-number.flags c.split_leaf.new.flags
           c.args.reasons.now.items c.loop-number.reasons.items c.split_leaf.new.reasons.items i.going e.going;
-      more = sweep-more n heights c.args.tolerance c.loop-number.number c.args.flags.now c.loop-number.flags c.split_leaf.new.flags
+      more = sweep-more n heights c.args.tolerance c.loop-number.number c.args.flags.now
+          c.loop-number.flags c.split_leaf.new.flags
           c.loop-number.again c.in_ok-is_split.is_split c.either-again.result c.either-again.ensures i.more
           (λ did_not. (i.none did_not).0) e.more
           (λ did_not. (e.none did_not).0);
-      none = sweep-none n heights c.args.tolerance c.loop-number.number c.args.flags.now c.loop-number.flags c.split_leaf.new.flags
+      none = sweep-none n heights c.args.tolerance c.loop-number.number c.args.flags.now
+          c.loop-number.flags c.split_leaf.new.flags
           c.loop-number.again c.in_ok-is_split.is_split c.either-again.result c.either-again.ensures i.none
           (λ did_not. (
             (e.none did_not).0,
-            subst (λ t. Contains (leaves_of n (is_flagged c.loop-number.flags)) t → error_of n heights t ≤ c.args.tolerance)
+            subst (λ t. Contains (leaves_of n (is_flagged c.loop-number.flags)) t →
+                error_of n heights t ≤ c.args.tolerance)
                 visited (e.none did_not).1,
           ));
     }

@@ -26,7 +26,8 @@ returns c =
           needed = c.requires.leads;
           within = subst (λ k. k ≤ cert.tolerance) c.measure-mesh.ensures.error within;
         };
-        few = subst (λ k. IsWithinTarget c.args.target k) c.measure-mesh.ensures.triangles (c.is_within.ensures.0 c.if-not-is_within.false);
+        few = subst (λ k. IsWithinTarget c.args.target k) c.measure-mesh.ensures.triangles
+            (c.is_within.ensures.0 c.if-not-is_within.false);
         beyond = subst (λ (l : List Off). LeadsTo n heights (cert.tolerance - 1) has l over) c.beyond.ensures.value
             (subst (λ k. LeadsTo n heights k has c.beyond.result.now over) less c.in_default.ensures.all);
         enough = subst (λ k. IsEnough c.args.target cert.tolerance k) count

@@ -13,8 +13,11 @@ returns-in-Some c =
     let heights : List ℕ = c.args.grid.now.heights in
     let cert = c.args.cert.now in
     let flags = is_flagged c.args.flags.now in
-    let own = subst (λ k. IsFor c.args.target k) c.tolerance-tolerance.ensures (c.is_for.ensures.0 c.if-not-is_for.false) in
-    let bad = subst (λ (l : List Off). IsFirstBadFit n heights cert.tolerance flags l c.in-Some.index) c.needed.ensures.value
-    (subst (λ k. IsFirstBadFit n heights k flags c.needed.result.now c.in-Some.index) c.tolerance-tolerance.ensures c.in-Some.ensures.bad) in
+    let own =
+    subst (λ k. IsFor c.args.target k) c.tolerance-tolerance.ensures (c.is_for.ensures.0 c.if-not-is_for.false) in
+    let bad =
+    subst (λ (l : List Off). IsFirstBadFit n heights cert.tolerance flags l c.in-Some.index) c.needed.ensures.value
+    (subst (λ k. IsFirstBadFit n heights k flags c.needed.result.now c.in-Some.index) c.tolerance-tolerance.ensures
+    c.in-Some.ensures.bad) in
     subst (λ (v : Verdict). IsFitVerdict n heights c.args.target cert v) (sym c.rejected-in-Some.ensures)
     (own, inl (bad-same n heights cert.tolerance flags (λ a. false) cert.needed c.in-Some.index c.requires.empty bad))

@@ -11,6 +11,7 @@ loop-leaf-preserved c =
     let e = error_of c.args.grid.now.n c.args.grid.now.heights in
     let before = take c.loop-leaf.leaf-index c.args.leaves.now in
     let below : c.loop-leaf.leaf-index < length c.args.leaves.now = omega arith in
-    c.greater-worst.ensures ∙ ap₂ max c.loop-leaf.invariant c.error.ensures ∙ sym (worst_of-next e before c.leaf-item.result)
+    c.greater-worst.ensures ∙ ap₂ max c.loop-leaf.invariant c.error.ensures
+    ∙ sym (worst_of-next e before c.leaf-item.result)
     ∙ ap (λ a. worst_of e (before ++ a ∷ [])) c.leaf-item.is
     ∙ ap (worst_of e) (sym (take_more c.args.leaves.now c.loop-leaf.leaf-index c.leaf-item.result below))

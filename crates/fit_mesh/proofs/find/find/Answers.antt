@@ -8,6 +8,8 @@ use Rattle.fit_mesh.proofs.find.find.Goals as goal
 pub returns-else-budget-end-clause-found : goal.returns-else-budget-end-clause-found
 returns-else-budget-end-clause-found c =
     let n : ℕ = c.args.grid.now.n in
-    let value : c.end.result ≡ 2 ^ (2 * n + 1) = subst (λ k. c.end.result ≡ 2 ^ (2 * k + 1)) c.n.ensures.value c.end.ensures.value in
+    let value : c.end.result ≡ 2 ^ (2 * n + 1) =
+    subst (λ k. c.end.result ≡ 2 ^ (2 * k + 1)) c.n.ensures.value c.end.ensures.value in
     let wide = c.if-budget-end.false in
-    settled-found n (error_of n c.args.grid.now.heights) c.args.tolerance c.args.budget (is_flagged c.settle.new.flags) (omega arith) c.settle.ensures.fit
+    settled-found n (error_of n c.args.grid.now.heights) c.args.tolerance c.args.budget (is_flagged c.settle.new.flags)
+    (omega arith) c.settle.ensures.fit

@@ -12,16 +12,19 @@ bounds-room-count c =
 
 pub returns-clause-count : goal.returns-clause-count
 returns-clause-count c =
-    let below = log-below c.args.flags.now c.args.room.now c.args.count c.args.t c.requires.room c.requires.count c.requires.log
+    let below =
+    log-below c.args.flags.now c.args.room.now c.args.count c.args.t c.requires.room c.requires.count c.requires.log
     (sym c.is_set.ensures.value ∙ c.if-is_set.false) c.requires.address in
     let same = length-set c.args.room.now c.args.count c.args.t in omega arith
 
 pub returns-clause-log : goal.returns-clause-log
 returns-clause-log c =
     let new = sym c.is_set.ensures.value ∙ c.if-is_set.false in
-    let below = log-below c.args.flags.now c.args.room.now c.args.count c.args.t c.requires.room c.requires.count c.requires.log new c.requires.address in
+    let below = log-below c.args.flags.now c.args.room.now c.args.count c.args.t c.requires.room c.requires.count
+    c.requires.log new c.requires.address in
     subst (λ (l : List ℕ). IsLog c.flag.new.flags l) (sym (take_more_set c.args.room.now c.args.count c.args.t below))
-    (log-put c.args.flags.now c.flag.new.flags (take c.args.count c.args.room.now) c.args.t c.requires.log new c.flag.ensures.added)
+    (log-put c.args.flags.now c.flag.new.flags
+    (take c.args.count c.args.room.now) c.args.t c.requires.log new c.flag.ensures.added)
 
 pub returns-clause-kept : goal.returns-clause-kept
 returns-clause-kept c = (

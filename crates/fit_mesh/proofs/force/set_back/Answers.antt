@@ -9,7 +9,8 @@ use Rattle.fit_mesh.proofs.force.set_back.Goals as goal
 pub loop-place-init : goal.loop-place-init
 loop-place-init c = record {
   flags = ap (λ (l : List Bool). length l) c.clear.ensures ∙ length-replicate (length c.args.flags.now) false;
-  same = λ a. subst (λ (l : List Bool). is_flagged l a ≡ false) (sym c.clear.ensures) (flagged-unset (length c.args.flags.now) a);
+  same = λ a. subst (λ (l : List Bool). is_flagged l a ≡ false) (sym c.clear.ensures)
+      (flagged-unset (length c.args.flags.now) a);
 }
 
 pub flag-requires : goal.flag-requires

@@ -1,5 +1,6 @@
 -- The beginning is the empty set, and the end is that of the loop.
-use Rattle.std.proofs.Common.{◌≡◌, ℕ, ◌+◌, ◌*◌, ◌^◌, Bool, false, List, length, take, max, sym, ◌∙◌, subst, ap, ap₂, arith}
+use Rattle.std.proofs.Common.{◌≡◌, ℕ, ◌+◌, ◌*◌, ◌^◌, Bool, false, List, length, take, max, sym, ◌∙◌, subst, ap, ap₂}
+use Rattle.std.proofs.Common.{arith}
 use Rattle.std.specs.BinaryHeap.{heap_items}
 use Rattle.std.proofs.lemmas.List.{length-replicate}
 use Rattle.bintree_laws.proofs.LevelLemmas.{level_of-root}
@@ -27,19 +28,23 @@ pub refine-growth-requires-clause-grown : goal.refine-growth-requires-clause-gro
 refine-growth-requires-clause-grown c =
     let n : ℕ = c.args.grid.now.n in
     let empty : (a : ℕ) → is_flagged c.clear.new.flags a ≡ false =
-    λ a. subst (λ (l : List Bool). is_flagged l a ≡ false) (sym c.clear.ensures) (flagged-unset (length c.args.flags.now) a) in
+    λ a. subst (λ (l : List Bool). is_flagged l a ≡ false) (sym c.clear.ensures)
+    (flagged-unset (length c.args.flags.now) a) in
     let room : length c.clear.new.flags ≡ 2 ^ (2 * n + 1) =
-    ap (λ (l : List Bool). length l) c.clear.ensures ∙ length-replicate (length c.args.flags.now) false ∙ c.requires.flags in
+    ap (λ (l : List Bool). length l) c.clear.ensures
+    ∙ length-replicate (length c.args.flags.now) false ∙ c.requires.flags in
     start-grown n (error_of n c.args.grid.now.heights) c.clear.new.flags empty room
 
 pub refine-growth-requires-clause-waiting : goal.refine-growth-requires-clause-waiting
 refine-growth-requires-clause-waiting c =
     let n : ℕ = c.args.grid.now.n in
     let empty : (a : ℕ) → is_flagged c.clear.new.flags a ≡ false =
-    λ a. subst (λ (l : List Bool). is_flagged l a ≡ false) (sym c.clear.ensures) (flagged-unset (length c.args.flags.now) a) in
+    λ a. subst (λ (l : List Bool). is_flagged l a ≡ false) (sym c.clear.ensures)
+    (flagged-unset (length c.args.flags.now) a) in
     let low = c.n-level.ensures.low in
     let value = c.n-level.ensures.value in
-    start-waiting n (error_of n c.args.grid.now.heights) c.clear.new.flags empty _ _ (heap_items c.push_leaf-2.new.heap) c.clear-2.ensures.items
+    start-waiting n (error_of n c.args.grid.now.heights) c.clear.new.flags empty _ _
+    (heap_items c.push_leaf-2.new.heap) c.clear-2.ensures.items
     (omega arith) (IsAddress-down n (2 * n) 2 (IsDown-2 n)) (IsAddress-down n (2 * n) 3 (IsDown-3 n))
     c.push_leaf-2.ensures.ordered c.push_leaf-2.ensures.kept c.push_leaf.ensures.added c.push_leaf-2.ensures.added
     c.push_leaf.ensures.only c.push_leaf-2.ensures.only
@@ -48,15 +53,18 @@ pub refine-growth-requires-clause-needed : goal.refine-growth-requires-clause-ne
 refine-growth-requires-clause-needed c =
     let n : ℕ = c.args.grid.now.n in
     let empty : (a : ℕ) → is_flagged c.clear.new.flags a ≡ false =
-    λ a. subst (λ (l : List Bool). is_flagged l a ≡ false) (sym c.clear.ensures) (flagged-unset (length c.args.flags.now) a) in
+    λ a. subst (λ (l : List Bool). is_flagged l a ≡ false) (sym c.clear.ensures)
+    (flagged-unset (length c.args.flags.now) a) in
     start-needed n (error_of n c.args.grid.now.heights) c.clear.new.flags empty c.greater-first.result
 
 pub refine-growth-requires-clause-best : goal.refine-growth-requires-clause-best
 refine-growth-requires-clause-best c =
     let n : ℕ = c.args.grid.now.n in
     let empty : (a : ℕ) → is_flagged c.clear.new.flags a ≡ false =
-    λ a. subst (λ (l : List Bool). is_flagged l a ≡ false) (sym c.clear.ensures) (flagged-unset (length c.args.flags.now) a) in
-    start-best n (error_of n c.args.grid.now.heights) c.clear.new.flags empty c.args.tolerance c.args.budget c.greater-first.result
+    λ a. subst (λ (l : List Bool). is_flagged l a ≡ false) (sym c.clear.ensures)
+    (flagged-unset (length c.args.flags.now) a) in
+    start-best n (error_of n c.args.grid.now.heights) c.clear.new.flags empty c.args.tolerance
+    c.args.budget c.greater-first.result
     (c.greater-first.ensures ∙ ap₂ max c.error.ensures c.error-2.ensures) c.requires.some
 
 pub set_back-requires-clause-addresses : goal.set_back-requires-clause-addresses
@@ -69,5 +77,7 @@ pub returns-clause-found : goal.returns-clause-found
 returns-clause-found c =
     let n : ℕ = c.args.grid.now.n in
     let growth = c.refine-growth.result in
-    end-found n (error_of n c.args.grid.now.heights) c.args.tolerance c.args.budget growth.low (take growth.count c.refine-growth.new.room) growth.mark
-    c.set_back.new.flags (is_flagged c.refine-growth.new.flags) c.refine-growth.ensures.best c.set_back.ensures.same c.refine-growth.ensures.end
+    end-found n (error_of n c.args.grid.now.heights) c.args.tolerance c.args.budget growth.low
+    (take growth.count c.refine-growth.new.room) growth.mark
+    c.set_back.new.flags (is_flagged c.refine-growth.new.flags) c.refine-growth.ensures.best c.set_back.ensures.same
+    c.refine-growth.ensures.end

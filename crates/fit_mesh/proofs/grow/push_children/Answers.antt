@@ -8,7 +8,8 @@ use Rattle.fit_mesh.proofs.grow.push_children.Goals as goal
 pub push_pair-requires-clause-splittable : goal.push_pair-requires-clause-splittable
 push_pair-requires-clause-splittable c =
     c.requires.grown.closed.splittable c.index-log-place.result
-    (listed-member c.args.flags.now c.args.log.now c.loop-place.place c.index-log-place.result c.requires.grown.logged c.loop-place-test.true c.index-log-place.is)
+    (listed-member c.args.flags.now c.args.log.now c.loop-place.place c.index-log-place.result c.requires.grown.logged
+    c.loop-place-test.true c.index-log-place.is)
 
 pub loop-place-preserved : goal.loop-place-preserved
 loop-place-preserved c =
@@ -19,9 +20,11 @@ loop-place-preserved c =
     record {
       capacity = (let k = i.capacity in omega arith);
       len = (let k = i.len in omega arith);
-      pending = pending-step c.args.grid.now.n (error_of c.args.grid.now.n c.args.grid.now.heights) (is_flagged c.args.flags.now) c.args.log.now c.loop-place.place
+      pending = pending-step c.args.grid.now.n (error_of c.args.grid.now.n c.args.grid.now.heights)
+          (is_flagged c.args.flags.now) c.args.log.now c.loop-place.place
           c.index-log-place.result _ _ c.loop-place-test.true c.index-log-place.is
-          (listed-member c.args.flags.now c.args.log.now c.loop-place.place c.index-log-place.result c.requires.grown.logged c.loop-place-test.true c.index-log-place.is)
+          (listed-member c.args.flags.now c.args.log.now c.loop-place.place c.index-log-place.result
+          c.requires.grown.logged c.loop-place-test.true c.index-log-place.is)
           c.push_pair.ensures.ordered c.push_pair.ensures.kept c.push_pair.ensures.added c.push_pair.ensures.only
           i.pending;
     }

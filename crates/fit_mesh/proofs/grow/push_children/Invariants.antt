@@ -9,5 +9,6 @@ abbrev pub invariant-loop-place : goal.invariant-loop-place
 invariant-loop-place l = record {
   capacity : heap_capacity l.fn.heap ≤ heap_capacity l.heap;
   len : heap_len l.heap + 2 * (length l.log - l.place) ≤ heap_len l.fn.heap + 2 * (length l.log - l.fn.before);
-  pending : IsPending l.grid.n (error_of l.grid.n l.grid.heights) (is_flagged l.flags) (drop l.place l.log) (heap_items l.heap);
+  pending : IsPending l.grid.n (error_of l.grid.n l.grid.heights) (is_flagged l.flags)
+      (drop l.place l.log) (heap_items l.heap);
 }

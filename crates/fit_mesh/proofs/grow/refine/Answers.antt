@@ -1,5 +1,6 @@
 -- A turn marks the set, where its greatest error is below all before, or splits the first leaf.
-use Rattle.std.proofs.Common.{◌≡◌, ℕ, ◌≤◌, inr, List, length, take, drop, length-append, IfSome, sym, ◌∙◌, ap, subst, arith}
+use Rattle.std.proofs.Common.{◌≡◌, ℕ, ◌≤◌, inr, List, length, take, drop, length-append, IfSome, sym, ◌∙◌, ap, subst}
+use Rattle.std.proofs.Common.{arith}
 use Rattle.std.proofs.lemmas.List.{length-take-le}
 use Rattle.std.specs.BinaryHeap.{heap_items}
 use Rattle.mesh_defs.specs.Triangle.{IsSplittable}
@@ -11,7 +12,8 @@ use Rattle.fit_laws.specs.Error.{error_of}
 use Rattle.fit_laws.proofs.ErrorLemmas.{error-finest}
 use Rattle.fit_mesh.specs.Log.{HasLog}
 use Rattle.fit_mesh.specs.Waiting.{IsPending}
-use Rattle.fit_mesh.proofs.GrownLemmas.{counted, first-outer, first-worst, first-splittable, none-worst, waiting-left, best-mark, best-kept, below-step, address-small}
+use Rattle.fit_mesh.proofs.GrownLemmas.{counted, first-outer, first-worst, first-splittable, none-worst, waiting-left}
+use Rattle.fit_mesh.proofs.GrownLemmas.{best-mark, best-kept, below-step, address-small}
 use Rattle.fit_mesh.proofs.PendingLemmas.{pending-init}
 use Rattle.fit_mesh.proofs.grow.refine.Goals as goal
 
@@ -22,7 +24,8 @@ loop-low-preserved-in-None c =
     let i = c.loop-low.invariant in
     let log : List ℕ = take c.loop-low.count c.loop-low.room in
     let size = length-take-le c.loop-low.count c.loop-low.room i.count in
-    let w = waiting-left n p c.loop-low.flags log (heap_items c.loop-low.heap) i.grown i.waiting (heap_items c.next_leaf.new.heap)
+    let w = waiting-left n p c.loop-low.flags log (heap_items c.loop-low.heap) i.grown i.waiting
+    (heap_items c.next_leaf.new.heap)
     c.next_leaf.ensures.ordered c.next_leaf.ensures.left c.next_leaf.ensures.only in
     let above = c.loop-low-test.true in
     record {
@@ -33,8 +36,10 @@ loop-low-preserved-in-None c =
       grown = i.grown;
       waiting = w;
       needed = λ k less. absurd (omega arith);
-      best = best-mark n p c.args.tolerance c.args.budget c.loop-low.low 0 c.loop-low.flags log c.loop-low.count (sym size) i.grown i.needed
-          (omega arith) above (none-worst n p c.loop-low.flags log (heap_items c.next_leaf.new.heap) i.grown w c.in-None.ensures.none)
+      best = best-mark n p c.args.tolerance c.args.budget c.loop-low.low 0 c.loop-low.flags log c.loop-low.count
+          (sym size) i.grown i.needed
+          (omega arith) above
+          (none-worst n p c.loop-low.flags log (heap_items c.next_leaf.new.heap) i.grown w c.in-None.ensures.none)
           (let few = i.few in omega arith);
       few = i.few;
     }
@@ -46,7 +51,8 @@ loop-low-preserved-then-error-low c =
     let i = c.loop-low.invariant in
     let log : List ℕ = take c.loop-low.count c.loop-low.room in
     let size = length-take-le c.loop-low.count c.loop-low.room i.count in
-    let w = waiting-left n p c.loop-low.flags log (heap_items c.loop-low.heap) i.grown i.waiting (heap_items c.next_leaf.new.heap)
+    let w = waiting-left n p c.loop-low.flags log (heap_items c.loop-low.heap) i.grown i.waiting
+    (heap_items c.next_leaf.new.heap)
     c.next_leaf.ensures.ordered c.next_leaf.ensures.left c.next_leaf.ensures.only in
     let r : ℕ × ℕ = (c.in-Some.error, c.in-Some.number) in
     let first = c.in-Some.ensures.first in
@@ -61,8 +67,10 @@ loop-low-preserved-then-error-low c =
       grown = i.grown;
       waiting = w;
       needed = λ k below. i.needed k (omega arith);
-      best = best-mark n p c.args.tolerance c.args.budget c.loop-low.low c.in-Some.error c.loop-low.flags log c.loop-low.count (sym size) i.grown i.needed
-          less above (first-worst n p c.loop-low.flags log (heap_items c.next_leaf.new.heap) i.grown w r first) (let few = i.few in omega arith);
+      best = best-mark n p c.args.tolerance c.args.budget c.loop-low.low c.in-Some.error c.loop-low.flags log
+          c.loop-low.count (sym size) i.grown i.needed
+          less above (first-worst n p c.loop-low.flags log (heap_items c.next_leaf.new.heap) i.grown w r first)
+          (let few = i.few in omega arith);
       few = i.few;
     }
 
@@ -73,7 +81,8 @@ unwrap-t-requires c =
     let i = c.loop-low.invariant in
     let log : List ℕ = take c.loop-low.count c.loop-low.room in
     let size = length-take-le c.loop-low.count c.loop-low.room i.count in
-    let w = waiting-left n p c.loop-low.flags log (heap_items c.loop-low.heap) i.grown i.waiting (heap_items c.next_leaf.new.heap)
+    let w = waiting-left n p c.loop-low.flags log (heap_items c.loop-low.heap) i.grown i.waiting
+    (heap_items c.next_leaf.new.heap)
     c.next_leaf.ensures.ordered c.next_leaf.ensures.left c.next_leaf.ensures.only in
     let r : ℕ × ℕ = (c.in-Some.error, c.in-Some.number) in
     let first = c.in-Some.ensures.first in
@@ -89,14 +98,17 @@ force-more-requires-clause-splittable c =
     let i = c.loop-low.invariant in
     let log : List ℕ = take c.loop-low.count c.loop-low.room in
     let size = length-take-le c.loop-low.count c.loop-low.room i.count in
-    let w = waiting-left n p c.loop-low.flags log (heap_items c.loop-low.heap) i.grown i.waiting (heap_items c.next_leaf.new.heap)
+    let w = waiting-left n p c.loop-low.flags log (heap_items c.loop-low.heap) i.grown i.waiting
+    (heap_items c.next_leaf.new.heap)
     c.next_leaf.ensures.ordered c.next_leaf.ensures.left c.next_leaf.ensures.only in
     let r : ℕ × ℕ = (c.in-Some.error, c.in-Some.number) in
     let first = c.in-Some.ensures.first in
-    let at : c.unwrap-t.result ≡ c.in-Some.number = subst (λ o. IfSome o (λ t. t ≡ c.in-Some.number)) c.unwrap-t.ensures c.new.ensures.value in
+    let at : c.unwrap-t.result ≡ c.in-Some.number =
+    subst (λ o. IfSome o (λ t. t ≡ c.in-Some.number)) c.unwrap-t.ensures c.new.ensures.value in
     subst (λ k. IsSplittable k c.unwrap-t.result) (sym c.n.ensures.value)
     (subst (λ z. IsSplittable n z) (sym at)
-    (first-splittable n p (error-finest n c.args.grid.now.heights) c.loop-low.flags (heap_items c.next_leaf.new.heap) w r first))
+    (first-splittable n p (error-finest n c.args.grid.now.heights) c.loop-low.flags
+    (heap_items c.next_leaf.new.heap) w r first))
 
 pub returns-then-more-budget-clause-end : goal.returns-then-more-budget-clause-end
 returns-then-more-budget-clause-end c =
@@ -105,17 +117,20 @@ returns-then-more-budget-clause-end c =
     let i = c.loop-low.invariant in
     let log : List ℕ = take c.loop-low.count c.loop-low.room in
     let size = length-take-le c.loop-low.count c.loop-low.room i.count in
-    let w = waiting-left n p c.loop-low.flags log (heap_items c.loop-low.heap) i.grown i.waiting (heap_items c.next_leaf.new.heap)
+    let w = waiting-left n p c.loop-low.flags log (heap_items c.loop-low.heap) i.grown i.waiting
+    (heap_items c.next_leaf.new.heap)
     c.next_leaf.ensures.ordered c.next_leaf.ensures.left c.next_leaf.ensures.only in
     let r : ℕ × ℕ = (c.in-Some.error, c.in-Some.number) in
     let first = c.in-Some.ensures.first in
     let outer = first-outer n p c.loop-low.flags log (heap_items c.next_leaf.new.heap) i.grown w r first in
-    let at : c.unwrap-t.result ≡ c.in-Some.number = subst (λ o. IfSome o (λ t. t ≡ c.in-Some.number)) c.unwrap-t.ensures c.new.ensures.value in
+    let at : c.unwrap-t.result ≡ c.in-Some.number =
+    subst (λ o. IfSome o (λ t. t ≡ c.in-Some.number)) c.unwrap-t.ensures c.new.ensures.value in
     let same : c.in-Some.error ≡ p c.in-Some.number = (w.entries r first.entry).value in
     let no_less = c.if-error-low.false in
     let above : c.loop-low.low ≤ p c.unwrap-t.result = subst (λ z. c.loop-low.low ≤ p z) (sym at) (omega arith) in
     let leaf = subst (λ z. IsOuter n (is_flagged c.loop-low.flags) z) (sym at) outer in
-    let least = subst (λ k. IsLeastClosed k (with_triangle (is_flagged c.loop-low.flags) c.unwrap-t.result) (is_flagged c.force-more.new.flags))
+    let least = subst (λ k. IsLeastClosed k (with_triangle (is_flagged c.loop-low.flags) c.unwrap-t.result)
+    (is_flagged c.force-more.new.flags))
     c.n.ensures.value c.force-more.ensures.least in
     let next : List ℕ = take c.force-more.result c.force-more.new.room in
     let longer = length-take-le c.force-more.result c.force-more.new.room c.force-more.ensures.count in
@@ -128,7 +143,8 @@ returns-then-more-budget-clause-end c =
     let more = c.if-more-budget.true in
     let some = c.requires.some in
     inr (
-      below-step n p c.loop-low.low (is_flagged c.loop-low.flags) (is_flagged c.force-more.new.flags) c.unwrap-t.result i.needed leaf above least,
+      below-step n p c.loop-low.low (is_flagged c.loop-low.flags)
+          (is_flagged c.force-more.new.flags) c.unwrap-t.result i.needed leaf above least,
       omega arith,
     )
 
@@ -139,17 +155,20 @@ push_children-requires-clause-pending c =
     let i = c.loop-low.invariant in
     let log : List ℕ = take c.loop-low.count c.loop-low.room in
     let size = length-take-le c.loop-low.count c.loop-low.room i.count in
-    let w = waiting-left n p c.loop-low.flags log (heap_items c.loop-low.heap) i.grown i.waiting (heap_items c.next_leaf.new.heap)
+    let w = waiting-left n p c.loop-low.flags log (heap_items c.loop-low.heap) i.grown i.waiting
+    (heap_items c.next_leaf.new.heap)
     c.next_leaf.ensures.ordered c.next_leaf.ensures.left c.next_leaf.ensures.only in
     let r : ℕ × ℕ = (c.in-Some.error, c.in-Some.number) in
     let first = c.in-Some.ensures.first in
     let outer = first-outer n p c.loop-low.flags log (heap_items c.next_leaf.new.heap) i.grown w r first in
-    let at : c.unwrap-t.result ≡ c.in-Some.number = subst (λ o. IfSome o (λ t. t ≡ c.in-Some.number)) c.unwrap-t.ensures c.new.ensures.value in
+    let at : c.unwrap-t.result ≡ c.in-Some.number =
+    subst (λ o. IfSome o (λ t. t ≡ c.in-Some.number)) c.unwrap-t.ensures c.new.ensures.value in
     let same : c.in-Some.error ≡ p c.in-Some.number = (w.entries r first.entry).value in
     let no_less = c.if-error-low.false in
     let above : c.loop-low.low ≤ p c.unwrap-t.result = subst (λ z. c.loop-low.low ≤ p z) (sym at) (omega arith) in
     let leaf = subst (λ z. IsOuter n (is_flagged c.loop-low.flags) z) (sym at) outer in
-    let least = subst (λ k. IsLeastClosed k (with_triangle (is_flagged c.loop-low.flags) c.unwrap-t.result) (is_flagged c.force-more.new.flags))
+    let least = subst (λ k. IsLeastClosed k (with_triangle (is_flagged c.loop-low.flags) c.unwrap-t.result)
+    (is_flagged c.force-more.new.flags))
     c.n.ensures.value c.force-more.ensures.least in
     let next : List ℕ = take c.force-more.result c.force-more.new.room in
     let longer = length-take-le c.force-more.result c.force-more.new.room c.force-more.ensures.count in
@@ -159,7 +178,8 @@ push_children-requires-clause-pending c =
       closed = least.closed;
     } in
     subst (λ m. IsPending n p (is_flagged c.force-more.new.flags) (drop m next) (heap_items c.next_leaf.new.heap)) size
-    (pending-init n p c.loop-low.flags c.force-more.new.flags log next c.unwrap-t.result (heap_items c.next_leaf.new.heap) i.grown.closed i.grown.logged
+    (pending-init n p c.loop-low.flags c.force-more.new.flags log next c.unwrap-t.result
+    (heap_items c.next_leaf.new.heap) i.grown.closed i.grown.logged
     c.force-more.ensures.log c.force-more.ensures.kept least w)
 
 pub loop-low-preserved : goal.loop-low-preserved
@@ -169,17 +189,20 @@ loop-low-preserved c =
     let i = c.loop-low.invariant in
     let log : List ℕ = take c.loop-low.count c.loop-low.room in
     let size = length-take-le c.loop-low.count c.loop-low.room i.count in
-    let w = waiting-left n p c.loop-low.flags log (heap_items c.loop-low.heap) i.grown i.waiting (heap_items c.next_leaf.new.heap)
+    let w = waiting-left n p c.loop-low.flags log (heap_items c.loop-low.heap) i.grown i.waiting
+    (heap_items c.next_leaf.new.heap)
     c.next_leaf.ensures.ordered c.next_leaf.ensures.left c.next_leaf.ensures.only in
     let r : ℕ × ℕ = (c.in-Some.error, c.in-Some.number) in
     let first = c.in-Some.ensures.first in
     let outer = first-outer n p c.loop-low.flags log (heap_items c.next_leaf.new.heap) i.grown w r first in
-    let at : c.unwrap-t.result ≡ c.in-Some.number = subst (λ o. IfSome o (λ t. t ≡ c.in-Some.number)) c.unwrap-t.ensures c.new.ensures.value in
+    let at : c.unwrap-t.result ≡ c.in-Some.number =
+    subst (λ o. IfSome o (λ t. t ≡ c.in-Some.number)) c.unwrap-t.ensures c.new.ensures.value in
     let same : c.in-Some.error ≡ p c.in-Some.number = (w.entries r first.entry).value in
     let no_less = c.if-error-low.false in
     let above : c.loop-low.low ≤ p c.unwrap-t.result = subst (λ z. c.loop-low.low ≤ p z) (sym at) (omega arith) in
     let leaf = subst (λ z. IsOuter n (is_flagged c.loop-low.flags) z) (sym at) outer in
-    let least = subst (λ k. IsLeastClosed k (with_triangle (is_flagged c.loop-low.flags) c.unwrap-t.result) (is_flagged c.force-more.new.flags))
+    let least = subst (λ k. IsLeastClosed k (with_triangle (is_flagged c.loop-low.flags) c.unwrap-t.result)
+    (is_flagged c.force-more.new.flags))
     c.n.ensures.value c.force-more.ensures.least in
     let next : List ℕ = take c.force-more.result c.force-more.new.room in
     let longer = length-take-le c.force-more.result c.force-more.new.room c.force-more.ensures.count in
@@ -191,14 +214,19 @@ loop-low-preserved c =
     let fits = c.if-more-budget.false in
     let some = c.requires.some in
     record {
-      capacity = (let k = i.capacity in let same = c.next_leaf.ensures.capacity in let rest = c.push_children.ensures.capacity in omega arith);
+      capacity = (let k = i.capacity in let same = c.next_leaf.ensures.capacity in
+          let rest = c.push_children.ensures.capacity in omega arith);
       len = (let k = i.len in let le = c.next_leaf.ensures.len in let two = c.push_children.ensures.len in
-          let more = ap (λ (l : List ℕ). length l) c.force-more.ensures.kept.1 in let sum = length-append log c.force-more.ensures.kept.0 in omega arith);
+          let more = ap (λ (l : List ℕ). length l) c.force-more.ensures.kept.1 in
+          let sum = length-append log c.force-more.ensures.kept.0 in
+          omega arith);
       room = c.force-more.auto.room ∙ i.room;
       count = c.force-more.ensures.count;
       grown = grown;
       waiting = c.push_children.ensures.waiting;
-      needed = below-step n p c.loop-low.low (is_flagged c.loop-low.flags) (is_flagged c.force-more.new.flags) c.unwrap-t.result i.needed leaf above least;
-      best = best-kept n p c.args.tolerance c.args.budget c.loop-low.low log next c.loop-low.mark c.force-more.ensures.kept i.best;
+      needed = below-step n p c.loop-low.low (is_flagged c.loop-low.flags)
+          (is_flagged c.force-more.new.flags) c.unwrap-t.result i.needed leaf above least;
+      best = best-kept n p c.args.tolerance c.args.budget c.loop-low.low log next c.loop-low.mark
+          c.force-more.ensures.kept i.best;
       few = omega arith;
     }

@@ -16,7 +16,8 @@ loop-first-preserved c = record {
       (λ top.
       let same = first-same (heap_items c.loop-first.heap) r c.in-Some.first.now there top c.in-Some.ensures.lookup in
       absurd (both_ways (is_flagged c.args.flags.now r.1) leaf
-      (subst (λ (z : ℕ × ℕ). is_flagged c.args.flags.now z.1 ≡ true) (sym same) (sym c.is_split.ensures ∙ c.if-not-is_split.false))))
+      (subst (λ (z : ℕ × ℕ). is_flagged c.args.flags.now z.1 ≡ true) (sym same)
+      (sym c.is_split.ensures ∙ c.if-not-is_split.false))))
       (λ rest. rest)
       (c.drop_first.ensures.rest r there);
   only = λ r h. c.loop-first.invariant.only r (c.drop_first.ensures.only r h);

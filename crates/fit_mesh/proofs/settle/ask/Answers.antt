@@ -19,11 +19,15 @@ force-requires-clause-splittable c =
     let n : ℕ = c.args.grid.now.n in
     let above = c.is_worse.ensures.0 c.if-not-is_worse.false in
     subst (λ k. IsSplittable k c.args.t) (sym c.n.ensures.value)
-    (splittable-error n (error_of n c.args.grid.now.heights) (error-finest n c.args.grid.now.heights) c.args.t c.requires.address (omega arith))
+    (splittable-error n (error_of n c.args.grid.now.heights)
+    (error-finest n c.args.grid.now.heights) c.args.t c.requires.address (omega arith))
 
 pub returns-clause-needed : goal.returns-clause-needed
 returns-clause-needed c =
     let n : ℕ = c.args.grid.now.n in
-    ask-needed n (error_of n c.args.grid.now.heights) c.args.tolerance (is_flagged c.args.flags.now) c.args.t c.requires.address c.requires.parent
-    (sym c.is_set.ensures.value ∙ c.if-is_set.false) (is_flagged c.force.new.flags) (c.is_worse.ensures.0 c.if-not-is_worse.false) c.requires.needed
-    (subst (λ k. IsLeastClosed k (with_triangle (is_flagged c.args.flags.now) c.args.t) (is_flagged c.force.new.flags)) c.n.ensures.value c.force.ensures.least)
+    ask-needed n (error_of n c.args.grid.now.heights) c.args.tolerance
+    (is_flagged c.args.flags.now) c.args.t c.requires.address c.requires.parent
+    (sym c.is_set.ensures.value ∙ c.if-is_set.false) (is_flagged c.force.new.flags)
+    (c.is_worse.ensures.0 c.if-not-is_worse.false) c.requires.needed
+    (subst (λ k. IsLeastClosed k (with_triangle (is_flagged c.args.flags.now) c.args.t) (is_flagged c.force.new.flags))
+    c.n.ensures.value c.force.ensures.least)

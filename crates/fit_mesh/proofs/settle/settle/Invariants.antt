@@ -14,7 +14,8 @@ invariant-loop-next l = record {
   place : l.next ≤ l.count;
   grown : HasLog l.grid.n l.flags (take l.count l.room);
   needed : IsNeeded l.grid.n l.tolerance (error_of l.grid.n l.grid.heights) (is_flagged l.flags);
-  asked : AreSettled l.grid.n (error_of l.grid.n l.grid.heights) l.tolerance (is_flagged l.flags) (take l.next (take l.count l.room));
+  asked : AreSettled l.grid.n (error_of l.grid.n l.grid.heights) l.tolerance (is_flagged l.flags)
+      (take l.next (take l.count l.room));
 }
 
 abbrev pub decreases-loop-next : goal.decreases-loop-next

@@ -7,62 +7,85 @@ use Rattle.frame_loop.specs.Engine.{IsExpired}
 use Rattle.leaf_list.specs.Below.{is_at_or_below}
 use Rattle.frame_loop.specs.Turn.{is_turned}
 use Rattle.frame_loop.proofs.BelowLemmas.{live_address}
-use Rattle.frame_loop.proofs.WalkLemmas.{IsRead, read_children, step_left, step_right, IsExpired-itself, IsExpired-tested, IsExpired-tested_leaf, IsExpired-untouched}
+use Rattle.frame_loop.proofs.WalkLemmas.{IsRead, read_children, step_left, step_right, IsExpired-itself}
+use Rattle.frame_loop.proofs.WalkLemmas.{IsExpired-tested, IsExpired-tested_leaf, IsExpired-untouched}
 use Rattle.frame_loop.proofs.look.+expire_turned.Goals as goal
 
 pub of-turn-requires : goal.of-turn-requires
 of-turn-requires t c =
-    let fits = live_address c.args.mesh.now.pool.n c.args.mesh.now.pool.pairs c.args.s.0 c.pool-pool.ensures.valid c.requires.live in
-    let at : c.tri-t.result ≡ address_at c.args.mesh.now.pool.pairs c.args.s.0 = c.tri-t.ensures.value ∙ ap (λ (z : PoolState). address_at z.pairs c.args.s.0) c.pool-pool.ensures.pool in
-    record { level = subst (λ n. level_of c.tri-t.result ≤ 2 * n) c.requires.n (subst (λ z. level_of z ≤ 2 * c.args.mesh.now.pool.n) (sym at) fits) }
+    let fits = live_address c.args.mesh.now.pool.n c.args.mesh.now.pool.pairs c.args.s.0
+    c.pool-pool.ensures.valid c.requires.live in
+    let at : c.tri-t.result ≡ address_at c.args.mesh.now.pool.pairs c.args.s.0 =
+    c.tri-t.ensures.value ∙ ap (λ (z : PoolState). address_at z.pairs c.args.s.0) c.pool-pool.ensures.pool in
+    record {
+      level = subst (λ n. level_of c.tri-t.result ≤ 2 * n) c.requires.n
+          (subst (λ z. level_of z ≤ 2 * c.args.mesh.now.pool.n) (sym at) fits);
+    }
 
 pub expire_turned-requires : goal.expire_turned-requires
 expire_turned-requires t c =
     let read : IsRead c.args.mesh.now.pool c.args.s c.tri-t.result c.in-Some.left c.in-Some.right =
-    read_children c.pool-pool.result.now c.args.mesh.now.pool c.args.s c.tri-t.result c.in-Some.left c.in-Some.right c.pool-pool.ensures.pool c.pool-pool.ensures.valid c.requires.live
+    read_children c.pool-pool.result.now c.args.mesh.now.pool c.args.s c.tri-t.result c.in-Some.left c.in-Some.right
+    c.pool-pool.ensures.pool c.pool-pool.ensures.valid c.requires.live
     c.tri-t.ensures.value (λ none. absurd (false≢true (sym (c.in-Some.ensures.none.1 none)))) c.in-Some.ensures.some in
-    let step = step_left c.args.mesh.now.pool c.expire_if.new.mesh.pool c.args.s c.tri-t.result c.in-Some.left c.in-Some.right c.expire_if.ensures.pool read in
+    let step = step_left c.args.mesh.now.pool c.expire_if.new.mesh.pool c.args.s c.tri-t.result c.in-Some.left
+    c.in-Some.right c.expire_if.ensures.pool read in
     (omega (arith, step.0), (step.1, ap (λ (p : PoolState). p.n) c.expire_if.ensures.pool ∙ c.requires.n))
 
 pub expire_turned-requires-in-Some : goal.expire_turned-requires-in-Some
 expire_turned-requires-in-Some t c =
     let read : IsRead c.args.mesh.now.pool c.args.s c.tri-t.result c.in-Some.left c.in-Some.right =
-    read_children c.pool-pool.result.now c.args.mesh.now.pool c.args.s c.tri-t.result c.in-Some.left c.in-Some.right c.pool-pool.ensures.pool c.pool-pool.ensures.valid c.requires.live
+    read_children c.pool-pool.result.now c.args.mesh.now.pool c.args.s c.tri-t.result c.in-Some.left c.in-Some.right
+    c.pool-pool.ensures.pool c.pool-pool.ensures.valid c.requires.live
     c.tri-t.ensures.value (λ none. absurd (false≢true (sym (c.in-Some.ensures.none.1 none)))) c.in-Some.ensures.some in
     let same = c.expire_turned.ensures.pool ∙ c.expire_if.ensures.pool in
-    let step = step_right c.args.mesh.now.pool c.expire_turned.new.mesh.pool c.args.s c.tri-t.result c.in-Some.left c.in-Some.right same read in
+    let step = step_right c.args.mesh.now.pool c.expire_turned.new.mesh.pool c.args.s c.tri-t.result c.in-Some.left
+    c.in-Some.right same read in
     (omega (arith, step.0), (step.1, ap (λ (p : PoolState). p.n) same ∙ c.requires.n))
 
 pub returns-in-Some : goal.returns-in-Some
 returns-in-Some t c =
     let x = c.args.mesh.now in
-    let at : c.tri-t.result ≡ address_at x.pool.pairs c.args.s.0 = c.tri-t.ensures.value ∙ ap (λ (z : PoolState). address_at z.pairs c.args.s.0) c.pool-pool.ensures.pool in
+    let at : c.tri-t.result ≡ address_at x.pool.pairs c.args.s.0 =
+    c.tri-t.ensures.value ∙ ap (λ (z : PoolState). address_at z.pairs c.args.s.0) c.pool-pool.ensures.pool in
     let read : IsRead x.pool c.args.s c.tri-t.result c.in-Some.left c.in-Some.right =
-    read_children c.pool-pool.result.now x.pool c.args.s c.tri-t.result c.in-Some.left c.in-Some.right c.pool-pool.ensures.pool c.pool-pool.ensures.valid c.requires.live
+    read_children c.pool-pool.result.now x.pool c.args.s c.tri-t.result c.in-Some.left c.in-Some.right
+    c.pool-pool.ensures.pool c.pool-pool.ensures.valid c.requires.live
     c.tri-t.ensures.value (λ none. absurd (false≢true (sym (c.in-Some.ensures.none.1 none)))) c.in-Some.ensures.some in
     let told : IsExpired x c.expire_if.new.mesh (λ a. nat_eq c.tri-t.result a && c.of-turn.result.is_turned) =
-    subst (λ z. IsExpired x c.expire_if.new.mesh (λ a. nat_eq z a && c.of-turn.result.is_turned)) (sym at) c.expire_if.ensures in
-    IsExpired-tested (is_turned c.args.outlook.now c.args.planes.now) x c.expire_if.new.mesh c.expire_turned.new.mesh c.expire_turned-in-Some.new.mesh c.args.s c.tri-t.result c.in-Some.left c.in-Some.right
+    subst (λ z. IsExpired x c.expire_if.new.mesh (λ a. nat_eq z a && c.of-turn.result.is_turned))
+    (sym at) c.expire_if.ensures in
+    IsExpired-tested (is_turned c.args.outlook.now c.args.planes.now) x c.expire_if.new.mesh c.expire_turned.new.mesh
+    c.expire_turned-in-Some.new.mesh c.args.s c.tri-t.result c.in-Some.left c.in-Some.right
     c.pool-pool.ensures.only read
-    (IsExpired-itself x c.expire_if.new.mesh c.tri-t.result (is_turned c.args.outlook.now c.args.planes.now) c.of-turn.result.is_turned c.of-turn.ensures.own told)
+    (IsExpired-itself x c.expire_if.new.mesh c.tri-t.result
+    (is_turned c.args.outlook.now c.args.planes.now) c.of-turn.result.is_turned c.of-turn.ensures.own told)
     c.expire_turned.ensures c.expire_turned-in-Some.ensures
 
 pub returns-in_default : goal.returns-in_default
 returns-in_default t c =
     let x = c.args.mesh.now in
-    let at : c.tri-t.result ≡ address_at x.pool.pairs c.args.s.0 = c.tri-t.ensures.value ∙ ap (λ (z : PoolState). address_at z.pairs c.args.s.0) c.pool-pool.ensures.pool in
+    let at : c.tri-t.result ≡ address_at x.pool.pairs c.args.s.0 =
+    c.tri-t.ensures.value ∙ ap (λ (z : PoolState). address_at z.pairs c.args.s.0) c.pool-pool.ensures.pool in
     let told : IsExpired x c.expire_if.new.mesh (λ a. nat_eq c.tri-t.result a && c.of-turn.result.is_turned) =
-    subst (λ z. IsExpired x c.expire_if.new.mesh (λ a. nat_eq z a && c.of-turn.result.is_turned)) (sym at) c.expire_if.ensures in
+    subst (λ z. IsExpired x c.expire_if.new.mesh (λ a. nat_eq z a && c.of-turn.result.is_turned))
+    (sym at) c.expire_if.ensures in
     let whole : has_children x.pool.pairs c.tri-t.result ≡ false =
     subst (λ (z : PoolState). has_children z.pairs c.tri-t.result ≡ false) c.pool-pool.ensures.pool
-    (subst (λ z. has_children c.pool-pool.result.now.pairs z ≡ false) (sym c.tri-t.ensures.value) (c.in_default.ensures.none.0 (cc))) in
-    IsExpired-tested_leaf (is_turned c.args.outlook.now c.args.planes.now) x c.expire_if.new.mesh c.args.s.0 c.tri-t.result c.pool-pool.ensures.only c.pool-pool.ensures.valid
+    (subst (λ z. has_children c.pool-pool.result.now.pairs z ≡ false) (sym c.tri-t.ensures.value)
+    (c.in_default.ensures.none.0 (cc))) in
+    IsExpired-tested_leaf (is_turned c.args.outlook.now c.args.planes.now) x c.expire_if.new.mesh c.args.s.0
+    c.tri-t.result c.pool-pool.ensures.only c.pool-pool.ensures.valid
     (subst (λ z. 2 ≤ z) (sym at) c.requires.live) at whole
-    (IsExpired-itself x c.expire_if.new.mesh c.tri-t.result (is_turned c.args.outlook.now c.args.planes.now) c.of-turn.result.is_turned c.of-turn.ensures.own told)
+    (IsExpired-itself x c.expire_if.new.mesh c.tri-t.result
+    (is_turned c.args.outlook.now c.args.planes.now) c.of-turn.result.is_turned c.of-turn.ensures.own told)
 
 pub returns-else-turn : goal.returns-else-turn
 returns-else-turn t c =
     let x = c.args.mesh.now in
-    let at : c.tri-t.result ≡ address_at x.pool.pairs c.args.s.0 = c.tri-t.ensures.value ∙ ap (λ (z : PoolState). address_at z.pairs c.args.s.0) c.pool-pool.ensures.pool in
-    IsExpired-untouched (is_turned c.args.outlook.now c.args.planes.now) x c.args.s.0 c.pool-pool.ensures.only c.pool-pool.ensures.valid
-    (λ a under level. c.of-turn.ensures.below c.if-turn.false a (subst (λ z. is_at_or_below z a ≡ true) (sym at) under) (subst (λ n. level_of a ≤ 2 * n) c.requires.n level))
+    let at : c.tri-t.result ≡ address_at x.pool.pairs c.args.s.0 =
+    c.tri-t.ensures.value ∙ ap (λ (z : PoolState). address_at z.pairs c.args.s.0) c.pool-pool.ensures.pool in
+    IsExpired-untouched (is_turned c.args.outlook.now c.args.planes.now) x c.args.s.0 c.pool-pool.ensures.only
+    c.pool-pool.ensures.valid
+    (λ a under level. c.of-turn.ensures.below c.if-turn.false a (subst (λ z. is_at_or_below z a ≡ true) (sym at) under)
+    (subst (λ n. level_of a ≤ 2 * n) c.requires.n level))

@@ -13,7 +13,10 @@ pub mark-own-requires : goal.mark-own-requires
 mark-own-requires t c =
     let level = c.requires.level in
     let n = c.requires.n in
-    record { level = subst (λ z. level_of z ≤ 2 * c.args.outlook.now.grid.n) (sym c.tri.ensures.value) (omega (arith, level, n)) }
+    record {
+      level =
+          subst (λ z. level_of z ≤ 2 * c.args.outlook.now.grid.n) (sym c.tri.ensures.value) (omega (arith, level, n));
+    }
 
 pub count_under-lower-requires : goal.count_under-lower-requires
 count_under-lower-requires t c =
@@ -37,7 +40,8 @@ returns-in-Some t c =
     let split = when_some (has_children pairs (address_at pairs c.args.s.0)) c.in-Some.ensures.none.1 in
     let below = children_below c.args.pool.now.n pairs c.args.levels c.args.s.0 c.in-Some.left.0 c.in-Some.right.0
     c.n-n.ensures.valid c.requires.live c.requires.level split c.in-Some.ensures.some.0 c.in-Some.ensures.some.1 in
-    rw c.plus.ensures (HasMarks-append c.args.outlook.now _ _ _ _ _ _ _ _ _ c.count_under-lower.ensures c.count_under-upper.ensures below.list)
+    rw c.plus.ensures (HasMarks-append c.args.outlook.now _ _ _ _ _ _ _ _ _ c.count_under-lower.ensures
+    c.count_under-upper.ensures below.list)
 
 pub plus-requires-clause-inside : goal.plus-requires-clause-inside
 plus-requires-clause-inside t c =
@@ -74,7 +78,8 @@ returns-in-None t c =
     let pairs = c.args.pool.now.pairs in
     let alone = leaf_at pairs c.args.levels c.args.s.0 (c.in-None.ensures.none.0 refl) in
     rw c.all.ensures (HasMarks-leaf c.args.outlook.now c.mark-own.result _ (address_at pairs c.args.s.0) alone
-    (ap (mark_under c.args.outlook.now c.args.outlook.now.view.planes) (sym c.tri.ensures.value) ∙ sym c.mark-own.ensures))
+    (ap (mark_under c.args.outlook.now c.args.outlook.now.view.planes) (sym c.tri.ensures.value)
+    ∙ sym c.mark-own.ensures))
 
 pub returns-in-Inside : goal.returns-in-Inside
 returns-in-Inside t c =
@@ -88,8 +93,10 @@ returns-in-Inside t c =
     let level = c.requires.level in
     let n = c.requires.n in
     let down : IsDown o.grid.n c.args.levels a = record { low = c.requires.live; height = omega (arith, level, n) } in
-    let own : mark_under o o.view.planes a ≡ Inside = ap (mark_under o o.view.planes) (sym c.tri.ensures.value) ∙ sym c.mark-own.ensures ∙ c.in-Inside.is in
-    rw (c.all-in-Inside.ensures, c.in-Inside.is) (HasMarks-below o Inside passes (split_set c.args.pool.now.pairs) c.args.levels a c.count_leaves.result down own c.count_leaves.ensures)
+    let own : mark_under o o.view.planes a ≡ Inside =
+    ap (mark_under o o.view.planes) (sym c.tri.ensures.value) ∙ sym c.mark-own.ensures ∙ c.in-Inside.is in
+    rw (c.all-in-Inside.ensures, c.in-Inside.is) (HasMarks-below o Inside passes
+    (split_set c.args.pool.now.pairs) c.args.levels a c.count_leaves.result down own c.count_leaves.ensures)
 
 pub returns-in-Outside : goal.returns-in-Outside
 returns-in-Outside t c =
@@ -103,5 +110,7 @@ returns-in-Outside t c =
     let level = c.requires.level in
     let n = c.requires.n in
     let down : IsDown o.grid.n c.args.levels a = record { low = c.requires.live; height = omega (arith, level, n) } in
-    let own : mark_under o o.view.planes a ≡ Outside = ap (mark_under o o.view.planes) (sym c.tri.ensures.value) ∙ sym c.mark-own.ensures ∙ c.in-Outside.is in
-    rw (c.all-in-Outside.ensures, c.in-Outside.is) (HasMarks-below o Outside passes (split_set c.args.pool.now.pairs) c.args.levels a c.count_leaves-in-Outside.result down own c.count_leaves-in-Outside.ensures)
+    let own : mark_under o o.view.planes a ≡ Outside =
+    ap (mark_under o o.view.planes) (sym c.tri.ensures.value) ∙ sym c.mark-own.ensures ∙ c.in-Outside.is in
+    rw (c.all-in-Outside.ensures, c.in-Outside.is) (HasMarks-below o Outside passes (split_set c.args.pool.now.pairs)
+    c.args.levels a c.count_leaves-in-Outside.result down own c.count_leaves-in-Outside.ensures)

@@ -9,7 +9,8 @@ use Rattle.frame_loop.proofs.marks.count_marks.Goals as goal
 
 pub returns-then-len-eq0 : goal.returns-then-len-eq0
 returns-then-len-eq0 c =
-    let none = sym (ap (λ o. o.view.planes) c.outlook.view_is) ∙ nil_from_length c.outlook.inside.planes (sym c.len.ensures.value ∙ c.if-len-eq0.true) in
+    let none = sym (ap (λ o. o.view.planes) c.outlook.view_is)
+    ∙ nil_from_length c.outlook.inside.planes (sym c.len.ensures.value ∙ c.if-len-eq0.true) in
     let o = c.args.outlook.now in
     let leaves = leaves_of c.args.pool.now.n (split_set c.args.pool.now.pairs) in
     rw c.all.ensures (record {
@@ -24,7 +25,8 @@ count_under-lower-requires-clause-level c =
     let root : slice_index pairs 0 ≡ 1 = c.requires.root in
     let first : address_at pairs 0 ≡ 2 = omega arith in
     let second : address_at pairs 1 ≡ 3 = omega arith in
-    (halves_of c.args.pool.now.n pairs (2 * c.n-levels.result) first second (ap (λ n. 2 * n) c.n-levels.ensures.value)).lower_level
+    (halves_of c.args.pool.now.n pairs (2 * c.n-levels.result) first second
+    (ap (λ n. 2 * n) c.n-levels.ensures.value)).lower_level
 
 pub count_under-lower-requires-clause-short : goal.count_under-lower-requires-clause-short
 count_under-lower-requires-clause-short c =
@@ -32,7 +34,8 @@ count_under-lower-requires-clause-short c =
     let root : slice_index pairs 0 ≡ 1 = c.requires.root in
     let first : address_at pairs 0 ≡ 2 = omega arith in
     let second : address_at pairs 1 ≡ 3 = omega arith in
-    let halves = halves_of c.args.pool.now.n pairs (2 * c.n-levels.result) first second (ap (λ n. 2 * n) c.n-levels.ensures.value) in
+    let halves = halves_of c.args.pool.now.n pairs (2 * c.n-levels.result) first second
+    (ap (λ n. 2 * n) c.n-levels.ensures.value) in
     let count = halves.count in
     let all = c.leaf_count-leaves.ensures.leaves in
     let most = c.leaf_count-leaves.ensures.value in
@@ -45,7 +48,8 @@ count_under-upper-requires-clause-level c =
     let root : slice_index pairs 0 ≡ 1 = c.requires.root in
     let first : address_at pairs 0 ≡ 2 = omega arith in
     let second : address_at pairs 1 ≡ 3 = omega arith in
-    (halves_of c.args.pool.now.n pairs (2 * c.n-levels.result) first second (ap (λ n. 2 * n) c.n-levels.ensures.value)).upper_level
+    (halves_of c.args.pool.now.n pairs (2 * c.n-levels.result) first second
+    (ap (λ n. 2 * n) c.n-levels.ensures.value)).upper_level
 
 pub count_under-upper-requires-clause-short : goal.count_under-upper-requires-clause-short
 count_under-upper-requires-clause-short c =
@@ -53,7 +57,8 @@ count_under-upper-requires-clause-short c =
     let root : slice_index pairs 0 ≡ 1 = c.requires.root in
     let first : address_at pairs 0 ≡ 2 = omega arith in
     let second : address_at pairs 1 ≡ 3 = omega arith in
-    let halves = halves_of c.args.pool.now.n pairs (2 * c.n-levels.result) first second (ap (λ n. 2 * n) c.n-levels.ensures.value) in
+    let halves = halves_of c.args.pool.now.n pairs (2 * c.n-levels.result) first second
+    (ap (λ n. 2 * n) c.n-levels.ensures.value) in
     let count = halves.count in
     let all = c.leaf_count-leaves.ensures.leaves in
     let most = c.leaf_count-leaves.ensures.value in
@@ -66,7 +71,8 @@ plus-requires-clause-inside c =
     let root : slice_index pairs 0 ≡ 1 = c.requires.root in
     let first : address_at pairs 0 ≡ 2 = omega arith in
     let second : address_at pairs 1 ≡ 3 = omega arith in
-    let halves = halves_of c.args.pool.now.n pairs (2 * c.n-levels.result) first second (ap (λ n. 2 * n) c.n-levels.ensures.value) in
+    let halves = halves_of c.args.pool.now.n pairs (2 * c.n-levels.result) first second
+    (ap (λ n. 2 * n) c.n-levels.ensures.value) in
     let count = halves.count in
     let all = c.leaf_count-leaves.ensures.leaves in
     let most = c.leaf_count-leaves.ensures.value in
@@ -81,7 +87,8 @@ plus-requires-clause-cut c =
     let root : slice_index pairs 0 ≡ 1 = c.requires.root in
     let first : address_at pairs 0 ≡ 2 = omega arith in
     let second : address_at pairs 1 ≡ 3 = omega arith in
-    let halves = halves_of c.args.pool.now.n pairs (2 * c.n-levels.result) first second (ap (λ n. 2 * n) c.n-levels.ensures.value) in
+    let halves = halves_of c.args.pool.now.n pairs (2 * c.n-levels.result) first second
+    (ap (λ n. 2 * n) c.n-levels.ensures.value) in
     let count = halves.count in
     let all = c.leaf_count-leaves.ensures.leaves in
     let most = c.leaf_count-leaves.ensures.value in
@@ -96,7 +103,8 @@ plus-requires-clause-outside c =
     let root : slice_index pairs 0 ≡ 1 = c.requires.root in
     let first : address_at pairs 0 ≡ 2 = omega arith in
     let second : address_at pairs 1 ≡ 3 = omega arith in
-    let halves = halves_of c.args.pool.now.n pairs (2 * c.n-levels.result) first second (ap (λ n. 2 * n) c.n-levels.ensures.value) in
+    let halves = halves_of c.args.pool.now.n pairs (2 * c.n-levels.result) first second
+    (ap (λ n. 2 * n) c.n-levels.ensures.value) in
     let count = halves.count in
     let all = c.leaf_count-leaves.ensures.leaves in
     let most = c.leaf_count-leaves.ensures.value in
@@ -111,5 +119,7 @@ returns c =
     let root : slice_index pairs 0 ≡ 1 = c.requires.root in
     let first : address_at pairs 0 ≡ 2 = omega arith in
     let second : address_at pairs 1 ≡ 3 = omega arith in
-    let halves = halves_of c.args.pool.now.n pairs (2 * c.n-levels.result) first second (ap (λ n. 2 * n) c.n-levels.ensures.value) in
-    rw c.plus.ensures (HasMarks-append c.args.outlook.now _ _ _ _ _ _ _ _ _ c.count_under-lower.ensures c.count_under-upper.ensures halves.list)
+    let halves = halves_of c.args.pool.now.n pairs (2 * c.n-levels.result) first second
+    (ap (λ n. 2 * n) c.n-levels.ensures.value) in
+    rw c.plus.ensures (HasMarks-append c.args.outlook.now _ _ _ _ _ _ _ _ _ c.count_under-lower.ensures
+    c.count_under-upper.ensures halves.list)

@@ -1,5 +1,6 @@
 -- Each clause is a lemma.
-use Rattle.frame_steps.proofs.FrameLemmas.{frame_run_of, frame_run_unique, frame_set, frame_size, frame_closure, frame_no_merge, frame_no_split, frame_bound, frame_still, finished_frame}
+use Rattle.frame_steps.proofs.FrameLemmas.{frame_run_of, frame_run_unique, frame_set, frame_size, frame_closure}
+use Rattle.frame_steps.proofs.FrameLemmas.{frame_no_merge, frame_no_split, frame_bound, frame_still, finished_frame}
 use Rattle.frame_steps.proofs.ChosenLemmas.{loose_of}
 use Rattle.frame_steps.proofs.laws.frame_laws.Goals as goal
 
@@ -35,4 +36,5 @@ returns-clause-loose c = loose_of
 
 pub returns-clause-frame : goal.returns-clause-frame
 returns-clause-frame c n budget priority start last added removed set frame falling low =
-    finished_frame n budget priority last (frame_set n budget priority start last added removed set frame) falling low frame.finished
+    finished_frame n budget priority last
+    (frame_set n budget priority start last added removed set frame) falling low frame.finished

@@ -3,4 +3,10 @@ use Rattle.frame_steps.proofs.StepExamples.{split_5, merge_6, merge_4_too, split
 use Rattle.frame_steps.proofs.worked_numbers.a_merged_diamond_may_come_back_by_force.Goals as goal
 
 pub returns : goal.returns
-returns c = record { split_5 = split_5; merge_6 = merge_6; merge_4 = merge_4_too; split_10_with_13_and_6 = split_10; counts = left_run }
+returns c = record {
+  split_5 = split_5;
+  merge_6 = merge_6;
+  merge_4 = merge_4_too;
+  split_10_with_13_and_6 = split_10;
+  counts = left_run;
+}

@@ -14,7 +14,8 @@ pub returns : goal.returns
 unfolding level_of
 returns c = record {
   lead = lead-is 2 (told_by FROM_UPPER_RIGHT) WITH_6 8 (IsAddress-level 2 8 (lit≤ tt) (lit≤ tt)) refl;
-  other = λ lead. both_ways (is_lead (told_by FROM_UPPER_RIGHT) WITH_6 11) refl (is-lead 2 (told_by FROM_UPPER_RIGHT) WITH_6 11 (IsAddress-level 2 11 (lit≤ tt) (lit≤ tt)) lead);
+  other = λ lead. both_ways (is_lead (told_by FROM_UPPER_RIGHT) WITH_6 11) refl
+      (is-lead 2 (told_by FROM_UPPER_RIGHT) WITH_6 11 (IsAddress-level 2 11 (lit≤ tt) (lit≤ tt)) lead);
   tie = lead-is 2 (told_by []) WITH_6 8 (IsAddress-level 2 8 (lit≤ tt) (lit≤ tt)) refl;
   last = last_lead 2 (told_by FROM_UPPER_RIGHT) FIRST 17 (grid_set 2 FIRST refl).closed refl;
   not_mergeable = λ can. both_ways (among FIRST 17) (can.childless 8 (inl refl)).1 refl;

@@ -14,5 +14,8 @@ camera : CameraAt
 camera = record { x = pos 4; y = pos 4; z = pos 0 }
 
 pub returns : goal.returns
-unfolding camera level_of corners_of thickness_of points_of low_of high_of box_of root_of distance_of mark_of priority_of
-returns c = same_at_each (told_by FROM_UPPER_RIGHT) (priority_of 2 TWO_PEAKS record { camera = camera; spacing = 1; planes = [] }) SPLITTABLE refl
+unfolding camera level_of corners_of thickness_of points_of low_of high_of box_of root_of
+    distance_of mark_of priority_of
+returns c =
+    same_at_each (told_by FROM_UPPER_RIGHT)
+    (priority_of 2 TWO_PEAKS record { camera = camera; spacing = 1; planes = [] }) SPLITTABLE refl

@@ -1,5 +1,6 @@
 -- Each step is an example.
-use Rattle.frame_steps.proofs.StepExamples.{merge_17, split_6, merge_8, merge_5, split_12, merge_4, split_25, blocked_by_4, peaks_run}
+use Rattle.frame_steps.proofs.StepExamples.{merge_17, split_6, merge_8, merge_5, split_12, merge_4, split_25}
+use Rattle.frame_steps.proofs.StepExamples.{blocked_by_4, peaks_run}
 use Rattle.frame_steps.proofs.worked_numbers.the_second_frame_of_two_peaks_takes_these_steps.Goals as goal
 
 pub returns : goal.returns

@@ -22,4 +22,12 @@ no_later b i = ⊎_elim
 
 pub returns-clause-merged : goal.returns-clause-merged
 returns-clause-merged c =
-    after_merged 17 record { before = FIRST; after = WITHOUT_17; added = 0; removed = 0; run = begin; step = merge_17.0; lead = merge_17.1 } no_later
+    after_merged 17 record {
+      before = FIRST;
+      after = WITHOUT_17;
+      added = 0;
+      removed = 0;
+      run = begin;
+      step = merge_17.0;
+      lead = merge_17.1;
+    } no_later

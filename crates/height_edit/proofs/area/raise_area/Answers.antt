@@ -23,7 +23,8 @@ agrees : (c : After-raise) → (a : ℕ) → IsAddress c.args.wedges.now.n a →
 agrees c =
     let P : state.Area → Type 0 = λ area. (i j : ℕ) → i ≤ 2 ^ c.args.wedges.now.n → j ≤ 2 ^ c.args.wedges.now.n →
     (state.is_in_area area i j ≡ true → ⊥) →
-    height_at c.args.wedges.now.n c.raise.new.self.heights i j ≡ height_at c.args.wedges.now.n c.args.wedges.now.heights i j in
+    height_at c.args.wedges.now.n c.raise.new.self.heights i j
+    ≡ height_at c.args.wedges.now.n c.args.wedges.now.heights i j in
     AgreesOn-area (laws c) c.args.wedges.now.n c.raise.new.self.heights c.args.wedges.now.heights
     (area_between c.args.x0 c.args.y0 c.args.x1 c.args.y1) (subst P c.new.ensures c.raise.ensures.others)
 

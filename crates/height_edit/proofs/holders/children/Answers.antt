@@ -8,7 +8,9 @@ use Rattle.height_edit.proofs.holders.children.Goals.{After-number}
 
 -- the number is that of the entry
 entry : (c : After-number) → c.number.result ≡ slice_index_or c.args.level.now c.loop-i.i 0
-entry c = c.number.ensures.value ∙ c.index-level-i.is ∙ same-entry c.args.level.now c.loop-i.i c.index-level-i.result 0 c.loop-i-test.true
+entry c =
+    c.number.ensures.value ∙ c.index-level-i.is
+    ∙ same-entry c.args.level.now c.loop-i.i c.index-level-i.result 0 c.loop-i-test.true
 
 pub push_pair-requires-clause-high : goal.push_pair-requires-clause-high
 push_pair-requires-clause-high c =
@@ -23,8 +25,10 @@ push_pair-requires-clause-room c =
 pub loop-i-preserved : goal.loop-i-preserved
 loop-i-preserved c =
     let at : c.number.result ≡ slice_index_or c.args.level.now c.loop-i.i 0 =
-    c.number.ensures.value ∙ c.index-level-i.is ∙ same-entry c.args.level.now c.loop-i.i c.index-level-i.result 0 c.loop-i-test.true in
+    c.number.ensures.value ∙ c.index-level-i.is
+    ∙ same-entry c.args.level.now c.loop-i.i c.index-level-i.result 0 c.loop-i-test.true in
     c.push_pair.ensures
     ∙ ap (λ t. t ++ held_from c.args.n (point c.args.x c.args.y) (2 * c.number.result) 2) c.loop-i.invariant
-    ∙ ap (λ a. offspring c.args.n (point c.args.x c.args.y) (take c.loop-i.i c.args.level.now) ++ held_from c.args.n (point c.args.x c.args.y) (2 * a) 2) at
+    ∙ ap (λ a. offspring c.args.n (point c.args.x c.args.y) (take c.loop-i.i c.args.level.now) ++ held_from c.args.n
+    (point c.args.x c.args.y) (2 * a) 2) at
     ∙ sym (offspring-take c.args.n (point c.args.x c.args.y) c.args.level.now c.loop-i.i c.loop-i-test.true)

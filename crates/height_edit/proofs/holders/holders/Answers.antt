@@ -2,7 +2,8 @@ use Rattle.std.proofs.Common.{◌≡◌, ℕ, ◌*◌, ◌<◌, ◌≤◌, List,
 use Rattle.mesh_defs.specs.Triangle.{level_of}
 use Rattle.mesh_defs.specs.BoundingBox.{point}
 use Rattle.height_edit.specs.Weights.{offspring}
-use Rattle.height_edit.proofs.HolderLemmas.{TurnLaws, turn-laws, IsFound-bases, IsFound-next, IsFound-all, next-few, level-coarse, room-next}
+use Rattle.height_edit.proofs.HolderLemmas.{TurnLaws, turn-laws, IsFound-bases, IsFound-next, IsFound-all, next-few}
+use Rattle.height_edit.proofs.HolderLemmas.{level-coarse, room-next}
 use Rattle.height_edit.proofs.holders.holders.Goals as goal
 
 pub loop-depth-init : goal.loop-depth-init
@@ -33,7 +34,8 @@ append-requires-in-loop-depth c =
     let few : length (offspring c.args.n (point c.args.x c.args.y) c.loop-depth.level.items) ≤ 8 =
     next-few laws c.level_laws.ensures.below c.args.n (point c.args.x c.args.y) c.loop-depth._depth
     c.loop-depth.level.items c.loop-depth.all.items c.loop-depth-test.true c.loop-depth.invariant in
-    let is : c.as_slice-in-loop-depth-2.result.now ≡ offspring c.args.n (point c.args.x c.args.y) c.loop-depth.level.items =
+    let is : c.as_slice-in-loop-depth-2.result.now
+    ≡ offspring c.args.n (point c.args.x c.args.y) c.loop-depth.level.items =
     c.as_slice-in-loop-depth-2.ensures.value ∙ c.children-level.ensures
     ∙ ap (λ xs. offspring c.args.n (point c.args.x c.args.y) xs) c.as_slice-in-loop-depth.ensures.value in
     let P : List ℕ → Type 0 = λ xs. length xs ≤ 8 in
@@ -49,10 +51,14 @@ loop-depth-preserved c =
     IsFound-next laws c.level_laws.ensures.below c.args.n (point c.args.x c.args.y) c.loop-depth._depth
     c.loop-depth.level.items c.loop-depth.all.items c.children-level.result.items c.append-in-loop-depth.new.all.items
     c.loop-depth-test.true c.loop-depth.invariant
-    (c.children-level.ensures ∙ ap (λ xs. offspring c.args.n (point c.args.x c.args.y) xs) c.as_slice-in-loop-depth.ensures.value)
+    (c.children-level.ensures
+    ∙ ap (λ xs. offspring c.args.n (point c.args.x c.args.y) xs) c.as_slice-in-loop-depth.ensures.value)
     (c.append-in-loop-depth.ensures ∙ ap (λ t. c.loop-depth.all.items ++ t) c.as_slice-in-loop-depth-2.ensures.value)
 
 pub returns : goal.returns
-returns c = IsFound-all c.args.n (point c.args.x c.args.y) c.loop-depth._depth c.loop-depth.level.items c.loop-depth.all.items
-    (let last : c.loop-depth._depth ≡ 2 * c.args.n = omega (arith, c.loop-depth-test.false, c.loop-depth.auto._depth-end) in last)
+returns c =
+    IsFound-all c.args.n (point c.args.x c.args.y) c.loop-depth._depth c.loop-depth.level.items c.loop-depth.all.items
+    (let last : c.loop-depth._depth ≡ 2 * c.args.n =
+    omega (arith, c.loop-depth-test.false, c.loop-depth.auto._depth-end) in
+    last)
     c.loop-depth.invariant

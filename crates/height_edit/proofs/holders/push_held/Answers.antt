@@ -11,4 +11,5 @@ triangle-tri-requires-clause-high c =
 
 pub holds_point-requires-clause-level : goal.holds_point-requires-clause-level
 holds_point-requires-clause-level c =
-    level-below c.level_laws.ensures.below c.args.n c.args.number c.triangle-tri.result c.triangle-tri.ensures c.requires.low c.requires.high
+    level-below c.level_laws.ensures.below c.args.n c.args.number c.triangle-tri.result c.triangle-tri.ensures
+    c.requires.low c.requires.high

@@ -18,7 +18,9 @@ laws c = record {
 agrees : (c : After-holders) → (a : ℕ) → IsAddress c.args.wedges.now.n a →
     holds_point c.args.wedges.now.n a (point c.args.x c.args.y) ≡ false →
     AgreesOn c.args.wedges.now.n c.set.new.self.heights c.args.wedges.now.heights a
-agrees c = AgreesOn-point (laws c) c.args.wedges.now.n c.set.new.self.heights c.args.wedges.now.heights c.args.x c.args.y c.set.ensures.others
+agrees c =
+    AgreesOn-point (laws c) c.args.wedges.now.n c.set.new.self.heights c.args.wedges.now.heights c.args.x
+    c.args.y c.set.ensures.others
 
 pub returns-clause-same_thickness : goal.returns-clause-same_thickness
 returns-clause-same_thickness c = λ a address apart.

@@ -1,5 +1,6 @@
 -- Two steps, 2 and 4, and then 8, the only leaf of positive priority, which forces too much.
-use Rattle.std.proofs.Common.{◌≡◌, ◌≢◌, ◌<◌, ◌||◌, ℕ, Bool, true, false, List, [], ◌∷◌, length, refl, ap, subst, lit≤, lit<, arith}
+use Rattle.std.proofs.Common.{◌≡◌, ◌≢◌, ◌<◌, ◌||◌, ℕ, Bool, true, false, List, [], ◌∷◌, length, refl, ap, subst, lit≤}
+use Rattle.std.proofs.Common.{lit<, arith}
 use Rattle.std.specs.Prelude.{Contains, pos, nat_eq}
 use Rattle.std.proofs.lemmas.Bool.{eqb-true}
 use Rattle.laws_tests.specs.declared.worked_numbers.TheConstants.{CORNER}
@@ -18,14 +19,16 @@ use Rattle.laws_tests.proofs.worked_numbers.greedy_refinement_stops_before_the_j
 
 -- the priorities of the example
 abbrev corner : ℕ → ℕ
-corner a = priority_of 2 CORNER (record { camera = record { x = pos 0; y = pos 0; z = pos 0 }; spacing = 1; planes = [] }) a
+corner a =
+    priority_of 2 CORNER (record { camera = record { x = pos 0; y = pos 0; z = pos 0 }; spacing = 1; planes = [] }) a
 
 -- of a leaf that is not f: if it has positive priority, f ranks before it
 abbrev Follows : ℕ → ℕ → Type 0
 Follows f a = 0 < corner a → a ≢ f → RanksBefore corner f a
 
 first_2 : IsFirstLeaf 2 corner (λ a. false) 2
-unfolding level_of corners_of leaves_of thickness_of points_of low_of high_of box_of root_of distance_of mark_of priority_of
+unfolding level_of corners_of leaves_of thickness_of points_of low_of high_of box_of root_of
+    distance_of mark_of priority_of
 first_2 = record {
   leaf = (0, lit< tt, refl);
   positive = lit< tt;
@@ -34,16 +37,20 @@ first_2 = record {
 }
 
 first_4 : IsFirstLeaf 2 corner (among (2 ∷ 3 ∷ [])) 4
-unfolding level_of corners_of leaves_of thickness_of points_of low_of high_of box_of root_of distance_of mark_of priority_of
+unfolding level_of corners_of leaves_of thickness_of points_of low_of high_of box_of root_of
+    distance_of mark_of priority_of
 first_4 = record {
   leaf = (0, lit< tt, refl);
   positive = lit< tt;
-  first = λ a there. each-contains (Follows 4) (4 ∷ 5 ∷ 6 ∷ 7 ∷ [])
-      ((λ some ne. absurd (ne refl)), ((λ some ne. absurd (omega arith)), ((λ some ne. absurd (omega arith)), ((λ some ne. absurd (omega arith)), tt)))) a there;
+  first = λ a there. each-contains (Follows 4) (4 ∷ 5 ∷ 6 ∷ 7 ∷ []) (
+    (λ some ne. absurd (ne refl)),
+    ((λ some ne. absurd (omega arith)), ((λ some ne. absurd (omega arith)), ((λ some ne. absurd (omega arith)), tt))),
+  ) a there;
 }
 
 -- a member of a list and one more triangle has what each of them has
-with_one : (P : ℕ → Type 0) (xs : List ℕ) (f : ℕ) → Each P xs → P f → (a : ℕ) → (q : Bool) → among xs a ≡ q → (q || nat_eq f a) ≡ true → P a
+with_one : (P : ℕ → Type 0) (xs : List ℕ) (f : ℕ) → Each P xs → P f → (a : ℕ) → (q : Bool) → among xs a ≡ q →
+    (q || nat_eq f a) ≡ true → P a
 with_one P xs f each here a true e h = each-among P xs each a e
 with_one P xs f each here a false e h = subst P (eqb-true f a h) here
 
@@ -61,7 +68,8 @@ least_4 : IsLeastClosed 2 (with_triangle (among (2 ∷ 3 ∷ [])) 4) (among with
 unfolding level_of corners_of
 least_4 = record {
   closed = closed-list 2 with_4 (refl, (refl, (refl, tt)));
-  holds = λ a h. with_one (λ i. among with_4 i ≡ true) (2 ∷ 3 ∷ []) 4 (refl, (refl, tt)) refl a (among (2 ∷ 3 ∷ []) a) refl h;
+  holds = λ a h. with_one (λ i. among with_4 i ≡ true) (2 ∷ 3 ∷ []) 4 (refl, (refl, tt)) refl a
+      (among (2 ∷ 3 ∷ []) a) refl h;
   least = λ other closed wanted a h.
       each-among (λ i. other i ≡ true) with_4 (wanted 2 refl, (wanted 3 refl, (wanted 4 refl, tt))) a h;
 }
@@ -69,15 +77,25 @@ least_4 = record {
 least_8 : IsLeastClosed 2 (with_triangle (among with_4) 8) (among with_8)
 least_8 = record {
   closed = least-with_8.closed;
-  holds = λ a h. with_one (λ i. among with_8 i ≡ true) with_4 8 (refl, (refl, (refl, tt))) refl a (among with_4 a) refl h;
+  holds =
+      λ a h. with_one (λ i. among with_8 i ≡ true) with_4 8 (refl, (refl, (refl, tt))) refl a (among with_4 a) refl h;
   least = λ other closed wanted a h. least-with_8.least other closed
-      (λ i there. each-among (λ j. other j ≡ true) (2 ∷ 4 ∷ 8 ∷ []) (wanted 2 refl, (wanted 4 refl, (wanted 8 refl, tt))) i there) a h;
+      (λ i there. each-among (λ j. other j ≡ true) (2 ∷ 4 ∷ 8 ∷ []) (
+        wanted 2 refl,
+        (wanted 4 refl, (wanted 8 refl, tt)),
+      ) i there) a h;
 }
 
 only_8 : (f : ℕ) → Contains (leaves_of 2 (among with_4)) f → 0 < corner f → f ≡ 8
-unfolding level_of corners_of leaves_of thickness_of points_of low_of high_of box_of root_of distance_of mark_of priority_of
-only_8 f there = each-contains (λ a. 0 < corner a → a ≡ 8) (8 ∷ 9 ∷ 5 ∷ 6 ∷ 7 ∷ [])
-    ((λ some. refl), ((λ some. absurd (omega arith)), ((λ some. absurd (omega arith)), ((λ some. absurd (omega arith)), ((λ some. absurd (omega arith)), tt))))) f there
+unfolding level_of corners_of leaves_of thickness_of points_of low_of high_of box_of root_of
+    distance_of mark_of priority_of
+only_8 f there = each-contains (λ a. 0 < corner a → a ≡ 8) (8 ∷ 9 ∷ 5 ∷ 6 ∷ 7 ∷ []) (
+  (λ some. refl),
+  (
+    (λ some. absurd (omega arith)),
+    ((λ some. absurd (omega arith)), ((λ some. absurd (omega arith)), ((λ some. absurd (omega arith)), tt))),
+  ),
+) f there
 
 too_many : (next : ℕ → Bool) → IsGreedyStep 2 corner (among with_4) next → 7 < length (leaves_of 2 next)
 unfolding leaves_of
@@ -86,7 +104,8 @@ too_many next step =
     let closed : IsLeastClosed 2 (with_triangle (among with_4) 8) next =
     subst (λ (f : ℕ). IsLeastClosed 2 (with_triangle (among with_4) f) next) e (step.split.2) in
     let count : length (leaves_of 2 next) ≡ 8 =
-    ap (λ (leaves : List ℕ). length leaves) (least-leaves 2 (with_triangle (among with_4) 8) next (among with_8) closed least_8) in
+    ap (λ (leaves : List ℕ). length leaves)
+    (least-leaves 2 (with_triangle (among with_4) 8) next (among with_8) closed least_8) in
     omega arith
 
 pub returns : goal.returns

@@ -12,18 +12,27 @@ eight_leaves : (k : ℕ) (other : ℕ → Bool) → k ≡ 3 → IsPrefixClosure 
 unfolding leaves_of
 eight_leaves k other e prefix =
     let closure : IsPrefixClosure 2 RANKING 3 other = subst (λ (i : ℕ). IsPrefixClosure 2 RANKING i other) e prefix in
-    ap (λ (leaves : List ℕ). length leaves) (least-leaves 2 (among (take 3 RANKING)) other (among with_8) closure least-with_8)
+    ap (λ (leaves : List ℕ). length leaves)
+    (least-leaves 2 (among (take 3 RANKING)) other (among with_8) closure least-with_8)
 
 nine_leaves : (k : ℕ) (other : ℕ → Bool) → k ≡ 4 → IsPrefixClosure 2 RANKING k other → length (leaves_of 2 other) ≡ 9
 unfolding leaves_of
 nine_leaves k other e prefix =
     let closure : IsPrefixClosure 2 RANKING 4 other = subst (λ (i : ℕ). IsPrefixClosure 2 RANKING i other) e prefix in
-    ap (λ (leaves : List ℕ). length leaves) (least-leaves 2 (among (take 4 RANKING)) other (among with_17) closure least-with_17)
+    ap (λ (leaves : List ℕ). length leaves)
+    (least-leaves 2 (among (take 4 RANKING)) other (among with_17) closure least-with_17)
 
-more_than_7 : (k : ℕ) (other : ℕ → Bool) → 2 < k → k ≤ 4 → IsPrefixClosure 2 RANKING k other → 7 < length (leaves_of 2 other)
+more_than_7 : (k : ℕ) (other : ℕ → Bool) → 2 < k → k ≤ 4 → IsPrefixClosure 2 RANKING k other →
+    7 < length (leaves_of 2 other)
 more_than_7 k other low high prefix = elim (leb_tells k 3) [
-  | inl e ↦ let third : k ≤ 3 = e.1 in let count : length (leaves_of 2 other) ≡ 8 = eight_leaves k other (omega arith) prefix in omega arith
-  | inr e ↦ let fourth : 3 < k = e.1 in let count : length (leaves_of 2 other) ≡ 9 = nine_leaves k other (omega arith) prefix in omega arith
+  | inl e ↦
+      let third : k ≤ 3 = e.1 in
+      let count : length (leaves_of 2 other) ≡ 8 = eight_leaves k other (omega arith) prefix in
+      omega arith
+  | inr e ↦
+      let fourth : 3 < k = e.1 in
+      let count : length (leaves_of 2 other) ≡ 9 = nine_leaves k other (omega arith) prefix in
+      omega arith
 ]
 
 pub returns : goal.returns

@@ -7,5 +7,6 @@ use Rattle.leaf_list.proofs.marks.mark_each.Given as goal
 abbrev pub invariant-loop-t : goal.invariant-loop-t
 invariant-loop-t l = record {
   rest : l.walk ≡ record l.initial.walk { touched = l.walk.touched };
-  above : (b r : ℕ) → Contains (take l.t-index l.changed) b → IsLive l.pool.pairs r → is_at_or_below (address_at l.pool.pairs r) b ≡ true → get_or l.walk.touched r true ≡ true;
+  above : (b r : ℕ) → Contains (take l.t-index l.changed) b → IsLive l.pool.pairs r →
+      is_at_or_below (address_at l.pool.pairs r) b ≡ true → get_or l.walk.touched r true ≡ true;
 }

@@ -28,4 +28,5 @@ returns-in-Some t c =
     let below : AreBelow c.args.pool.now.n pairs c.args.levels c.args.s.0 c.in-Some.left.0 c.in-Some.right.0 =
     slots_below c.args.pool.now.n pairs c.args.levels c.args.s.0 c.in-Some.left.0 c.in-Some.right.0
     c.n-n.ensures.valid c.requires.live c.requires.level split c.in-Some.ensures.some.0 c.in-Some.ensures.some.1 in
-    put_both c.args.walk.now c.put_under.new.walk c.put_under-in-Some.new.walk _ _ _ below.list c.put_under.ensures c.put_under-in-Some.ensures
+    put_both c.args.walk.now c.put_under.new.walk c.put_under-in-Some.new.walk _ _ _ below.list c.put_under.ensures
+    c.put_under-in-Some.ensures

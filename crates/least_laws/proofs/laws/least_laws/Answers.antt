@@ -1,5 +1,6 @@
 -- Each clause is a lemma.
-use Rattle.least_laws.proofs.LeastLemmas.{worse-iff, least_found, least_unique, least_list-mesh, least_inside, worse-parent}
+use Rattle.least_laws.proofs.LeastLemmas.{worse-iff, least_found, least_unique, least_list-mesh, least_inside}
+use Rattle.least_laws.proofs.LeastLemmas.{worse-parent}
 use Rattle.least_laws.proofs.laws.least_laws.Goals as goal
 
 pub returns-clause-wanted : goal.returns-clause-wanted

@@ -8,19 +8,23 @@ use Rattle.least_mesh.proofs.flags.sweep.Goals as goal
 pub loop-number-init : goal.loop-number-init
 loop-number-init c = record {
   room = refl;
-  swept = subst (λ k. IsSwept c.args.n (is_flagged c.args.flags.now) (is_flagged c.args.flags.now) k) (sym c.end-number.ensures.value)
+  swept = subst (λ k. IsSwept c.args.n (is_flagged c.args.flags.now) (is_flagged c.args.flags.now) k)
+      (sym c.end-number.ensures.value)
       (swept_at_first c.args.n (is_flagged c.args.flags.now) c.requires.splittable);
 }
 
 pub unwrap-requires : goal.unwrap-requires
 unwrap-requires c =
-    let most = c.loop-number.auto.number in let more = c.loop-number-test.true in let high = c.end-number.ensures.high in
+    let most = c.loop-number.auto.number in
+    let more = c.loop-number-test.true in
+    let high = c.end-number.ensures.high in
     c.new.ensures.valid.1 (omega arith, omega arith)
 
 pub visit-requires : goal.visit-requires
 unfolding is_flagged
 visit-requires c =
-    let visited : c.unwrap.result ≡ c.loop-number.number - 1 = subst (λ o. IfSome o (λ t. t ≡ c.loop-number.number - 1)) c.unwrap.ensures c.new.ensures.value in
+    let visited : c.unwrap.result ≡ c.loop-number.number - 1 =
+    subst (λ o. IfSome o (λ t. t ≡ c.loop-number.number - 1)) c.unwrap.ensures c.new.ensures.value in
     record {
       in_grid = c.requires.in_grid;
       room = c.loop-number.invariant.room ∙ c.requires.room;
@@ -32,13 +36,17 @@ pub loop-number-preserved-then-flags-number : goal.loop-number-preserved-then-fl
 unfolding is_flagged
 loop-number-preserved-then-flags-number c =
     let more = c.loop-number-test.true in
-    let visited : c.unwrap.result ≡ c.loop-number.number - 1 = subst (λ o. IfSome o (λ t. t ≡ c.loop-number.number - 1)) c.unwrap.ensures c.new.ensures.value in
+    let visited : c.unwrap.result ≡ c.loop-number.number - 1 =
+    subst (λ o. IfSome o (λ t. t ≡ c.loop-number.number - 1)) c.unwrap.ensures c.new.ensures.value in
     record {
       room = c.visit.auto.flags ∙ c.loop-number.invariant.room;
-      swept = swept_mark c.args.n (is_flagged c.args.flags.now) (is_flagged c.loop-number.flags) (is_flagged c.visit.new.flags) (c.loop-number.number - 1)
-          (subst (λ k. IsSwept c.args.n (is_flagged c.args.flags.now) (is_flagged c.loop-number.flags) k) (omega arith) c.loop-number.invariant.swept)
+      swept = swept_mark c.args.n (is_flagged c.args.flags.now) (is_flagged c.loop-number.flags)
+          (is_flagged c.visit.new.flags) (c.loop-number.number - 1)
+          (subst (λ k. IsSwept c.args.n (is_flagged c.args.flags.now) (is_flagged c.loop-number.flags) k)
+          (omega arith) c.loop-number.invariant.swept)
           c.if-flags-number.true
-          (subst (λ t. IsMarked c.args.n t (is_flagged c.loop-number.flags) (is_flagged c.visit.new.flags)) visited c.visit.ensures.marked);
+          (subst (λ t. IsMarked c.args.n t (is_flagged c.loop-number.flags) (is_flagged c.visit.new.flags)) visited
+          c.visit.ensures.marked);
     }
 
 pub loop-number-preserved : goal.loop-number-preserved
@@ -47,8 +55,10 @@ loop-number-preserved c =
     let more = c.loop-number-test.true in
     record {
       room = c.loop-number.invariant.room;
-      swept = swept_skip c.args.n (is_flagged c.args.flags.now) (is_flagged c.loop-number.flags) (c.loop-number.number - 1)
-          (subst (λ k. IsSwept c.args.n (is_flagged c.args.flags.now) (is_flagged c.loop-number.flags) k) (omega arith) c.loop-number.invariant.swept)
+      swept =
+          swept_skip c.args.n (is_flagged c.args.flags.now) (is_flagged c.loop-number.flags) (c.loop-number.number - 1)
+          (subst (λ k. IsSwept c.args.n (is_flagged c.args.flags.now) (is_flagged c.loop-number.flags) k)
+          (omega arith) c.loop-number.invariant.swept)
           c.if-flags-number.false;
     }
 

@@ -16,7 +16,8 @@ loop-leaf-preserved c =
     let kept = c.loop-leaf.invariant.count in
     let read = c.count-count.ensures in
     record {
-      value = c.greater-worst.ensures ∙ ap₂ max c.loop-leaf.invariant.value c.rank.ensures.value ∙ sym (worst_of-next p before c.leaf-item.result)
+      value = c.greater-worst.ensures ∙ ap₂ max c.loop-leaf.invariant.value c.rank.ensures.value
+          ∙ sym (worst_of-next p before c.leaf-item.result)
           ∙ ap (λ a. worst_of p (before ++ a ∷ [])) c.leaf-item.is
           ∙ ap (worst_of p) (sym (take_more c.args.leaves.now c.loop-leaf.leaf-index c.leaf-item.result below));
       asked = omega arith;

@@ -11,7 +11,8 @@ pub loop-number-init : goal.loop-number-init
 loop-number-init c =
     let p = priority_seen c.args.scene.now in
     record {
-      flagged = asked-none c.args.scene.now.grid.n c.args.tolerance (length c.args.flags.now) p c.clear.new.flags c.clear.ensures;
+      flagged = asked-none c.args.scene.now.grid.n c.args.tolerance
+          (length c.args.flags.now) p c.clear.new.flags c.clear.ensures;
       asked = omega arith;
       count = omega arith;
     }
@@ -33,13 +34,15 @@ loop-number-preserved c =
     elim c.if-is_worse.branch [
       | then-is_worse w ↦ record {
         flagged = subst (λ l. AreWantedFlagged wanted l (c.loop-number.number + 1)) (sym w.flags-is)
-            (asked-yes wanted c.loop-number.flags c.loop-number.number c.loop-number.invariant.flagged (omega arith) (sym c.is_worse.ensures.value ∙ w.if-is_worse.true));
+            (asked-yes wanted c.loop-number.flags c.loop-number.number c.loop-number.invariant.flagged (omega arith)
+            (sym c.is_worse.ensures.value ∙ w.if-is_worse.true));
         asked = omega arith;
         count = omega arith;
       }
       | else-is_worse w ↦ record {
         flagged = subst (λ l. AreWantedFlagged wanted l (c.loop-number.number + 1)) (sym w.flags-is)
-            (asked-no wanted c.loop-number.flags c.loop-number.number c.loop-number.invariant.flagged (sym c.is_worse.ensures.value ∙ w.if-is_worse.false));
+            (asked-no wanted c.loop-number.flags c.loop-number.number c.loop-number.invariant.flagged
+            (sym c.is_worse.ensures.value ∙ w.if-is_worse.false));
         asked = omega arith;
         count = omega arith;
       }
@@ -50,7 +53,8 @@ returns-clause-worse c =
     let p = priority_seen c.args.scene.now in
     let end = c.end-number-end.ensures in
     let grid : c.n.result ≡ c.args.scene.now.grid.n = c.n.ensures.value in
-    let value : c.end-number-end.result ≡ 2 ^ (2 * c.args.scene.now.grid.n + 1) = end.value ∙ ap (λ k. 2 ^ (2 * k + 1)) grid in
+    let value : c.end-number-end.result ≡ 2 ^ (2 * c.args.scene.now.grid.n + 1) =
+    end.value ∙ ap (λ k. 2 ^ (2 * k + 1)) grid in
     let most = c.loop-number.auto.number-end end.low in
     let last = c.loop-number-test.false in
     asked-all c.args.scene.now.grid.n c.args.tolerance c.loop-number.number p c.loop-number.flags (omega arith)

@@ -25,7 +25,8 @@ unwrap-requires c =
 pub returns-clause-value : goal.returns-clause-value
 returns-clause-value c =
     let p = priority_seen c.args.scene.now in
-    let is : c.unwrap.result ≡ c.args.number = subst (λ o. IfSome o (λ t. t ≡ c.args.number)) c.unwrap.ensures c.new.ensures.value in
+    let is : c.unwrap.result ≡ c.args.number =
+    subst (λ o. IfSome o (λ t. t ≡ c.args.number)) c.unwrap.ensures c.new.ensures.value in
     ap (λ k. ltb c.args.tolerance k) (c.rank.ensures.value ∙ ap p is)
     ∙ sym (worse-splittable c.args.scene.now.grid.n c.args.tolerance p c.args.number
     (lt-splittable c.args.scene.now.grid.n c.args.number c.requires.low c.requires.splittable))

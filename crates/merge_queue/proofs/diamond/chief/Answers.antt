@@ -19,13 +19,16 @@ pub tri-requires-in-Some : goal.tri-requires-in-Some
 tri-requires-in-Some c =
     let a : ℕ = address_at c.args.pool.now.pairs c.args.s.0 in
     let some = has_mate (goal.at.tri-requires-in-Some c).In-Some in
-    record { live = mate_live c.args.pool.now.pairs c.args.s.0 c.in-Some.mate.0 c.requires.live some c.in-Some.ensures.some }
+    record {
+      live = mate_live c.args.pool.now.pairs c.args.s.0 c.in-Some.mate.0 c.requires.live some c.in-Some.ensures.some;
+    }
 
 pub returns-then-number-own-clause-split : goal.returns-then-number-own-clause-split
 returns-then-number-own-clause-split c =
     let a : ℕ = address_at c.args.pool.now.pairs c.args.s.0 in
     let some = has_mate (goal.at.returns-then-number-own-clause-split c).In-Some in
-    ap (has_children c.args.pool.now.pairs) c.in-Some.ensures.some ∙ member_mate c.args.pool.now.n c.args.pool.now.pairs a c.tri.ensures.valid c.requires.live c.requires.split some
+    ap (has_children c.args.pool.now.pairs) c.in-Some.ensures.some ∙ member_mate c.args.pool.now.n c.args.pool.now.pairs
+    a c.tri.ensures.valid c.requires.live c.requires.split some
 
 -- the chief has the lesser of the two numbers
 lesser : (c : After-number) → 1 ≤ mate_of (address_at c.args.pool.now.pairs c.args.s.0) →
@@ -39,16 +42,21 @@ lesser c some =
 
 pub returns-then-number-own-clause-same : goal.returns-then-number-own-clause-same
 returns-then-number-own-clause-same c =
-    let least = lesser (goal.at.returns-then-number-own-clause-same c).After-number (has_mate (goal.at.returns-then-number-own-clause-same c).In-Some) in
-    chief_same c.args.pool.now.n c.args.pool.now.pairs c.args.s c.in-Some.mate c.tri.ensures.valid c.requires.live c.requires.split (omega arith)
+    let least = lesser (goal.at.returns-then-number-own-clause-same c).After-number
+    (has_mate (goal.at.returns-then-number-own-clause-same c).In-Some) in
+    chief_same c.args.pool.now.n c.args.pool.now.pairs c.args.s c.in-Some.mate c.tri.ensures.valid c.requires.live
+    c.requires.split (omega arith)
 
 pub returns-else-number-own-clause-same : goal.returns-else-number-own-clause-same
 returns-else-number-own-clause-same c =
-    let least = lesser (goal.at.returns-else-number-own-clause-same c).After-number (has_mate (goal.at.returns-else-number-own-clause-same c).In-Some) in
-    chief_same c.args.pool.now.n c.args.pool.now.pairs c.args.s c.args.s c.tri.ensures.valid c.requires.live c.requires.split (omega arith)
+    let least = lesser (goal.at.returns-else-number-own-clause-same c).After-number
+    (has_mate (goal.at.returns-else-number-own-clause-same c).In-Some) in
+    chief_same c.args.pool.now.n c.args.pool.now.pairs c.args.s c.args.s c.tri.ensures.valid c.requires.live
+    c.requires.split (omega arith)
 
 pub returns-in-None-clause-same : goal.returns-in-None-clause-same
 returns-in-None-clause-same c =
     let a : ℕ = address_at c.args.pool.now.pairs c.args.s.0 in
     let alone = chief_of-alone a (c.in-None.ensures.none.0 refl) in
-    chief_same c.args.pool.now.n c.args.pool.now.pairs c.args.s c.args.s c.tri.ensures.valid c.requires.live c.requires.split (sym alone)
+    chief_same c.args.pool.now.n c.args.pool.now.pairs c.args.s c.args.s c.tri.ensures.valid c.requires.live
+    c.requires.split (sym alone)

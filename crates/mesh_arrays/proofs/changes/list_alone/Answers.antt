@@ -14,9 +14,11 @@ loop-t-preserved-then-stands_at c =
       few = omega arith;
       so_far = λ ordered others_ordered.
           let is = All-get_or IsTriangle these seen 0 within ordered.addresses in
-          so_far-there these c.args.those.now c.args.out.now seen c.loop-t.passed c.pass-passed.result c.loop-t.count (get_or these seen 0) c.loop-t.out
+          so_far-there these c.args.those.now c.args.out.now seen c.loop-t.passed c.pass-passed.result c.loop-t.count
+          (get_or these seen 0) c.loop-t.out
           ordered others_ordered within refl (c.loop-t.invariant.so_far ordered others_ordered)
-          (c.pass-passed.ensures.before others_ordered.addresses is) (c.pass-passed.ensures.here others_ordered.addresses is)
+          (c.pass-passed.ensures.before others_ordered.addresses is)
+          (c.pass-passed.ensures.here others_ordered.addresses is)
           (sym c.stands_at.ensures ∙ c.if-stands_at.true);
     }
 
@@ -30,9 +32,12 @@ loop-t-preserved c =
       few = omega arith;
       so_far = λ ordered others_ordered.
           let is = All-get_or IsTriangle these seen 0 within ordered.addresses in
-          subst (IsAloneSoFar these c.args.those.now c.args.out.now (seen + 1) c.pass-passed.result (c.loop-t.count + 1)) (sym c.write_at.ensures)
-          (so_far-alone these c.args.those.now c.args.out.now seen c.loop-t.passed c.pass-passed.result c.loop-t.count (get_or these seen 0) c.loop-t.out
+          subst (IsAloneSoFar these c.args.those.now c.args.out.now (seen + 1) c.pass-passed.result
+          (c.loop-t.count + 1)) (sym c.write_at.ensures)
+          (so_far-alone these c.args.those.now c.args.out.now seen c.loop-t.passed c.pass-passed.result c.loop-t.count
+          (get_or these seen 0) c.loop-t.out
           ordered others_ordered within refl (c.loop-t.invariant.so_far ordered others_ordered)
-          (c.pass-passed.ensures.before others_ordered.addresses is) (c.pass-passed.ensures.here others_ordered.addresses is)
+          (c.pass-passed.ensures.before others_ordered.addresses is)
+          (c.pass-passed.ensures.here others_ordered.addresses is)
           (sym c.stands_at.ensures ∙ c.if-stands_at.false));
     }

@@ -8,5 +8,6 @@ abbrev pub invariant-loop-t : goal.invariant-loop-t
 invariant-loop-t l = record {
   within : l.passed ≤ length l.those;
   few : l.count ≤ l.t-index;
-  so_far : IsDepthFirst l.these → IsDepthFirst l.those → IsAloneSoFar l.these l.those l.initial.out l.t-index l.passed l.count l.out;
+  so_far : IsDepthFirst l.these → IsDepthFirst l.those →
+      IsAloneSoFar l.these l.those l.initial.out l.t-index l.passed l.count l.out;
 }

@@ -8,7 +8,8 @@ abbrev pub invariant-loop-at : goal.invariant-loop-at
 invariant-loop-at l = record {
   on : l.from ≤ l.at;
   within : l.at ≤ length l.those;
-  before : All IsTriangle l.those → IsTriangle l.t → (k : ℕ) → l.from ≤ k → k < l.at → end_of (get_or l.those k 0) < end_of l.t;
+  before : All IsTriangle l.those → IsTriangle l.t → (k : ℕ) → l.from ≤ k → k < l.at →
+      end_of (get_or l.those k 0) < end_of l.t;
 }
 
 abbrev pub decreases-loop-at : goal.decreases-loop-at

@@ -1,7 +1,8 @@
 use Rattle.std.proofs.Common.{rules, arith, length, ap, subst}
 use Rattle.std.proofs.lemmas.Result.{err_from_is_err_and}
 use Rattle.mesh_compare.specs.Differs.{Gives, Matches, left_of}
-use Rattle.mesh_compare.proofs.DifferenceLemmas.{piece-first, agrees-more, cut-in, differs-in, differs-end, differs-nowhere}
+use Rattle.mesh_compare.proofs.DifferenceLemmas.{piece-first, agrees-more, cut-in, differs-in, differs-end}
+use Rattle.mesh_compare.proofs.DifferenceLemmas.{differs-nowhere}
 use Rattle.mesh_compare.proofs.comparing.compare_lines.Goals as goal
 
 pub returns-in_err-k-clause-cut : goal.returns-in_err-k-clause-cut
@@ -11,7 +12,8 @@ returns-in_err-k-clause-cut g c =
     c.push_next.new.self.text c.as_slice.ensures.value c.push_next.ensures.text c.lines.invariant.clear in
     rw p.1 (cut-in c.args.lines.text (left_of c.args.window.now (g.F.Shelf.rest c.args.shelf.now)) c.lines.lines.text
     (left_of c.lines.window (g.F.Shelf.rest c.lines.shelf)) c.lines.at c.lines.invariant.agrees
-    c.as_slice.result.now c.push_next.new.self.text (g.F.Shelf.rest c.match_piece.new.shelf) piece c.in_err-k.ensures.cut)
+    c.as_slice.result.now c.push_next.new.self.text
+    (g.F.Shelf.rest c.match_piece.new.shelf) piece c.in_err-k.ensures.cut)
 
 pub returns-in-Some-clause-place : goal.returns-in-Some-clause-place
 returns-in-Some-clause-place g c =
@@ -30,7 +32,8 @@ lines-preserved g c =
     let left = left_of c.lines.window (g.F.Shelf.rest c.lines.shelf) in
     let left' = left_of c.match_piece.new.window (g.F.Shelf.rest c.match_piece.new.shelf) in
     record {
-      agrees = agrees-more c.args.lines.text (left_of c.args.window.now (g.F.Shelf.rest c.args.shelf.now)) c.lines.lines.text
+      agrees =
+          agrees-more c.args.lines.text (left_of c.args.window.now (g.F.Shelf.rest c.args.shelf.now)) c.lines.lines.text
           left c.lines.at c.lines.invariant.agrees c.as_slice.result.now c.push_next.new.self.text left' _ piece
           (subst (λ o. Matches c.as_slice.result.now left left' o) c.in_default.is c.in_ok-k.ensures.place)
           (omega (arith, c.len.ensures.value, ap length c.as_slice.ensures.value));

@@ -4,7 +4,8 @@ use Rattle.mesh_compare.proofs.LawLemmas.{differs-not, same-text, same-before, o
 use Rattle.mesh_compare.proofs.laws.difference_laws.Goals as goal
 
 pub returns-clause-none : goal.returns-clause-none
-returns-clause-none c text bytes = (same-text text bytes, λ same. ap (first_difference text) (sym same) ∙ differs-not text)
+returns-clause-none c text bytes =
+    (same-text text bytes, λ same. ap (first_difference text) (sym same) ∙ differs-not text)
 
 pub returns-clause-before : goal.returns-clause-before
 returns-clause-before c = same-before

@@ -14,7 +14,8 @@ use Rattle.mesh_measure.proofs.at_point.off_point.Goals as goal
 
 pub of-areas-requires-clause-point_in_grid : goal.of-areas-requires-clause-point_in_grid
 of-areas-requires-clause-point_in_grid c =
-    IsInSquare-largest c.args.grid.now.n c.args.x c.args.y c.facet_of-facet.ensures.valid.in_grid c.requires.x_in_grid c.requires.y_in_grid
+    IsInSquare-largest c.args.grid.now.n c.args.x c.args.y c.facet_of-facet.ensures.valid.in_grid
+    c.requires.x_in_grid c.requires.y_in_grid
 
 pub returns-then-not-is_held-clause-held : goal.returns-then-not-is_held-clause-held
 returns-then-not-is_held-clause-held c =

@@ -11,5 +11,6 @@ loop-x-preserved c k from below is = ⊎_elim
     (λ (last : c.loop-x.x ≤ k).
     let same : k ≡ c.loop-x.x = omega arith in
     both_ways c.is_above.result c.if-is_above.false (c.is_above.ensures.1
-    (subst (λ z. IsAbove c.args.grid.now.n c.args.grid.now.heights c.args.t c.args.tolerance (point z c.args.y)) same is)))
+    (subst (λ z. IsAbove c.args.grid.now.n c.args.grid.now.heights c.args.t c.args.tolerance
+    (point z c.args.y)) same is)))
     (cases_lt k c.loop-x.x)

@@ -10,24 +10,30 @@ use Rattle.mesh_measure.proofs.facet.plane_height.Goals as goal
 
 pub of-areas-requires-clause-point_in_grid : goal.of-areas-requires-clause-point_in_grid
 of-areas-requires-clause-point_in_grid c =
-    let valid = subst (λ (g : HeightField). IsFacet g.n g.heights c.facet_of-facet.result) c.grid.ensures.value c.facet_of-facet.ensures.valid in
+    let valid = subst (λ (g : HeightField). IsFacet g.n g.heights c.facet_of-facet.result) c.grid.ensures.value
+    c.facet_of-facet.ensures.valid in
     IsInSquare-largest c.args.w.now.n c.args.x c.args.y valid.in_grid c.requires.x_in_grid c.requires.y_in_grid
 
 pub overflow_mul-height : goal.overflow_mul-height
 overflow_mul-height c =
-    let small = product-small c.side.result c.weighted.result c.facet_of-facet.result.area c.side.ensures.small c.weighted.ensures.small in
+    let small = product-small c.side.result c.weighted.result c.facet_of-facet.result.area c.side.ensures.small
+    c.weighted.ensures.small in
     let less = small.0 in omega arith
 
 pub nonzero_div-height : goal.nonzero_div-height
 nonzero_div-height c =
-    let valid = subst (λ (g : HeightField). IsFacet g.n g.heights c.facet_of-facet.result) c.grid.ensures.value c.facet_of-facet.ensures.valid in
-    let corners = subst (λ (g : HeightField). c.facet_of-facet.result.corners ≡ corners_of g.n c.args.t) c.grid.ensures.value c.facet_of-facet.ensures.corners in
-    area-some c.args.w.now.n c.args.w.now.heights c.args.t c.facet_of-facet.result (let low = c.number-address.ensures.low in omega arith)
+    let valid = subst (λ (g : HeightField). IsFacet g.n g.heights c.facet_of-facet.result) c.grid.ensures.value
+    c.facet_of-facet.ensures.valid in
+    let corners = subst (λ (g : HeightField). c.facet_of-facet.result.corners ≡ corners_of g.n c.args.t)
+    c.grid.ensures.value c.facet_of-facet.ensures.corners in
+    area-some c.args.w.now.n c.args.w.now.heights c.args.t c.facet_of-facet.result
+    (let low = c.number-address.ensures.low in omega arith)
     c.requires.level valid corners
 
 pub overflow_cast-result : goal.overflow_cast-result
 overflow_cast-result c =
-    let small = product-small c.side.result c.weighted.result c.facet_of-facet.result.area c.side.ensures.small c.weighted.ensures.small in
+    let small = product-small c.side.result c.weighted.result c.facet_of-facet.result.area c.side.ensures.small
+    c.weighted.ensures.small in
     let less = small.1 in omega arith
 
 pub returns : goal.returns
@@ -35,11 +41,15 @@ returns c =
     let n = c.args.w.now.n in
     let heights = c.args.w.now.heights in
     let facet = c.facet_of-facet.result in
-    let valid = subst (λ (g : HeightField). IsFacet g.n g.heights facet) c.grid.ensures.value c.facet_of-facet.ensures.valid in
-    let corners = subst (λ (g : HeightField). facet.corners ≡ corners_of g.n c.args.t) c.grid.ensures.value c.facet_of-facet.ensures.corners in
-    let small = product-small c.side.result c.weighted.result facet.area c.side.ensures.small c.weighted.ensures.small in
+    let valid =
+    subst (λ (g : HeightField). IsFacet g.n g.heights facet) c.grid.ensures.value c.facet_of-facet.ensures.valid in
+    let corners = subst (λ (g : HeightField). facet.corners ≡ corners_of g.n c.args.t) c.grid.ensures.value
+    c.facet_of-facet.ensures.corners in
+    let small =
+    product-small c.side.result c.weighted.result facet.area c.side.ensures.small c.weighted.ensures.small in
     let same : c.n.result ≡ n = c.n.ensures.value ∙ ap (λ (g : HeightField). g.n) c.grid-2.ensures.value in
-    let quotient = plane_height-facet n heights c.args.t facet (point c.args.x c.args.y) c.of-areas.result c.side.result c.weighted.result
+    let quotient = plane_height-facet n heights c.args.t facet
+    (point c.args.x c.args.y) c.of-areas.result c.side.result c.weighted.result
     valid corners c.of-areas.ensures.value (c.side.ensures.value ∙ ap (λ k. 2 ^ k) same) c.weighted.ensures.value in
     let less = small.1 in record {
       value = to_z_pos w64 (c.side.result * c.weighted.result / facet.area) (omega arith) ∙ ap pos quotient;

@@ -10,9 +10,11 @@ pub returns-then-most-limit-clause-most : goal.returns-then-most-limit-clause-mo
 returns-then-most-limit-clause-most c =
     let f : Point → ℕ = gap_of c.args.facet.corners (height_of c.args.grid.now.n c.args.grid.now.heights) in
     let from : c.args.bounds.low ≤ c.loop-y.y = omega arith in
-    IsMostUntil-some c.args.facet.corners c.args.bounds f c.args.limit (c.loop-y.y + 1) c.greater-most.result (omega arith) c.if-most-limit.true
+    IsMostUntil-some c.args.facet.corners c.args.bounds f c.args.limit (c.loop-y.y + 1) c.greater-most.result
+    (omega arith) c.if-most-limit.true
     (subst (λ z. IsMost (IsInRows c.args.facet.corners c.args.bounds (c.loop-y.y + 1)) f z) (sym c.greater-most.ensures)
-    (IsMost-rows_next c.args.facet.corners c.args.bounds c.loop-y.y f c.loop-y.most c.row_gap.result from c.loop-y.invariant.most c.row_gap.ensures.most))
+    (IsMost-rows_next c.args.facet.corners c.args.bounds c.loop-y.y f c.loop-y.most c.row_gap.result from
+    c.loop-y.invariant.most c.row_gap.ensures.most))
 
 pub loop-y-preserved : goal.loop-y-preserved
 loop-y-preserved c =
@@ -23,7 +25,8 @@ loop-y-preserved c =
     let new = c.row_gap.ensures.small in
     record {
       most = subst (λ z. IsMost (IsInRows c.args.facet.corners c.args.bounds (c.loop-y.y + 1)) f z) (sym is)
-          (IsMost-rows_next c.args.facet.corners c.args.bounds c.loop-y.y f c.loop-y.most c.row_gap.result from c.loop-y.invariant.most c.row_gap.ensures.most);
+          (IsMost-rows_next c.args.facet.corners c.args.bounds c.loop-y.y f c.loop-y.most c.row_gap.result from
+          c.loop-y.invariant.most c.row_gap.ensures.most);
       small = omega arith;
     }
 
@@ -31,5 +34,6 @@ pub returns-clause-most : goal.returns-clause-most
 returns-clause-most c =
     let ordered = c.requires.ordered in
     let end : c.loop-y.y ≤ c.args.bounds.high + 1 = c.loop-y.auto.y-end (omega arith) in
-    IsMostUntil-all c.args.facet.corners c.args.bounds (gap_of c.args.facet.corners (height_of c.args.grid.now.n c.args.grid.now.heights)) c.args.limit
+    IsMostUntil-all c.args.facet.corners c.args.bounds
+    (gap_of c.args.facet.corners (height_of c.args.grid.now.n c.args.grid.now.heights)) c.args.limit
     c.loop-y.y c.loop-y.most (omega arith) end c.loop-y.invariant.most

@@ -22,17 +22,22 @@ pub number_at-requires : goal.number_at-requires
 number_at-requires c =
     let same = c.n.ensures.value ∙ ap (λ (g : HeightField). g.n) c.grid.ensures.value in
     let size = ap (λ n. side_of n * side_of n) same in
-    let long = ap length c.requires.view.vertex_numbers ∙ length-numbers c.args.view.now.wedges.now.n c.args.view.now.leaves.now in
+    let long = ap length c.requires.view.vertex_numbers
+    ∙ length-numbers c.args.view.now.wedges.now.n c.args.view.now.leaves.now in
     let below = c.place-place.ensures.below in
     omega arith
 
 pub overflow_sub-result : goal.overflow_sub-result
 overflow_sub-result c =
-    let number = c.number_at.ensures ∙ number-is c.args.view.now c.n.result c.place-place.result c.args.vertex c.requires.view
-    (c.n.ensures.value ∙ ap (λ (g : HeightField). g.n) c.grid.ensures.value) c.place-place.ensures.value c.requires.within c.requires.shown in
+    let number =
+    c.number_at.ensures ∙ number-is c.args.view.now c.n.result c.place-place.result c.args.vertex c.requires.view
+    (c.n.ensures.value ∙ ap (λ (g : HeightField). g.n) c.grid.ensures.value) c.place-place.ensures.value
+    c.requires.within c.requires.shown in
     omega arith
 
 pub returns : goal.returns
 returns c =
-    ap (λ k. k - 1) (c.number_at.ensures ∙ number-is c.args.view.now c.n.result c.place-place.result c.args.vertex c.requires.view
-    (c.n.ensures.value ∙ ap (λ (g : HeightField). g.n) c.grid.ensures.value) c.place-place.ensures.value c.requires.within c.requires.shown)
+    ap (λ k. k - 1)
+    (c.number_at.ensures ∙ number-is c.args.view.now c.n.result c.place-place.result c.args.vertex c.requires.view
+    (c.n.ensures.value ∙ ap (λ (g : HeightField). g.n) c.grid.ensures.value) c.place-place.ensures.value
+    c.requires.within c.requires.shown)

@@ -10,7 +10,8 @@ invariant-loop-leaf l =
     let n = l.view.wedges.now.n in let triangles = l.view.leaves.now in
     record {
       place : l.at ≡ 3 * l.leaf-index;
-      so_far : take l.at l.out ++ flat_map (λ a. places_at (vertices_of n triangles) (corners_of n a)) (drop l.leaf-index triangles)
+      so_far : take l.at l.out ++ flat_map (λ a. places_at (vertices_of n triangles) (corners_of n a))
+          (drop l.leaf-index triangles)
           ≡ places_of n triangles;
       rest : drop l.at l.out ≡ drop l.at l.initial.out;
     }

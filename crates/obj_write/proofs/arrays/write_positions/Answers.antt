@@ -4,7 +4,8 @@ use Rattle.mesh_defs.specs.MeshText.{vertices_of}
 use Rattle.obj_write.specs.VertexMarks.{place_point}
 use Rattle.obj_write.specs.Arrays.{position_of, positions_of}
 use Rattle.obj_write.proofs.NumberLemmas.{length-numbers}
-use Rattle.obj_write.proofs.ArrayLemmas.{vertices_from, vertices_from-start, vertices_from-passed, vertices_from-step, vertices_from-end, so_far-written, rest-written, all-written}
+use Rattle.obj_write.proofs.ArrayLemmas.{vertices_from, vertices_from-start, vertices_from-passed, vertices_from-step}
+use Rattle.obj_write.proofs.ArrayLemmas.{vertices_from-end, so_far-written, rest-written, all-written}
 use Rattle.obj_write.proofs.arrays.write_positions.Goals as goal
 
 pub loop-k-init : goal.loop-k-init
@@ -14,7 +15,8 @@ loop-k-init c =
     let first = c.first_from-k in
     let long = ap length c.requires.numbers ∙ length-numbers n v.leaves.now in
     let inside = first.ensures.within in
-    let all = sym (vertices_from-passed n v.leaves.now v.numbers.now c.requires.numbers 0 first.result (omega arith) (omega arith) first.ensures.clear)
+    let all = sym (vertices_from-passed n v.leaves.now v.numbers.now c.requires.numbers 0 first.result (omega arith)
+    (omega arith) first.ensures.clear)
     ∙ vertices_from-start n v.leaves.now in
     record {
       within = first.ensures.within;
@@ -35,7 +37,8 @@ write_position-requires-clause-room c =
     let v = c.args.view.now in
     let n = v.wedges.now.n in
     let long = ap length c.requires.numbers ∙ length-numbers n v.leaves.now in
-    let there : c.loop-k.k < length v.numbers.now = let test = c.loop-k-test.true in let size = c.places.ensures in omega arith in
+    let there : c.loop-k.k < length v.numbers.now = let test = c.loop-k-test.true in
+    let size = c.places.ensures in omega arith in
     let below : c.loop-k.k < side_of n * side_of n = omega arith in
     let one = ap length (vertices_from-step n v.leaves.now c.loop-k.k below
     (λ none. c.loop-k.invariant.number there (ap (λ xs. get_or xs c.loop-k.k 0) c.requires.numbers ∙ none))) in
@@ -49,10 +52,12 @@ loop-k-preserved c =
     let at = c.loop-k.at in let was = c.loop-k.out in
     let next = c.first_from-k-in-loop-k in
     let long = ap length c.requires.numbers ∙ length-numbers n v.leaves.now in
-    let there : c.loop-k.k < length v.numbers.now = let test = c.loop-k-test.true in let size = c.places.ensures in omega arith in
+    let there : c.loop-k.k < length v.numbers.now = let test = c.loop-k-test.true in
+    let size = c.places.ensures in omega arith in
     let below : c.loop-k.k < side_of n * side_of n = omega arith in
     let inside = next.ensures.within in
-    let passed = vertices_from-passed n v.leaves.now v.numbers.now c.requires.numbers (c.loop-k.k + 1) next.result next.ensures.later (omega arith) next.ensures.clear in
+    let passed = vertices_from-passed n v.leaves.now v.numbers.now c.requires.numbers
+    (c.loop-k.k + 1) next.result next.ensures.later (omega arith) next.ensures.clear in
     let one = vertices_from-step n v.leaves.now c.loop-k.k below
     (λ none. c.loop-k.invariant.number there (ap (λ xs. get_or xs c.loop-k.k 0) c.requires.numbers ∙ none))
     ∙ ap (λ vs. place_point n c.loop-k.k ∷ vs) passed in
@@ -66,9 +71,12 @@ loop-k-preserved c =
       within = next.ensures.within;
       number = next.ensures.number;
       room = omega arith;
-      so_far = so_far-written c.args.out.now was c.write_position.new.out three more whole at refl room c.write_position.ensures
-          (ap (λ vs. take at was ++ flat_map (position_of n v.wedges.now.heights v.spacing) vs) (sym one) ∙ c.loop-k.invariant.so_far);
-      rest = rest-written c.args.out.now was c.write_position.new.out three more whole at refl room c.write_position.ensures c.loop-k.invariant.rest;
+      so_far = so_far-written c.args.out.now was c.write_position.new.out three more whole at refl room
+          c.write_position.ensures
+          (ap (λ vs. take at was ++ flat_map (position_of n v.wedges.now.heights v.spacing) vs) (sym one)
+          ∙ c.loop-k.invariant.so_far);
+      rest = rest-written c.args.out.now was c.write_position.new.out three more whole at refl room
+          c.write_position.ensures c.loop-k.invariant.rest;
     }
 
 pub returns : goal.returns
@@ -76,11 +84,14 @@ returns c =
     let v = c.args.view.now in
     let n = v.wedges.now.n in
     let long = ap length c.requires.numbers ∙ length-numbers n v.leaves.now in
-    let beyond : side_of n * side_of n ≤ c.loop-k.k = let test = c.loop-k-test.false in let size = c.places.ensures in omega arith in
+    let beyond : side_of n * side_of n ≤ c.loop-k.k = let test = c.loop-k-test.false in
+    let size = c.places.ensures in omega arith in
     let none = vertices_from-end n v.leaves.now c.loop-k.k beyond in
     let count = ap length none in
     let before = c.loop-k.invariant.room in
-    all-written c.args.out.now c.loop-k.out (positions_of n v.wedges.now.heights v.spacing v.leaves.now) c.loop-k.at (3 * length (vertices_of n v.leaves.now))
+    all-written c.args.out.now c.loop-k.out (positions_of n v.wedges.now.heights v.spacing v.leaves.now)
+    c.loop-k.at (3 * length (vertices_of n v.leaves.now))
     (omega arith)
-    (ap (λ vs. take c.loop-k.at c.loop-k.out ++ flat_map (position_of n v.wedges.now.heights v.spacing) vs) (sym none) ∙ c.loop-k.invariant.so_far)
+    (ap (λ vs. take c.loop-k.at c.loop-k.out ++ flat_map (position_of n v.wedges.now.heights v.spacing) vs) (sym none)
+    ∙ c.loop-k.invariant.so_far)
     c.loop-k.invariant.rest

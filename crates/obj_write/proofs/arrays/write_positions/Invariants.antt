@@ -12,7 +12,8 @@ invariant-loop-k l =
       within : l.k ≤ length l.view.numbers.now;
       number : l.k < length l.view.numbers.now → get_or l.view.numbers.now l.k 0 ≡ 0 → ⊥;
       room : l.at + 3 * length (vertices_from grid.n triangles l.k) ≡ 3 * length (vertices_of grid.n triangles);
-      so_far : take l.at l.out ++ flat_map (position_of grid.n grid.heights l.view.spacing) (vertices_from grid.n triangles l.k)
+      so_far : take l.at l.out ++ flat_map (position_of grid.n grid.heights l.view.spacing)
+          (vertices_from grid.n triangles l.k)
           ≡ positions_of grid.n grid.heights l.view.spacing triangles;
       rest : drop l.at l.out ≡ drop l.at l.initial.out;
     }

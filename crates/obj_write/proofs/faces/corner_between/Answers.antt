@@ -19,15 +19,18 @@ overflow_add-v0 c =
 
 pub corner_of-requires : goal.corner_of-requires
 corner_of-requires c =
-    let here = ap₂ (λ (i j : ℕ). (i + j) / 2) c.requires.v0 c.requires.v1 ∙ middle-place c.args.n c.args.t c.requires.splittable in
+    let here = ap₂ (λ (i j : ℕ). (i + j) / 2) c.requires.v0 c.requires.v1
+    ∙ middle-place c.args.n c.args.t c.requires.splittable in
     let below = middle-below c.args.n c.args.t in
     let long = c.requires.places in
     record { below = omega arith }
 
 pub returns : goal.returns
 returns c =
-    let here = ap₂ (λ (i j : ℕ). (i + j) / 2) c.requires.v0 c.requires.v1 ∙ middle-place c.args.n c.args.t c.requires.splittable in
+    let here = ap₂ (λ (i j : ℕ). (i + j) / 2) c.requires.v0 c.requires.v1
+    ∙ middle-place c.args.n c.args.t c.requires.splittable in
     record {
       place_is = c.corner_of.ensures.place ∙ here;
-      field_is = subst (λ k. IsFieldOf c.corner_of.result.field (get_or c.args.numbers.now k 0)) (sym c.corner_of.ensures.place) c.corner_of.ensures.field;
+      field_is = subst (λ k. IsFieldOf c.corner_of.result.field (get_or c.args.numbers.now k 0))
+          (sym c.corner_of.ensures.place) c.corner_of.ensures.field;
     }

@@ -24,7 +24,8 @@ returns c =
     record {
       short = omega arith;
       bytes = blank-and-digits xs (decimal c.from.result) (drop 16 (replicate 32 32)) s (omega arith) (omega arith)
-          (ap (λ k. take k xs) (sym next) ∙ c.write_digits-start.ensures.before ∙ ap (λ k. take k (replicate 32 32)) next)
+          (ap (λ k. take k xs) (sym next) ∙ c.write_digits-start.ensures.before
+          ∙ ap (λ k. take k (replicate 32 32)) next)
           (ap (λ k. drop k xs) (sym next) ∙ c.write_digits-start.ensures.written)
           ∙ ap (λ k. 32 ∷ decimal k) c.from.ensures;
     }

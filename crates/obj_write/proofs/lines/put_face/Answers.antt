@@ -1,4 +1,5 @@
-use Rattle.std.proofs.Common.{rules, ◌≡◌, ◌<◌, ◌≤◌, ◌*◌, ◌/◌, ◌++◌, ◌∙◌, sym, ap, subst, arith, get_or, true, refl, ⊎_elim}
+use Rattle.std.proofs.Common.{rules, ◌≡◌, ◌<◌, ◌≤◌, ◌*◌, ◌/◌, ◌++◌, ◌∙◌, sym, ap, subst, arith, get_or, true, refl}
+use Rattle.std.proofs.Common.{⊎_elim}
 use Rattle.std.proofs.lemmas.Bool.{cases_lt, both_ways}
 use Rattle.mesh_defs.specs.HeightField.{HeightField, side_of}
 use Rattle.mesh_defs.specs.Triangle.{corners_of}
@@ -17,10 +18,12 @@ returns-in_default-clause-text g c =
     let v = c.args.view.now in
     let same = c.n-n.ensures.value ∙ ap (λ (g : HeightField). g.n) c.grid.ensures.value in
     let half = c.half_face-half.result in
-    let face : IsFace v.wedges.now.n v.numbers.now half = subst (λ n. IsFace n v.numbers.now half) same c.half_face-half.ensures.face in
+    let face : IsFace v.wedges.now.n v.numbers.now half =
+    subst (λ n. IsFace n v.numbers.now half) same c.half_face-half.ensures.face in
     let tri = c.half_face-half.ensures.tri in
     c.push_line.ensures.text
-    ∙ ap (λ t. c.args.page.now ++ t) (fields-face v c.requires.view c.args.leaf c.requires.shown half.apex half.v0 half.v1
+    ∙ ap (λ t. c.args.page.now ++ t)
+    (fields-face v c.requires.view c.args.leaf c.requires.shown half.apex half.v0 half.v1
     (subst (λ a. IsCornerAt v.wedges.now.n v.numbers.now (corners_of v.wedges.now.n a).apex half.apex) tri face.apex_is)
     (subst (λ a. IsCornerAt v.wedges.now.n v.numbers.now (corners_of v.wedges.now.n a).v0 half.v0) tri face.v0_is)
     (subst (λ a. IsCornerAt v.wedges.now.n v.numbers.now (corners_of v.wedges.now.n a).v1 half.v1) tri face.v1_is))
@@ -33,7 +36,8 @@ make_known-requires-clause-places g c =
 pub push_line-requires-2 : goal.push_line-requires-2
 push_line-requires-2 g c =
     let numbers = c.args.view.now.numbers.now in
-    let face = c.make_known.ensures.known c.level.result c.index-faces-level.result (omega (arith, c.level.ensures.high, c.make_known.ensures.count)) in
+    let face = c.make_known.ensures.known c.level.result c.index-faces-level.result
+    (omega (arith, c.level.ensures.high, c.make_known.ensures.count)) in
     let first = face.middle_is.field_is.short in
     let second = (c.base_of.ensures.v0 c.n-n.result numbers face).field_is.short in
     let third = (c.base_of.ensures.v1 c.n-n.result numbers face).field_is.short in
@@ -46,12 +50,14 @@ returns-clause-text g c =
     let leaf = c.args.leaf in
     let same = c.n-n.ensures.value ∙ ap (λ (g : HeightField). g.n) c.grid.ensures.value in
     let parent = get_or c.make_known.new.faces c.level.result c.index-faces-level.result in
-    let found = c.make_known.ensures.known c.level.result c.index-faces-level.result (omega (arith, c.level.ensures.high, c.make_known.ensures.count)) in
+    let found = c.make_known.ensures.known c.level.result c.index-faces-level.result
+    (omega (arith, c.level.ensures.high, c.make_known.ensures.count)) in
     let face : IsFace n v.numbers.now parent = subst (λ n. IsFace n v.numbers.now parent) same found in
     let there : parent.tri ≡ leaf / 2 =
     ap (λ k. (get_or c.make_known.new.faces k c.index-faces-level.result).tri) c.level.ensures.value
     ∙ c.make_known.ensures.there c.index-faces-level.result ∙ c.in-Some.ensures.half in
-    let big : 4 ≤ leaf = ⊎_elim (λ (low : leaf < 4). absurd (both_ways true (c.in-Some.ensures.base.1 low) refl)) (λ rest. rest) (cases_lt leaf 4) in
+    let big : 4 ≤ leaf = ⊎_elim (λ (low : leaf < 4). absurd (both_ways true (c.in-Some.ensures.base.1 low) refl))
+    (λ rest. rest) (cases_lt leaf 4) in
     c.push_line-2.ensures.text
     ∙ ap (λ t. c.args.page.now ++ t)
     (fields-face v c.requires.view leaf c.requires.shown parent.middle c.base_of.result.0.now

@@ -8,28 +8,32 @@ use Rattle.obj_write.proofs.mesh.write_lines.Goals as goal
 pub lines-init : goal.lines-init
 lines-init g c =
     let all = view_text c.args.view.now in
-    let passed : Passed (g.M.MeshSink.meshes c.args.out.now) (g.M.MeshSink.meshes c.make_room.new.out) c.args.page.now (c.make_room.new.page ++ all) all =
+    let passed : Passed (g.M.MeshSink.meshes c.args.out.now) (g.M.MeshSink.meshes c.make_room.new.out) c.args.page.now
+    (c.make_room.new.page ++ all) all =
     passed-on _ _ _ c.args.page.now c.args.page.now c.make_room.new.page all all
     (passed-start (g.M.MeshSink.meshes c.args.out.now) c.args.page.now all) c.in_ok-make_room.ensures.ok in
     record {
       under_way = search rules;
       calm = search rules;
       room = c.in_ok-make_room.ensures.room;
-      passed = subst (λ text. Passed (g.M.MeshSink.meshes c.args.out.now) (g.M.MeshSink.meshes c.make_room.new.out) c.args.page.now
+      passed = subst (λ text.
+          Passed (g.M.MeshSink.meshes c.args.out.now) (g.M.MeshSink.meshes c.make_room.new.out) c.args.page.now
           (c.make_room.new.page ++ text) all) (sym c.new-lines.ensures.text) passed;
       in_time = search rules;
     }
 
 pub lines-preserved : goal.lines-preserved
 lines-preserved g c =
-    let lines = subst (λ t. Passed (g.M.MeshSink.meshes c.args.out.now) (g.M.MeshSink.meshes c.lines.out) c.args.page.now t
+    let lines =
+    subst (λ t. Passed (g.M.MeshSink.meshes c.args.out.now) (g.M.MeshSink.meshes c.lines.out) c.args.page.now t
     (view_text c.args.view.now)) (sym c.put_next.ensures.text) c.lines.invariant.passed in
     record {
       under_way = search rules;
       calm = search rules;
       room = c.in_ok-make_room-2.ensures.room;
       passed = passed-on (g.M.MeshSink.meshes c.args.out.now) (g.M.MeshSink.meshes c.lines.out)
-          (g.M.MeshSink.meshes c.make_room-in-lines.new.out) c.args.page.now c.put_next.new.page c.make_room-in-lines.new.page
+          (g.M.MeshSink.meshes c.make_room-in-lines.new.out) c.args.page.now c.put_next.new.page
+          c.make_room-in-lines.new.page
           c.put_next.new.self.text (view_text c.args.view.now) lines c.in_ok-make_room-2.ensures.ok;
       in_time = search rules;
     }
@@ -42,8 +46,10 @@ returns-in_err-make_room-clause-err g c =
 
 pub returns-in_err-make_room-2-clause-err : goal.returns-in_err-make_room-2-clause-err
 returns-in_err-make_room-2-clause-err g c =
-    let p = err_from_is_err_and c.from_residual-in_err-make_room-2.result c.from_residual-in_err-make_room-2.ensures.1 in
-    let lines = subst (λ t. Passed (g.M.MeshSink.meshes c.args.out.now) (g.M.MeshSink.meshes c.lines.out) c.args.page.now t
+    let p =
+    err_from_is_err_and c.from_residual-in_err-make_room-2.result c.from_residual-in_err-make_room-2.ensures.1 in
+    let lines =
+    subst (λ t. Passed (g.M.MeshSink.meshes c.args.out.now) (g.M.MeshSink.meshes c.lines.out) c.args.page.now t
     (view_text c.args.view.now)) (sym c.put_next.ensures.text) c.lines.invariant.passed in
     rw p.1 (broken-on (g.M.MeshSink.meshes c.args.out.now) (g.M.MeshSink.meshes c.lines.out)
     (g.M.MeshSink.meshes c.make_room-in-lines.new.out) c.args.page.now c.put_next.new.page c.put_next.new.self.text

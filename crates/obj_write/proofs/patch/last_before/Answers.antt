@@ -15,6 +15,8 @@ loop-back-preserved c =
     let so_far = c.loop-back.invariant in
     let last = λ (k : ℕ). last_number 0 (take (block_end xs k) xs) in
     elim c.if-used-at.branch [
-      | then-used-at+else-last-ne0 w ↦ ap last here ∙ sym (w.last_in_block-last.ensures.none w.if-last-ne0.false) ∙ ap last next ∙ so_far
-      | else-used-at w ↦ ap last here ∙ sym (last-block xs c.args.used.now at c.requires.flagged w.if-used-at.false) ∙ ap last next ∙ so_far
+      | then-used-at+else-last-ne0 w ↦ ap last here
+          ∙ sym (w.last_in_block-last.ensures.none w.if-last-ne0.false) ∙ ap last next ∙ so_far
+      | else-used-at w ↦ ap last here ∙ sym (last-block xs c.args.used.now at c.requires.flagged w.if-used-at.false)
+          ∙ ap last next ∙ so_far
     ]

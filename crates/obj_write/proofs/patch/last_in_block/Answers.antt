@@ -16,6 +16,7 @@ loop-k-preserved c =
       }
       | else-numbers-k-ne0 w ↦ record {
         none = λ e. last-none xs k below w.if-numbers-k-ne0.false ∙ so_far.none (sym w.last-is ∙ e);
-        some = λ e. last-none xs k below w.if-numbers-k-ne0.false ∙ so_far.some (λ z. e (w.last-is ∙ z)) ∙ sym w.last-is;
+        some =
+            λ e. last-none xs k below w.if-numbers-k-ne0.false ∙ so_far.some (λ z. e (w.last-is ∙ z)) ∙ sym w.last-is;
       }
     ]

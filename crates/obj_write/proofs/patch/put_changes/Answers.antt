@@ -21,13 +21,15 @@ loop-change-preserved c =
       numbers = c.put_change-block.ensures.number
           ∙ ap (λ xs. set xs at (cond change.shown 1 0)) so_far.numbers
           ∙ changes-more c.args.n (take i changes) change c.args.numbers.now
-          ∙ ap (λ cs. with_changes c.args.n cs c.args.numbers.now) (sym (take_more changes i none c.loop-change-test.true));
+          ∙ ap (λ cs. with_changes c.args.n cs c.args.numbers.now)
+          (sym (take_more changes i none c.loop-change-test.true));
       places = c.put_change-block.auto.numbers ∙ so_far.places;
       flagged = c.put_change-block.ensures.flagged;
       flags = search rules;
       front = λ k low.
           ap (λ xs. get_or xs k 0) c.put_change-block.ensures.number
-          ∙ get_or-set_other c.loop-change.numbers at k (cond change.shown 1 0) 0 (λ same. omega (arith, ap (λ j. j / 64) same))
+          ∙ get_or-set_other c.loop-change.numbers at k (cond change.shown 1 0) 0
+          (λ same. omega (arith, ap (λ j. j / 64) same))
           ∙ so_far.front k (omega arith);
       first = omega arith;
     }

@@ -17,8 +17,10 @@ returns-clause-text g c =
     let low : x < side_of n = omega (arith, c.go_to_row.ensures.before, c.go_to_row.ensures.behind) in
     let there : c.args.at ≡ row.y * side_of n + x = omega (arith, c.go_to_row.ensures.before, is.begins) in
     let high : c.from.result ≡ height_of n v.wedges.now.heights (point x row.y) =
-    c.from.ensures ∙ c.height-height.ensures.value ∙ ap (λ (g : HeightField). height_at g.n g.heights x row.y) c.grid.ensures.value in
+    c.from.ensures ∙ c.height-height.ensures.value
+    ∙ ap (λ (g : HeightField). height_at g.n g.heights x row.y) c.grid.ensures.value in
     c.push_line.ensures.text
     ∙ ap (λ t. c.args.page.now ++ t) (fields-line 118 _ _ _ _ _ _ c.field_of.ensures is.field_is c.field_of-2.ensures)
     ∙ ap (λ k. c.args.page.now ++ numbers_line 118 (v.spacing * x) (v.spacing * row.y) k) high
-    ∙ ap (λ p. c.args.page.now ++ vertex_line n v.wedges.now.heights v.spacing p) (sym (point-in-row n row.y x c.args.at low there))
+    ∙ ap (λ p. c.args.page.now ++ vertex_line n v.wedges.now.heights v.spacing p)
+    (sym (point-in-row n row.y x c.args.at low there))

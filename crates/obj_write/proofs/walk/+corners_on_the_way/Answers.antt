@@ -17,17 +17,21 @@ returns-then-eq-clause-within t c =
 
 pub child_corners-corners-requires : goal.child_corners-corners-requires
 child_corners-corners-requires t c = record {
-  within = IsWithin-largest c.args.n c.corners_on_the_way-above.result c.requires.in_grid.1 c.corners_on_the_way-above.ensures.within;
+  within = IsWithin-largest c.args.n c.corners_on_the_way-above.result c.requires.in_grid.1
+      c.corners_on_the_way-above.ensures.within;
 }
 
 pub returns-clause-value : goal.returns-clause-value
 returns-clause-value t c = elim c.match-parent.branch [
   | in-None w ↦ w.corners-is ∙ w.corners-corners.ensures.value
   | in-Some w ↦
-      let big : 4 ≤ c.args.t = ⊎_elim (λ (low : c.args.t < 4). absurd (both_ways true (w.in-Some.ensures.base.1 low) refl)) (λ rest. rest) (cases_lt c.args.t 4) in
+      let big : 4 ≤ c.args.t =
+      ⊎_elim (λ (low : c.args.t < 4). absurd (both_ways true (w.in-Some.ensures.base.1 low) refl)) (λ rest. rest)
+      (cases_lt c.args.t 4) in
       w.corners-is ∙ w.child_corners-corners.ensures
       ∙ ap (λ m. child (cond (nat_eq (m % 2) 1) 1 0) w.corners_on_the_way-above.result) w.number.ensures.value
-      ∙ ap (child (cond (nat_eq (c.args.t % 2) 1) 1 0)) (w.corners_on_the_way-above.ensures.value ∙ ap (corners_of c.args.n) w.in-Some.ensures.half)
+      ∙ ap (child (cond (nat_eq (c.args.t % 2) 1) 1 0)) (w.corners_on_the_way-above.ensures.value
+      ∙ ap (corners_of c.args.n) w.in-Some.ensures.half)
       ∙ sym (corners_of-below c.args.n c.args.t big)
 ]
 

@@ -1,5 +1,6 @@
 use Rattle.pgm_header.specs.declared.fault.HeaderFault.TheVariants as header
-use Rattle.pgm_grid.proofs.FileLemmas.{header-law, law-texts, law-grids, law-headers, law-others, law-truncated, law-trailing, law-above, law-bad_sample, law-too_long}
+use Rattle.pgm_grid.proofs.FileLemmas.{header-law, law-texts, law-grids, law-headers, law-others, law-truncated}
+use Rattle.pgm_grid.proofs.FileLemmas.{law-trailing, law-above, law-bad_sample, law-too_long}
 use Rattle.pgm_grid.proofs.laws.grids_and_texts.Goals as goal
 
 pub returns-clause-texts : goal.returns-clause-texts
@@ -15,7 +16,8 @@ pub returns-clause-bad_magic : goal.returns-clause-bad_magic
 returns-clause-bad_magic c bytes = header-law bytes header.BadMagic _ (c.header_laws.ensures.bad_magic bytes)
 
 pub returns-clause-bad_header : goal.returns-clause-bad_header
-returns-clause-bad_header c bytes place = header-law bytes (header.BadHeader place) _ (c.header_laws.ensures.bad_header bytes place)
+returns-clause-bad_header c bytes place =
+    header-law bytes (header.BadHeader place) _ (c.header_laws.ensures.bad_header bytes place)
 
 pub returns-clause-header_too_long : goal.returns-clause-header_too_long
 returns-clause-header_too_long c bytes = header-law bytes header.HeaderTooLong _ (c.header_laws.ensures.too_long bytes)
@@ -30,19 +32,25 @@ pub returns-clause-bad_side : goal.returns-clause-bad_side
 returns-clause-bad_side c bytes = header-law bytes header.BadSide _ (c.header_laws.ensures.bad_side bytes)
 
 pub returns-clause-truncated : goal.returns-clause-truncated
-returns-clause-truncated c = law-truncated c.header_laws.ensures.texts c.header_laws.ensures.read c.header_laws.ensures.part c.raster_laws.ensures.truncated
+returns-clause-truncated c =
+    law-truncated c.header_laws.ensures.texts c.header_laws.ensures.read c.header_laws.ensures.part
+    c.raster_laws.ensures.truncated
 
 pub returns-clause-trailing : goal.returns-clause-trailing
-returns-clause-trailing c = law-trailing c.header_laws.ensures.texts c.header_laws.ensures.read c.raster_laws.ensures.trailing
+returns-clause-trailing c =
+    law-trailing c.header_laws.ensures.texts c.header_laws.ensures.read c.raster_laws.ensures.trailing
 
 pub returns-clause-above_maxval : goal.returns-clause-above_maxval
-returns-clause-above_maxval c = law-above c.header_laws.ensures.texts c.header_laws.ensures.read c.raster_laws.ensures.above
+returns-clause-above_maxval c =
+    law-above c.header_laws.ensures.texts c.header_laws.ensures.read c.raster_laws.ensures.above
 
 pub returns-clause-bad_sample : goal.returns-clause-bad_sample
-returns-clause-bad_sample c = law-bad_sample c.header_laws.ensures.texts c.header_laws.ensures.read c.raster_laws.ensures.bad_sample
+returns-clause-bad_sample c =
+    law-bad_sample c.header_laws.ensures.texts c.header_laws.ensures.read c.raster_laws.ensures.bad_sample
 
 pub returns-clause-too_long : goal.returns-clause-too_long
-returns-clause-too_long c = law-too_long c.header_laws.ensures.texts c.header_laws.ensures.read c.raster_laws.ensures.too_long
+returns-clause-too_long c =
+    law-too_long c.header_laws.ensures.texts c.header_laws.ensures.read c.raster_laws.ensures.too_long
 
 pub returns-clause-others : goal.returns-clause-others
 returns-clause-others c = law-others

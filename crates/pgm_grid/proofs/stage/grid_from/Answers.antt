@@ -6,4 +6,6 @@ pub returns-in-Ok : goal.returns-in-Ok
 returns-in-Ok c = sym (end-raster c.args.header c.args.reader (Ok c.in-Ok.heights.items) c.in-Ok.ensures.ok)
 
 pub returns-in-Err : goal.returns-in-Err
-returns-in-Err c = ap Err c.fault_of_raster.ensures ∙ sym (end-raster c.args.header c.args.reader (Err c.in-Err.fault) c.in-Err.ensures.err)
+returns-in-Err c =
+    ap Err c.fault_of_raster.ensures
+    ∙ sym (end-raster c.args.header c.args.reader (Err c.in-Err.fault) c.in-Err.ensures.err)

@@ -9,13 +9,17 @@ use Rattle.pgm_grid.proofs.stage.raster_begun.Goals as goal
 pub returns-in-Ok-clause-takes : goal.returns-in-Ok-clause-takes
 returns-in-Ok-clause-takes c =
     let means : (more : List ℕ) → samples.resume_raster c.in-Ok.reader more ≡ samples_at c.args.header c.args.at more =
-    begun-means c.args.header c.form_for-form.result c.points_for-count.result c.args.at c.in-Ok.reader c.form_for-form.ensures c.points_for-count.ensures.value c.in-Ok.ensures.value in
+    begun-means c.args.header c.form_for-form.result c.points_for-count.result c.args.at c.in-Ok.reader
+    c.form_for-form.ensures c.points_for-count.ensures.value c.in-Ok.ensures.value in
     IfOk-weaker c.raster_after.result _ _
-    (λ next takes. begins-raster c.args.header c.args.at c.in-Ok.reader c.args.rest.now (progress_of next) means c.in-Ok.ensures.place takes) c.raster_after.ensures.takes
+    (λ next takes. begins-raster c.args.header c.args.at c.in-Ok.reader c.args.rest.now
+    (progress_of next) means c.in-Ok.ensures.place takes) c.raster_after.ensures.takes
 
 pub returns-in-Ok-clause-stops : goal.returns-in-Ok-clause-stops
 returns-in-Ok-clause-stops c =
     let means : (more : List ℕ) → samples.resume_raster c.in-Ok.reader more ≡ samples_at c.args.header c.args.at more =
-    begun-means c.args.header c.form_for-form.result c.points_for-count.result c.args.at c.in-Ok.reader c.form_for-form.ensures c.points_for-count.ensures.value c.in-Ok.ensures.value in
+    begun-means c.args.header c.form_for-form.result c.points_for-count.result c.args.at c.in-Ok.reader
+    c.form_for-form.ensures c.points_for-count.ensures.value c.in-Ok.ensures.value in
     IfErr-weaker c.raster_after.result _ _
-    (λ fault refusal other. begins-refused c.args.header c.args.at c.in-Ok.reader c.args.rest.now fault means refusal) c.raster_after.ensures.refusal
+    (λ fault refusal other. begins-refused c.args.header c.args.at c.in-Ok.reader c.args.rest.now fault means refusal)
+    c.raster_after.ensures.refusal

@@ -1,4 +1,5 @@
-use Rattle.pgm_header.proofs.LawLemmas.{texts, read, prefix_free, parts, bad_magics, bad_headers, long_headers, bad_maxvals, oblongs, bad_sides, read_stands, refusal_stands}
+use Rattle.pgm_header.proofs.LawLemmas.{texts, read, prefix_free, parts, bad_magics, bad_headers, long_headers}
+use Rattle.pgm_header.proofs.LawLemmas.{bad_maxvals, oblongs, bad_sides, read_stands, refusal_stands}
 use Rattle.pgm_header.proofs.ReadingLemmas.{part_refusable}
 use Rattle.pgm_header.proofs.WrittenLemmas.{written}
 use Rattle.pgm_header.proofs.laws.header_laws.Goals as goal

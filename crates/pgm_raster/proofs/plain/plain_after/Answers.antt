@@ -12,7 +12,8 @@ returns-in_err-digits-clause-err c =
     let taken : ℕ = c.wanted_digits-taken.result.1 in
     passed_on c.from_residual.result c.in_err-digits.field-0.0
     (λ (f : RasterFault). (more : List ℕ)
-    → reads c.args.limits c.args.heights.now.items (part.Plain c.args.digits) c.args.at (c.args.piece.now ++ more) ≡ Err f)
+    → reads c.args.limits c.args.heights.now.items
+    (part.Plain c.args.digits) c.args.at (c.args.piece.now ++ more) ≡ Err f)
     c.from_residual.ensures.1
     (λ more. told-next c.args.limits c.args.heights.now.items c.loop-i.heights.items c.args.digits c.loop-i.digits
     c.wanted_digits-taken.result.0 c.args.at c.loop-i.i taken c.args.piece.now
@@ -25,7 +26,8 @@ loop-i-preserved-then-i-piece c =
     let taken : ℕ = c.wanted_digits-taken.result.1 in
     let place : c.args.at + (c.loop-i.i + taken) + 1 ≡ c.args.at + (c.loop-i.i + taken + 1) = omega arith in
     record {
-      told = λ more. told-next c.args.limits c.args.heights.now.items c.loop-i.heights.items c.args.digits c.loop-i.digits
+      told =
+          λ more. told-next c.args.limits c.args.heights.now.items c.loop-i.heights.items c.args.digits c.loop-i.digits
           c.wanted_digits-taken.result.0 c.args.at c.loop-i.i taken c.args.piece.now
           _ (take_rest c.args.piece.now c.loop-i.i) (omega arith) (omega arith) c.requires.place c.loop-i.invariant.told
           c.wanted_digits-taken.ensures.told more

@@ -7,7 +7,8 @@ use Rattle.pgm_raster.proofs.plain.plain_after.Given as goal
 -- what has come of the first i bytes, and the bytes that are left
 abbrev pub invariant-loop-i : goal.invariant-loop-i
 invariant-loop-i l = record {
-  told : (more : List ℕ) → reads l.limits l.fn.heights.items (part.Plain l.fn.digits) l.at (l.piece ++ more) ≡ reads l.limits l.heights.items (part.Plain l.digits) (l.at + l.i) (drop l.i l.piece ++ more);
+  told : (more : List ℕ) → reads l.limits l.fn.heights.items (part.Plain l.fn.digits) l.at (l.piece ++ more)
+      ≡ reads l.limits l.heights.items (part.Plain l.digits) (l.at + l.i) (drop l.i l.piece ++ more);
   within : l.i ≤ length l.piece;
   room : HasSampleRoom l.limits l.heights;
   part : IsPart l.limits (vec_len l.heights) (part.Plain l.digits);

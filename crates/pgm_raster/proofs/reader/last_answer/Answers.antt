@@ -7,11 +7,14 @@ use Rattle.pgm_raster.proofs.reader.last_answer.Goals as goal
 
 pub returns-in_err-end_part-clause-err : goal.returns-in_err-end_part-clause-err
 returns-in_err-end_part-clause-err c =
-    passed_on c.from_residual.result c.in_err-end_part.field-0.0 (λ (f : RasterFault). (at : ℕ) → reads c.args.limits c.args.heights.items c.args.part at [] ≡ Err f)
+    passed_on c.from_residual.result c.in_err-end_part.field-0.0
+    (λ (f : RasterFault). (at : ℕ) → reads c.args.limits c.args.heights.items c.args.part at [] ≡ Err f)
     c.from_residual.ensures.1 c.in_err-end_part.ensures.err
 
 pub returns-then-len-limits-clause-err : goal.returns-then-len-limits-clause-err
-returns-then-len-limits-clause-err c = λ at. c.in_ok-end_part.ensures.ok at ∙ end-short c.args.limits c.end_part.new.heights.items (omega arith)
+returns-then-len-limits-clause-err c =
+    λ at. c.in_ok-end_part.ensures.ok at ∙ end-short c.args.limits c.end_part.new.heights.items (omega arith)
 
 pub returns-clause-ok : goal.returns-clause-ok
-returns-clause-ok c = λ at. c.in_ok-end_part.ensures.ok at ∙ end-whole c.args.limits c.end_part.new.heights.items (omega arith)
+returns-clause-ok c =
+    λ at. c.in_ok-end_part.ensures.ok at ∙ end-whole c.args.limits c.end_part.new.heights.items (omega arith)

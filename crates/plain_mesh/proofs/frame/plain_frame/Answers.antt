@@ -14,17 +14,22 @@ refined-requires-clause-splittable c =
     let grid : c.n.result ≡ c.args.w.now.n = c.n.ensures.value in
     subst (λ (l : List Rank). All (λ (r : Rank). IsSplittable c.n.result r.tri) l) (sym c.deref.ensures.value)
     (subst (λ n. All (λ (r : Rank). IsSplittable n r.tri) c.in_ok-ranking.ranking.items) (sym grid)
-    (All-splittable c.args.w.now.n (priority_of c.args.w.now.n c.args.w.now.heights view) c.in_ok-ranking.ranking.items c.in_ok-ranking.ensures))
+    (All-splittable c.args.w.now.n (priority_of c.args.w.now.n c.args.w.now.heights view) c.in_ok-ranking.ranking.items
+    c.in_ok-ranking.ensures))
 
 pub returns-clause-frame : goal.returns-clause-frame
 returns-clause-frame c =
     let view = view_from c.args.camera.now c.args.spacing c.args.planes.now in
     let frame = c.in_ok-frame.frame in
     let grid : c.n.result ≡ c.args.w.now.n = c.n.ensures.value in
-    let stop : IsStop c.args.w.now.n c.args.budget c.in_ok-ranking.ranking.items frame.split.members frame.worst frame.blocked =
-    subst (λ (l : List Rank). IsStop c.args.w.now.n c.args.budget l frame.split.members frame.worst frame.blocked) c.deref.ensures.value
-    (subst (λ n. IsStop n c.args.budget c.deref.result.now frame.split.members frame.worst frame.blocked) grid c.in_ok-frame.ensures.stop) in
-    IsFrame-stop c.args.w.now.n c.args.budget (priority_of c.args.w.now.n c.args.w.now.heights view) c.in_ok-ranking.ranking.items
+    let stop : IsStop c.args.w.now.n c.args.budget c.in_ok-ranking.ranking.items frame.split.members
+    frame.worst frame.blocked =
+    subst (λ (l : List Rank). IsStop c.args.w.now.n c.args.budget l frame.split.members frame.worst frame.blocked)
+    c.deref.ensures.value
+    (subst (λ n. IsStop n c.args.budget c.deref.result.now frame.split.members frame.worst frame.blocked) grid
+    c.in_ok-frame.ensures.stop) in
+    IsFrame-stop c.args.w.now.n c.args.budget
+    (priority_of c.args.w.now.n c.args.w.now.heights view) c.in_ok-ranking.ranking.items
     frame.split.members frame.worst frame.blocked stop c.in_ok-ranking.ensures
     (c.falling_laws.ensures c.args.w.now.n c.args.w.now.heights view) c.requires.budget
 
@@ -38,4 +43,5 @@ returns-clause-unblocked c =
 
 pub returns-clause-certificate : goal.returns-clause-certificate
 returns-clause-certificate c =
-    c.frame_laws.ensures.certificate _ _ _ _ _ _ (returns-clause-frame c) (c.falling_laws.ensures _ _ _) c.requires.budget
+    c.frame_laws.ensures.certificate _ _ _ _ _ _ (returns-clause-frame c)
+    (c.falling_laws.ensures _ _ _) c.requires.budget

@@ -12,15 +12,22 @@ loop-number-preserved c =
     let value = c.rank_at-entry.ensures.value in
     elim c.if-is_positive.branch [
       | then-is_positive w ↦
-          let is = w.count-is in let some : 0 < c.rank_at-entry.result.p = w.if-is_positive.ensures.0 refl in let few = c.loop-number.invariant.few in
+          let is = w.count-is in
+          let some : 0 < c.rank_at-entry.result.p = w.if-is_positive.ensures.0 refl in
+          let few = c.loop-number.invariant.few in
           record {
-            counted = is ∙ positives-yes p c.loop-number.number c.loop-number.count c.loop-number.auto.number c.loop-number.invariant.counted (omega arith);
+            counted = is ∙ positives-yes p c.loop-number.number c.loop-number.count c.loop-number.auto.number
+                c.loop-number.invariant.counted (omega arith);
             few = omega arith;
           }
       | else-is_positive w ↦
-          let is = w.count-is in let none : c.rank_at-entry.result.p ≤ 0 = not_positive c.rank_at-entry.result.p (w.if-is_positive.ensures.1) in let few = c.loop-number.invariant.few in
+          let is = w.count-is in
+          let none : c.rank_at-entry.result.p ≤ 0 =
+          not_positive c.rank_at-entry.result.p (w.if-is_positive.ensures.1) in
+          let few = c.loop-number.invariant.few in
           record {
-            counted = is ∙ positives-no p c.loop-number.number c.loop-number.count c.loop-number.auto.number c.loop-number.invariant.counted (omega arith);
+            counted = is ∙ positives-no p c.loop-number.number c.loop-number.count c.loop-number.auto.number
+                c.loop-number.invariant.counted (omega arith);
             few = omega arith;
           }
     ]
@@ -31,5 +38,6 @@ returns c =
     let bound = c.end-number-end.ensures in
     let most = c.loop-number.auto.number-end bound.low in
     let least = c.loop-number-test.false in
-    let last : c.loop-number.number ≡ 2 ^ (2 * c.args.scene.now.grid.n + 1) = (let value = bound.value in omega arith) in
+    let last : c.loop-number.number ≡ 2 ^ (2 * c.args.scene.now.grid.n + 1) =
+    (let value = bound.value in omega arith) in
     subst (λ k. c.loop-number.count ≡ positives_below p k) last c.loop-number.invariant.counted

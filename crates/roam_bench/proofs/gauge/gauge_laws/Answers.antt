@@ -11,9 +11,11 @@ returns-clause-falls c n heights camera = record {
 }
 
 pub returns-clause-hold : goal.returns-clause-hold
-returns-clause-hold c n heights camera odometer a _ = between-near n heights camera camera odometer a (omega arith) (omega arith)
+returns-clause-hold c n heights camera odometer a _ =
+    between-near n heights camera camera odometer a (omega arith) (omega arith)
 
 pub returns-clause-stamps : goal.returns-clause-stamps
 returns-clause-stamps c n heights from to odometer later before after =
-    let moved = λ (one other : CameraAt) (a : ℕ). c.distance_laws.ensures.moved (box_of n heights 30 a) one other (c.distance_laws.ensures.ordered n heights 30 a) in
+    let moved = λ (one other : CameraAt) (a : ℕ). c.distance_laws.ensures.moved (box_of n heights 30 a) one other
+    (c.distance_laws.ensures.ordered n heights 30 a) in
     stamps-after n heights from to odometer later before after (moved from to) (moved to from)

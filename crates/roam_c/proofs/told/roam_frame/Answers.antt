@@ -10,4 +10,5 @@ pub returns-in-Some-clause-best : goal.returns-in-Some-clause-best
 returns-in-Some-clause-best c = λ now is zero_is.
     let done : c.make_frame-answer.result ≡ Done = grind (arith, common_steps) in
     let same : c.make_frame-answer.new.engine ≡ now = first_of (cc, grind (arith, common_steps)) in
-    subst (λ (e : EngineState). IsBestMesh e.state.grid.n e.state.budget (priority_in e.state) (mesh_seen e)) same (c.make_frame-answer.ensures.best done)
+    subst (λ (e : EngineState). IsBestMesh e.state.grid.n e.state.budget (priority_in e.state) (mesh_seen e)) same
+    (c.make_frame-answer.ensures.best done)

@@ -18,14 +18,16 @@ is_reason-requires c = record {
   in_grid = c.requires.in_grid;
   room = c.loop-index.invariant.room ∙ c.requires.room;
   grid = c.requires.grid;
-  addresses = λ a h. named-splittable c.args.n (priority_seen c.args.scene.now) c.args.worst (take c.loop-index.index c.args.reasons.now)
+  addresses = λ a h. named-splittable c.args.n (priority_seen c.args.scene.now) c.args.worst
+      (take c.loop-index.index c.args.reasons.now)
       a c.loop-index.invariant.good
       (sym (c.loop-index.invariant.same a) ∙ h);
 }
 
 pub flag-requires : goal.flag-requires
 flag-requires c =
-    let own = splittable-lt c.args.n (get_or c.args.reasons.now c.loop-index.index c.index-reasons-index-in-loop-index.result).triangle
+    let own = splittable-lt c.args.n
+    (get_or c.args.reasons.now c.loop-index.index c.index-reasons-index-in-loop-index.result).triangle
     ((c.is_reason.ensures.value.0 c.if-not-is_reason.false).splittable) in
     record { room = omega (arith, own, c.loop-index.invariant.room, c.requires.room) }
 
@@ -33,11 +35,14 @@ pub loop-index-preserved : goal.loop-index-preserved
 loop-index-preserved c =
     let read : Reason = get_or c.args.reasons.now c.loop-index.index c.index-reasons-index-in-loop-index.result in
     let is : read ≡ get_or c.args.reasons.now c.loop-index.index read =
-    get_or_default c.args.reasons.now c.loop-index.index c.index-reasons-index-in-loop-index.result read c.loop-index-test.true in
+    get_or_default c.args.reasons.now c.loop-index.index c.index-reasons-index-in-loop-index.result read
+    c.loop-index-test.true in
     let reason : IsReason c.args.n (priority_seen c.args.scene.now) c.args.worst (is_flagged c.loop-index.flags) read =
-    subst (λ (x : Reason). IsReason c.args.n (priority_seen c.args.scene.now) c.args.worst (is_flagged c.loop-index.flags)
+    subst (λ (x : Reason).
+    IsReason c.args.n (priority_seen c.args.scene.now) c.args.worst (is_flagged c.loop-index.flags)
     (record { kind = x.kind; triangle = read.triangle }))
-    (get_or_default c.args.reasons.now c.loop-index.index c.index-reasons-index.result c.index-reasons-index-in-loop-index.result c.loop-index-test.true)
+    (get_or_default c.args.reasons.now c.loop-index.index c.index-reasons-index.result
+    c.index-reasons-index-in-loop-index.result c.loop-index-test.true)
     (c.is_reason.ensures.value.0 c.if-not-is_reason.false) in
     record {
       room = c.flag.ensures.room ∙ c.loop-index.invariant.room;
@@ -46,20 +51,25 @@ loop-index-preserved c =
           (is_flagged c.loop-index.flags) c.loop-index.invariant.same c.loop-index.invariant.good reason;
       same = same-next c.args.n (priority_seen c.args.scene.now) c.args.worst c.args.reasons.now c.loop-index.index read
           c.loop-index-test.true is
-          (is_flagged c.loop-index.flags) c.loop-index.invariant.same c.loop-index.invariant.good (is_flagged c.flag.new.flags) c.flag.ensures.added;
+          (is_flagged c.loop-index.flags) c.loop-index.invariant.same c.loop-index.invariant.good
+          (is_flagged c.flag.new.flags) c.flag.ensures.added;
     }
 
 pub returns-then-not-is_reason-clause-bad : goal.returns-then-not-is_reason-clause-bad
 returns-then-not-is_reason-clause-bad c =
     let read : Reason = get_or c.args.reasons.now c.loop-index.index c.index-reasons-index-in-loop-index.result in
     let is : read ≡ get_or c.args.reasons.now c.loop-index.index read =
-    get_or_default c.args.reasons.now c.loop-index.index c.index-reasons-index-in-loop-index.result read c.loop-index-test.true in
-    bad-first c.args.n (priority_seen c.args.scene.now) c.args.worst c.args.reasons.now c.loop-index.index read c.loop-index-test.true is
+    get_or_default c.args.reasons.now c.loop-index.index c.index-reasons-index-in-loop-index.result read
+    c.loop-index-test.true in
+    bad-first c.args.n (priority_seen c.args.scene.now) c.args.worst c.args.reasons.now c.loop-index.index read
+    c.loop-index-test.true is
     (is_flagged c.loop-index.flags) c.loop-index.invariant.same c.loop-index.invariant.good
     (λ reason. both_ways c.is_reason.result c.if-not-is_reason.true (c.is_reason.ensures.value.1
-    (subst (λ (x : Reason). IsReason c.args.n (priority_seen c.args.scene.now) c.args.worst (is_flagged c.loop-index.flags)
+    (subst (λ (x : Reason).
+    IsReason c.args.n (priority_seen c.args.scene.now) c.args.worst (is_flagged c.loop-index.flags)
     (record { kind = x.kind; triangle = read.triangle }))
-    (get_or_default c.args.reasons.now c.loop-index.index c.index-reasons-index-in-loop-index.result c.index-reasons-index.result c.loop-index-test.true)
+    (get_or_default c.args.reasons.now c.loop-index.index c.index-reasons-index-in-loop-index.result
+    c.index-reasons-index.result c.loop-index-test.true)
     reason)))
 
 pub returns-clause-good : goal.returns-clause-good

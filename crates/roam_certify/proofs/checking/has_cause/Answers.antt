@@ -11,7 +11,8 @@ pub returns-then-is_set : goal.returns-then-is_set
 returns-then-is_set c = record {
   value = (
     (λ h. absurd (false≢true h)),
-    (λ r. absurd (reason-old c.args.n (priority_seen c.args.scene.now) c.args.worst (is_flagged c.args.flags.now) c.args.t
+    (λ r. absurd (reason-old c.args.n (priority_seen c.args.scene.now) c.args.worst
+        (is_flagged c.args.flags.now) c.args.t
         c.requires.splittable c.args.kind
         (sym c.is_set.ensures.value ∙ c.if-is_set.true) r)),
   );
@@ -22,9 +23,11 @@ returns-then-is_set-2 c = record {
   value = subst (λ k. IsTrue c.is_set-in-Parent.result ↔
       IsReason c.args.n (priority_seen c.args.scene.now) c.args.worst (is_flagged c.args.flags.now)
       (record { kind = k; triangle = c.args.t })) (sym c.in-Parent.is)
-      (reason-parent c.args.n (priority_seen c.args.scene.now) c.args.worst (is_flagged c.args.flags.now) c.args.t c.requires.splittable
+      (reason-parent c.args.n (priority_seen c.args.scene.now) c.args.worst
+      (is_flagged c.args.flags.now) c.args.t c.requires.splittable
       c.is_set-in-Parent.result (sym c.is_set.ensures.value ∙ c.if-is_set.false) (
-        (λ h. inl (subst (λ z. IsTrue (is_flagged c.args.flags.now z)) c.left.ensures.value (sym c.is_set-in-Parent.ensures.value ∙ h))),
+        (λ h. inl (subst (λ z. IsTrue (is_flagged c.args.flags.now z)) c.left.ensures.value
+            (sym c.is_set-in-Parent.ensures.value ∙ h))),
         (λ w. c.if-is_set-2.true),
       ));
 }
@@ -34,13 +37,17 @@ returns-else-is_set-2 c = record {
   value = subst (λ k. IsTrue c.is_set-else-is_set-2.result ↔
       IsReason c.args.n (priority_seen c.args.scene.now) c.args.worst (is_flagged c.args.flags.now)
       (record { kind = k; triangle = c.args.t })) (sym c.in-Parent.is)
-      (reason-parent c.args.n (priority_seen c.args.scene.now) c.args.worst (is_flagged c.args.flags.now) c.args.t c.requires.splittable
+      (reason-parent c.args.n (priority_seen c.args.scene.now) c.args.worst
+      (is_flagged c.args.flags.now) c.args.t c.requires.splittable
       c.is_set-else-is_set-2.result (sym c.is_set.ensures.value ∙ c.if-is_set.false) (
-        (λ h. inr (subst (λ z. IsTrue (is_flagged c.args.flags.now z)) c.right.ensures.value (sym c.is_set-else-is_set-2.ensures.value ∙ h))),
+        (λ h. inr (subst (λ z. IsTrue (is_flagged c.args.flags.now z)) c.right.ensures.value
+            (sym c.is_set-else-is_set-2.ensures.value ∙ h))),
         (λ w. ⊎_elim
             (λ left. absurd (both_ways (is_flagged c.args.flags.now (2 * c.args.t))
-            (subst (λ z. is_flagged c.args.flags.now z ≡ false) c.left.ensures.value (sym c.is_set-in-Parent.ensures.value ∙ c.if-is_set-2.false)) left))
-            (λ right. c.is_set-else-is_set-2.ensures.value ∙ subst (λ z. IsTrue (is_flagged c.args.flags.now z)) (sym c.right.ensures.value) right)
+            (subst (λ z. is_flagged c.args.flags.now z ≡ false) c.left.ensures.value
+            (sym c.is_set-in-Parent.ensures.value ∙ c.if-is_set-2.false)) left))
+            (λ right. c.is_set-else-is_set-2.ensures.value
+            ∙ subst (λ z. IsTrue (is_flagged c.args.flags.now z)) (sym c.right.ensures.value) right)
             w),
       ));
 }
@@ -49,7 +56,8 @@ pub returns-in-None : goal.returns-in-None
 returns-in-None c = record {
   value = (
     (λ h. absurd (false≢true h)),
-    (λ r. absurd (reason-no_mate c.args.n (priority_seen c.args.scene.now) c.args.worst (is_flagged c.args.flags.now) c.args.t
+    (λ r. absurd (reason-no_mate c.args.n (priority_seen c.args.scene.now) c.args.worst
+        (is_flagged c.args.flags.now) c.args.t
         c.requires.splittable c.requires.addresses
         (λ m mate. let e = (c.in-None.ensures.mate m).1 mate in cc)
         (subst (λ k. IsReason c.args.n (priority_seen c.args.scene.now) c.args.worst (is_flagged c.args.flags.now)
@@ -64,7 +72,8 @@ returns-in-Some c =
       value = subst (λ k. IsTrue c.is_set-in-Some.result ↔
           IsReason c.args.n (priority_seen c.args.scene.now) c.args.worst (is_flagged c.args.flags.now)
           (record { kind = k; triangle = c.args.t })) (sym c.in-Mate.is)
-          (reason-mate c.args.n (priority_seen c.args.scene.now) c.args.worst (is_flagged c.args.flags.now) c.args.t c.requires.splittable
+          (reason-mate c.args.n (priority_seen c.args.scene.now) c.args.worst
+          (is_flagged c.args.flags.now) c.args.t c.requires.splittable
           c.in-Some.mate c.is_set-in-Some.result c.requires.addresses ((c.in-Some.ensures.mate c.in-Some.mate).0 e)
           (sym c.is_set.ensures.value ∙ c.if-is_set.false) c.is_set-in-Some.ensures.value);
     }
@@ -76,7 +85,8 @@ returns-in-Want c =
       value = subst (λ k. IsTrue (leb c.args.worst c.priority.result) ↔
           IsReason c.args.n (priority_seen c.args.scene.now) c.args.worst (is_flagged c.args.flags.now)
           (record { kind = k; triangle = c.args.t })) (sym c.in-Want.is)
-          (reason-want c.args.n (priority_seen c.args.scene.now) c.args.worst (is_flagged c.args.flags.now) c.args.t c.requires.splittable
+          (reason-want c.args.n (priority_seen c.args.scene.now) c.args.worst
+          (is_flagged c.args.flags.now) c.args.t c.requires.splittable
           (leb c.args.worst c.priority.result)
           (sym c.is_set.ensures.value ∙ c.if-is_set.false) (
             (λ h. subst (λ k. c.args.worst ≤ k) told (leb-true c.args.worst c.priority.result h)),

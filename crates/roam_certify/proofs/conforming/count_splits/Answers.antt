@@ -13,25 +13,36 @@ loop-number-init c = counted-first c.args.n (is_flagged c.args.flags.now) (λ a 
 pub has_mate-requires-clause-splittable : goal.has_mate-requires-clause-splittable
 unfolding is_flagged
 has_mate-requires-clause-splittable c =
-    let visited : c.unwrap.result ≡ c.loop-number.number = subst (λ o. IfSome o (λ t. t ≡ c.loop-number.number)) c.unwrap.ensures c.new.ensures.value in
-    subst (λ t. IsSplittable c.args.n t) (sym visited) (c.requires.splittable c.loop-number.number c.if-flags-number.true)
+    let visited : c.unwrap.result ≡ c.loop-number.number =
+    subst (λ o. IfSome o (λ t. t ≡ c.loop-number.number)) c.unwrap.ensures c.new.ensures.value in
+    subst (λ t. IsSplittable c.args.n t) (sym visited)
+    (c.requires.splittable c.loop-number.number c.if-flags-number.true)
 
 pub returns-then-not-has_mate-clause-none : goal.returns-then-not-has_mate-clause-none
 unfolding is_flagged
 returns-then-not-has_mate-clause-none c =
-    let visited : c.unwrap.result ≡ c.loop-number.number = subst (λ o. IfSome o (λ t. t ≡ c.loop-number.number)) c.unwrap.ensures c.new.ensures.value in
-    let lacks = c.has_mate.ensures.lacks c.if-not-has_mate.true in
-    (c.unwrap.result, lacks.0, subst (λ t. IsTrue (is_flagged c.args.flags.now t)) (sym visited) c.if-flags-number.true, lacks.1, lacks.2)
+    let visited : c.unwrap.result ≡ c.loop-number.number =
+    subst (λ o. IfSome o (λ t. t ≡ c.loop-number.number)) c.unwrap.ensures c.new.ensures.value in
+    let lacks = c.has_mate.ensures.lacks c.if-not-has_mate.true in (
+      c.unwrap.result,
+      lacks.0,
+      subst (λ t. IsTrue (is_flagged c.args.flags.now t)) (sym visited) c.if-flags-number.true,
+      lacks.1,
+      lacks.2,
+    )
 
 pub loop-number-preserved : goal.loop-number-preserved
 unfolding is_flagged
 loop-number-preserved c = elim c.if-flags-number.branch [
   | then-flags-number+else-not-has_mate w ↦
-      let visited : w.unwrap.result ≡ c.loop-number.number = subst (λ o. IfSome o (λ t. t ≡ c.loop-number.number)) w.unwrap.ensures w.new.ensures.value in
+      let visited : w.unwrap.result ≡ c.loop-number.number =
+      subst (λ o. IfSome o (λ t. t ≡ c.loop-number.number)) w.unwrap.ensures w.new.ensures.value in
       subst (λ z. IsCountedBelow c.args.n (is_flagged c.args.flags.now) (c.loop-number.number + 1) z) (sym w.count-is)
-      (counted-more c.args.n (is_flagged c.args.flags.now) c.loop-number.number c.loop-number.count c.loop-number.invariant w.if-flags-number.true
+      (counted-more c.args.n (is_flagged c.args.flags.now) c.loop-number.number c.loop-number.count
+      c.loop-number.invariant w.if-flags-number.true
       (λ b m. w.has_mate.ensures.mate w.if-not-has_mate.false b (subst (λ t. IsMate c.args.n t b) (sym visited) m)))
   | else-flags-number w ↦
       subst (λ z. IsCountedBelow c.args.n (is_flagged c.args.flags.now) (c.loop-number.number + 1) z) (sym w.count-is)
-      (counted-skip c.args.n (is_flagged c.args.flags.now) c.loop-number.number c.loop-number.count c.loop-number.invariant w.if-flags-number.false)
+      (counted-skip c.args.n (is_flagged c.args.flags.now) c.loop-number.number c.loop-number.count
+      c.loop-number.invariant w.if-flags-number.false)
 ]

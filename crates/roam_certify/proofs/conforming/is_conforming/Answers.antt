@@ -5,7 +5,8 @@ use Rattle.tiling_laws.specs.Ancestors.{ancestors_of}
 use Rattle.least_laws.specs.Sweep.{is_flagged}
 use Rattle.least_laws.proofs.SweepLemmas.{splittable-lt}
 use Rattle.certificate_laws.proofs.CutLemmas.{ancestor-splittable}
-use Rattle.roam_certify.proofs.ClimbLemmas.{climbed-last, conforming-counted, conforming-mates, conforming-leaves, conforming-fits}
+use Rattle.roam_certify.proofs.ClimbLemmas.{climbed-last, conforming-counted, conforming-mates, conforming-leaves}
+use Rattle.roam_certify.proofs.ClimbLemmas.{conforming-fits}
 use Rattle.roam_certify.proofs.conforming.is_conforming.Goals as goal
 
 pub count_splits-requires-clause-splittable : goal.count_splits-requires-clause-splittable
@@ -17,13 +18,15 @@ pub returns-in-None : goal.returns-in-None
 returns-in-None c =
     let climbed = c.climb.ensures.climbed c.args.triangles.now c.requires.addresses c.flag_parents.ensures.entered in
     let same : (a : ℕ) → is_flagged c.climb.new.flags a ≡ ancestors_of c.args.triangles.now a =
-    climbed-last c.args.n c.args.triangles.now c.requires.addresses (is_flagged c.climb.new.flags) 2 (omega arith) climbed in
+    climbed-last c.args.n c.args.triangles.now c.requires.addresses (is_flagged c.climb.new.flags) 2
+    (omega arith) climbed in
     let bad = c.in-None.ensures.none in
     record {
       value = (
         (λ h. absurd (false≢true h)),
         (λ conforming. absurd (both_ways (is_flagged c.climb.new.flags bad.1) bad.4
-            (conforming-mates c.args.n c.args.triangles.now (is_flagged c.climb.new.flags) same conforming bad.0 bad.1 bad.2 bad.3))),
+            (conforming-mates c.args.n c.args.triangles.now
+            (is_flagged c.climb.new.flags) same conforming bad.0 bad.1 bad.2 bad.3))),
       );
     }
 
@@ -31,14 +34,17 @@ pub returns-then-are_leaves : goal.returns-then-are_leaves
 returns-then-are_leaves c =
     let climbed = c.climb.ensures.climbed c.args.triangles.now c.requires.addresses c.flag_parents.ensures.entered in
     let same : (a : ℕ) → is_flagged c.climb.new.flags a ≡ ancestors_of c.args.triangles.now a =
-    climbed-last c.args.n c.args.triangles.now c.requires.addresses (is_flagged c.climb.new.flags) 2 (omega arith) climbed in
+    climbed-last c.args.n c.args.triangles.now c.requires.addresses (is_flagged c.climb.new.flags) 2
+    (omega arith) climbed in
     record {
       value = (
-        (λ h. conforming-counted c.args.n c.args.triangles.now (is_flagged c.climb.new.flags) (2 ^ (2 * c.args.n + 1)) c.in-Some.count c.requires.addresses same
+        (λ h. conforming-counted c.args.n c.args.triangles.now (is_flagged c.climb.new.flags)
+            (2 ^ (2 * c.args.n + 1)) c.in-Some.count c.requires.addresses same
             (splittable-lt c.args.n) c.in-Some.ensures.some (c.are_leaves.ensures.value.0 c.if-are_leaves.true)
             (eqb-true (length c.args.triangles.now) (c.in-Some.count + 2) h)),
         (λ conforming. eq-eqb (length c.args.triangles.now) (c.in-Some.count + 2)
-            (conforming-fits c.args.n c.args.triangles.now (is_flagged c.climb.new.flags) same conforming (2 ^ (2 * c.args.n + 1)) c.in-Some.count
+            (conforming-fits c.args.n c.args.triangles.now (is_flagged c.climb.new.flags) same conforming
+            (2 ^ (2 * c.args.n + 1)) c.in-Some.count
             (splittable-lt c.args.n) c.in-Some.ensures.some)),
       );
     }
@@ -47,10 +53,12 @@ pub returns-else-are_leaves : goal.returns-else-are_leaves
 returns-else-are_leaves c =
     let climbed = c.climb.ensures.climbed c.args.triangles.now c.requires.addresses c.flag_parents.ensures.entered in
     let same : (a : ℕ) → is_flagged c.climb.new.flags a ≡ ancestors_of c.args.triangles.now a =
-    climbed-last c.args.n c.args.triangles.now c.requires.addresses (is_flagged c.climb.new.flags) 2 (omega arith) climbed in
+    climbed-last c.args.n c.args.triangles.now c.requires.addresses (is_flagged c.climb.new.flags) 2
+    (omega arith) climbed in
     record {
       value = (
         (λ h. absurd (both_ways c.are_leaves.result c.if-are_leaves.false h)),
-        (λ conforming. c.are_leaves.ensures.value.1 (conforming-leaves c.args.n c.args.triangles.now (is_flagged c.climb.new.flags) same conforming)),
+        (λ conforming. c.are_leaves.ensures.value.1
+            (conforming-leaves c.args.n c.args.triangles.now (is_flagged c.climb.new.flags) same conforming)),
       );
     }

@@ -8,20 +8,26 @@ use Rattle.roam_certify.proofs.making.push_cause.Goals as goal
 
 pub push_new-requires : goal.push_new-requires
 push_new-requires c =
-    let cause : IsCause c.args.n c.args.reasons.now.items c.args.kind c.in-Some.t = subst (λ o. IfSome o (IsCause c.args.n c.args.reasons.now.items c.args.kind)) c.in-Some.is c.requires.cause in
+    let cause : IsCause c.args.n c.args.reasons.now.items c.args.kind c.in-Some.t =
+    subst (λ o. IfSome o (IsCause c.args.n c.args.reasons.now.items c.args.kind)) c.in-Some.is c.requires.cause in
     record { room = omega (arith, splittable-lt c.args.n c.in-Some.t cause.splittable, c.requires.listed.room) }
 
 pub returns-in_ok-push_new-in-Some-clause-listed : goal.returns-in_ok-push_new-in-Some-clause-listed
 returns-in_ok-push_new-in-Some-clause-listed c =
-    let cause : IsCause c.args.n c.args.reasons.now.items c.args.kind c.in-Some.t = subst (λ o. IfSome o (IsCause c.args.n c.args.reasons.now.items c.args.kind)) c.in-Some.is c.requires.cause in
+    let cause : IsCause c.args.n c.args.reasons.now.items c.args.kind c.in-Some.t =
+    subst (λ o. IfSome o (IsCause c.args.n c.args.reasons.now.items c.args.kind)) c.in-Some.is c.requires.cause in
     pushed-list c.args.n c.args.limit c.args.kind c.in-Some.t c.args.flags.now c.args.reasons.now.items
-    c.push_new.new.flags c.push_new.new.reasons.items c.requires.listed cause.splittable c.in_ok-push_new-in-Some.ensures.pushed
+    c.push_new.new.flags c.push_new.new.reasons.items c.requires.listed cause.splittable
+    c.in_ok-push_new-in-Some.ensures.pushed
 
 pub returns-in_ok-push_new-in-Some-clause-reasoned : goal.returns-in_ok-push_new-in-Some-clause-reasoned
 returns-in_ok-push_new-in-Some-clause-reasoned c priority worst are =
-    let cause : IsCause c.args.n c.args.reasons.now.items c.args.kind c.in-Some.t = subst (λ o. IfSome o (IsCause c.args.n c.args.reasons.now.items c.args.kind)) c.in-Some.is c.requires.cause in
-    pushed-reasoned c.args.n c.args.limit c.args.kind c.in-Some.t c.args.flags.now c.args.reasons.now.items priority worst
-    c.push_new.new.flags c.push_new.new.reasons.items c.requires.listed cause.splittable (cause.why priority worst) are c.in_ok-push_new-in-Some.ensures.pushed
+    let cause : IsCause c.args.n c.args.reasons.now.items c.args.kind c.in-Some.t =
+    subst (λ o. IfSome o (IsCause c.args.n c.args.reasons.now.items c.args.kind)) c.in-Some.is c.requires.cause in
+    pushed-reasoned c.args.n c.args.limit c.args.kind c.in-Some.t c.args.flags.now
+    c.args.reasons.now.items priority worst
+    c.push_new.new.flags c.push_new.new.reasons.items c.requires.listed cause.splittable
+    (cause.why priority worst) are c.in_ok-push_new-in-Some.ensures.pushed
 
 pub returns-in_ok-push_new-in-Some-clause-grown : goal.returns-in_ok-push_new-in-Some-clause-grown
 returns-in_ok-push_new-in-Some-clause-grown c =
@@ -32,4 +38,5 @@ pub returns-in_ok-push_new-in-Some-clause-named : goal.returns-in_ok-push_new-in
 returns-in_ok-push_new-in-Some-clause-named c less =
     subst (λ o. IfSome o (λ a. IsTrue (named_in c.push_new.new.reasons.items a))) (sym c.in-Some.is)
     (pushed-listed c.args.n c.args.limit c.args.kind c.in-Some.t c.args.flags.now c.args.reasons.now.items
-    c.push_new.new.flags c.push_new.new.reasons.items c.requires.listed.same c.in_ok-push_new-in-Some.ensures.pushed less)
+    c.push_new.new.flags c.push_new.new.reasons.items c.requires.listed.same
+    c.in_ok-push_new-in-Some.ensures.pushed less)

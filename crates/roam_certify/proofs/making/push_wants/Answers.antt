@@ -10,7 +10,8 @@ use Rattle.roam_certify.proofs.making.push_wants.Goals as goal
 
 pub push_wanted-requires : goal.push_wanted-requires
 push_wanted-requires c =
-    let visited : c.unwrap-t.result ≡ c.loop-number.number = subst (λ o. IfSome o (λ t. t ≡ c.loop-number.number)) c.unwrap-t.ensures c.new.ensures.value in
+    let visited : c.unwrap-t.result ≡ c.loop-number.number =
+    subst (λ o. IfSome o (λ t. t ≡ c.loop-number.number)) c.unwrap-t.ensures c.new.ensures.value in
     let low : 2 ≤ c.loop-number.number = c.loop-number.auto.number in
     let more = c.loop-number-test.true in
     let end = c.end-number-end.ensures.value in
@@ -22,19 +23,24 @@ push_wanted-requires c =
       listed = c.loop-number.invariant.listed;
       reasoned = c.loop-number.invariant.reasoned;
       splittable = subst (λ t. IsSplittable c.args.n t) (sym visited) splittable;
-      before = subst (λ t. AreWanted c.args.limit (priority_seen c.args.scene.now) c.args.worst t c.loop-number.reasons.items)
+      before = subst (λ t. AreWanted c.args.limit
+          (priority_seen c.args.scene.now) c.args.worst t c.loop-number.reasons.items)
           (sym visited) c.loop-number.invariant.wanted;
     }
 
 pub loop-number-preserved : goal.loop-number-preserved
 loop-number-preserved c =
-    let visited : c.unwrap-t.result ≡ c.loop-number.number = subst (λ o. IfSome o (λ t. t ≡ c.loop-number.number)) c.unwrap-t.ensures c.new.ensures.value in
+    let visited : c.unwrap-t.result ≡ c.loop-number.number =
+    subst (λ o. IfSome o (λ t. t ≡ c.loop-number.number)) c.unwrap-t.ensures c.new.ensures.value in
     record {
       listed = c.in_ok-push_wanted.ensures.listed;
       reasoned = c.in_ok-push_wanted.ensures.reasoned;
-      wanted = wanted-next c.args.limit (priority_seen c.args.scene.now) c.args.worst c.loop-number.number c.loop-number.reasons.items
+      wanted =
+          wanted-next c.args.limit
+          (priority_seen c.args.scene.now) c.args.worst c.loop-number.number c.loop-number.reasons.items
           c.push_wanted.new.reasons.items
           c.in_ok-push_wanted.ensures.grown c.loop-number.invariant.wanted
-          (subst (λ t. length c.push_wanted.new.reasons.items < c.args.limit → c.args.worst ≤ priority_seen c.args.scene.now t →
+          (subst (λ t. length c.push_wanted.new.reasons.items < c.args.limit →
+          c.args.worst ≤ priority_seen c.args.scene.now t →
           IsTrue (named_in c.push_wanted.new.reasons.items t)) visited c.in_ok-push_wanted.ensures.wanted);
     }

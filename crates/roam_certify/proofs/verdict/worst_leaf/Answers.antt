@@ -13,7 +13,8 @@ pub priority-requires : goal.priority-requires
 priority-requires c =
     let below : c.loop-leaf.leaf-index < length c.args.leaves.now = omega arith in
     let level = level-le c.args.n c.leaf-item.result (subst (IsAddress c.args.n) (sym c.leaf-item.is)
-    (All-get_or (IsAddress c.args.n) c.args.leaves.now c.loop-leaf.leaf-index c.leaf-item.result below c.requires.addresses)) in
+    (All-get_or (IsAddress c.args.n) c.args.leaves.now c.loop-leaf.leaf-index c.leaf-item.result below
+    c.requires.addresses)) in
     record { level = omega (arith, level, c.requires.grid) }
 
 pub loop-leaf-preserved : goal.loop-leaf-preserved
@@ -21,6 +22,7 @@ loop-leaf-preserved c =
     let p = priority_seen c.args.scene.now in
     let before = take c.loop-leaf.leaf-index c.args.leaves.now in
     let below : c.loop-leaf.leaf-index < length c.args.leaves.now = omega arith in
-    c.greater-worst.ensures ∙ ap₂ max c.loop-leaf.invariant c.priority.ensures.value ∙ sym (worst_of-next p before c.leaf-item.result)
+    c.greater-worst.ensures ∙ ap₂ max c.loop-leaf.invariant c.priority.ensures.value
+    ∙ sym (worst_of-next p before c.leaf-item.result)
     ∙ ap (λ a. worst_of p (before ++ a ∷ [])) c.leaf-item.is
     ∙ ap (worst_of p) (sym (take_more c.args.leaves.now c.loop-leaf.leaf-index c.leaf-item.result below))

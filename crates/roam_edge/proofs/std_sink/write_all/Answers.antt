@@ -1,4 +1,5 @@
-use Rattle.std.proofs.Common.{rules, arith, ◌-◌, ◌++◌, length, take, drop, sym, length-take, length-drop, take-append-drop}
+use Rattle.std.proofs.Common.{rules, arith, ◌-◌, ◌++◌, length, take, drop, sym, length-take, length-drop}
+use Rattle.std.proofs.Common.{take-append-drop}
 use Rattle.roam_edge.proofs.SinkLemmas.{told_more}
 use Rattle.roam_edge.proofs.std_sink.write_all.Goals as goal
 
@@ -6,11 +7,17 @@ pub loop-done-preserved : goal.loop-done-preserved
 loop-done-preserved g c = record {
   within =
       let short = c.in-Ok.ensures.size.1 in
-      omega (arith, short, length-take (length c.args.piece.now - c.loop-done.done) (drop c.loop-done.done c.args.piece.now), length-drop c.loop-done.done c.args.piece.now);
+      omega (
+        arith,
+        short,
+        length-take (length c.args.piece.now - c.loop-done.done) (drop c.loop-done.done c.args.piece.now),
+        length-drop c.loop-done.done c.args.piece.now,
+      );
   unchanged = search rules;
   handed = λ all told.
       told_more _ all c.args.piece.now c.loop-done.done c.in-Ok.count
-      (c.in-Ok.ensures.bytes.ok (all ++ take c.loop-done.done c.args.piece.now) (c.loop-done.invariant.handed all told));
+      (c.in-Ok.ensures.bytes.ok (all ++ take c.loop-done.done c.args.piece.now)
+      (c.loop-done.invariant.handed all told));
 }
 
 pub returns-in-Err-clause-bytes : goal.returns-in-Err-clause-bytes
@@ -18,7 +25,11 @@ returns-in-Err-clause-bytes g c = record {
   ok = search rules;
   failed = λ all told. (
     take c.loop-done.done c.args.piece.now,
-    record { back = drop c.loop-done.done c.args.piece.now; joined = sym (take-append-drop c.loop-done.done c.args.piece.now) },
-    c.in-Err.ensures.bytes.failed (all ++ take c.loop-done.done c.args.piece.now) (c.loop-done.invariant.handed all told),
+    record {
+      back = drop c.loop-done.done c.args.piece.now;
+      joined = sym (take-append-drop c.loop-done.done c.args.piece.now);
+    },
+    c.in-Err.ensures.bytes.failed (all ++ take c.loop-done.done c.args.piece.now)
+        (c.loop-done.invariant.handed all told),
   );
 }

@@ -10,9 +10,11 @@ returns-then-put_text c =
     let state = c.args.engine.now.state in
     let place : CameraAt = c.args.place in
     let camera : IsCamera place = search rules in
-    let shown : IsCertificateText state place c.deref.result.now = subst (IsCertificateText state place) (sym c.deref.ensures.value) c.in-Ok.ensures in
+    let shown : IsCertificateText state place c.deref.result.now =
+    subst (IsCertificateText state place) (sym c.deref.ensures.value) c.in-Ok.ensures in
     let yes = c.if-put_text.true in
-    told-done state place c.args.out.now c.put_text.new.out c.deref.result.now c.args.count.now c.put_text.new.count camera shown
+    told-done state place c.args.out.now c.put_text.new.out c.deref.result.now c.args.count.now
+    c.put_text.new.count camera shown
     (c.put_text.ensures.room yes) (c.put_text.ensures.written yes) (c.put_text.ensures.counted yes)
 
 pub returns-in-Ok : goal.returns-in-Ok
@@ -20,7 +22,9 @@ returns-in-Ok c =
     let state = c.args.engine.now.state in
     let place : CameraAt = c.args.place in
     let camera : IsCamera place = search rules in
-    let shown : IsCertificateText state place c.deref.result.now = subst (IsCertificateText state place) (sym c.deref.ensures.value) c.in-Ok.ensures in
+    let shown : IsCertificateText state place c.deref.result.now =
+    subst (IsCertificateText state place) (sym c.deref.ensures.value) c.in-Ok.ensures in
     let no = c.if-put_text.false in
-    told-no_room state place c.args.out.now c.put_text.new.out c.deref.result.now c.args.count.now c.put_text.new.count camera shown
+    told-no_room state place c.args.out.now c.put_text.new.out c.deref.result.now c.args.count.now
+    c.put_text.new.count camera shown
     (c.put_text.ensures.no_room no) (c.put_text.ensures.unwritten no) (c.put_text.ensures.uncounted no)

@@ -9,8 +9,10 @@ use Rattle.roam_embed.proofs.looking.are_planes.Goals as goal
 pub loop-p-preserved : goal.loop-p-preserved
 loop-p-preserved c =
     let some : IsSome c.plane.result = search rules in
-    All-more (λ (p : PlaneNumbers). IsPlane (plane_of p)) c.args.planes.now c.loop-p.p-index _ c.loop-p-test.true c.loop-p.invariant (c.plane.ensures.valid.0 some)
+    All-more (λ (p : PlaneNumbers). IsPlane (plane_of p)) c.args.planes.now c.loop-p.p-index _ c.loop-p-test.true
+    c.loop-p.invariant (c.plane.ensures.valid.0 some)
 
 pub returns-clause-all : goal.returns-clause-all
 returns-clause-all c =
-    λ _. All-same (λ (p : PlaneNumbers). IsPlane (plane_of p)) c.args.planes.now _ (sym (take_all c.loop-p.p-index c.args.planes.now (omega arith))) c.loop-p.invariant
+    λ _. All-same (λ (p : PlaneNumbers). IsPlane (plane_of p)) c.args.planes.now _
+    (sym (take_all c.loop-p.p-index c.args.planes.now (omega arith))) c.loop-p.invariant

@@ -12,15 +12,20 @@ use Rattle.strip_laws.proofs.OrderLemmas.{leaf-strip_of}
 use Rattle.roam_embed.proofs.shapes.put_strip.Goals as goal
 
 -- the triangles of a strip are leaves, so of the grid
-levels : (n : ℕ) (has : ℕ → Bool) → All (λ a. level_of a ≤ 2 * n) (leaves_of n has) → All (λ a. level_of a ≤ 2 * n) (strip_of n has)
+levels : (n : ℕ) (has : ℕ → Bool) → All (λ a. level_of a ≤ 2 * n) (leaves_of n has) →
+    All (λ a. level_of a ≤ 2 * n) (strip_of n has)
 levels n has low = All-in (λ a. level_of a ≤ 2 * n) (strip_of n has)
-    (λ a i. All-contains (λ b. level_of b ≤ 2 * n) (leaves_of n has) a low (Contains-in a (leaves_of n has) (leaf-strip_of n a has i)))
+    (λ a i. All-contains (λ b. level_of b ≤ 2 * n) (leaves_of n has) a low
+    (Contains-in a (leaves_of n has) (leaf-strip_of n a has i)))
 
 pub strip-requires-clause-leaves : goal.strip-requires-clause-leaves
 strip-requires-clause-leaves c =
     let e = c.args.engine.now in
-    let small : e.state.grid.n ≤ GREATEST_LEVEL = grind (arith, common_steps) in
-    (e.state.grid.n, is_split e, record { in_grid = small; closed = c.view-view.ensures.closed; is = c.view-view.ensures.leaves })
+    let small : e.state.grid.n ≤ GREATEST_LEVEL = grind (arith, common_steps) in (
+      e.state.grid.n,
+      is_split e,
+      record { in_grid = small; closed = c.view-view.ensures.closed; is = c.view-view.ensures.leaves },
+    )
 
 pub returns-clause-strip : goal.returns-clause-strip
 returns-clause-strip c =
@@ -36,5 +41,9 @@ returns-clause-levels c =
     let has : ℕ → Bool = is_split e in
     let P : List ℕ → Type 0 = λ l. All (λ a. level_of a ≤ 2 * n) l in
     let small : n ≤ GREATEST_LEVEL = grind (arith, common_steps) in
-    let is = c.strip.ensures.order n has (record { in_grid = small; closed = c.view-view.ensures.closed; is = c.view-view.ensures.leaves }) in
+    let is = c.strip.ensures.order n has (record {
+      in_grid = small;
+      closed = c.view-view.ensures.closed;
+      is = c.view-view.ensures.leaves;
+    }) in
     subst P (sym is) (levels n has (subst P c.view-view.ensures.leaves c.view-view.ensures.levels))

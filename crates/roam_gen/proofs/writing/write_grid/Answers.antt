@@ -14,7 +14,8 @@ returns-in_err-write-clause-bytes g c =
     let raster = flat_map two_bytes (made_grid c.args.n c.args.seed).heights in
     let before = g.S.Sink.contents c.args.out.now in
     rw p.1
-    (wrote-part before before _ [] c.as_slice.result.now raster (grid_text c.args.n c.args.seed) _ _ (wrote-nothing before) c.in_err-write.ensures.bytes
+    (wrote-part before before _ [] c.as_slice.result.now raster (grid_text c.args.n c.args.seed) _ _
+    (wrote-nothing before) c.in_err-write.ensures.bytes
     (ap (λ l. l ++ raster) (sym (c.as_slice.ensures.value ∙ c.header_bytes.ensures))))
 
 pub returns-clause-bytes : goal.returns-clause-bytes
@@ -23,4 +24,5 @@ returns-clause-bytes g c =
     let mid = g.S.Sink.contents c.write.new.self in
     let header = subst (Wrote before mid) (c.as_slice.ensures.value ∙ c.header_bytes.ensures)
     (wrote-more before before mid [] c.as_slice.result.now _ (wrote-nothing before) c.in_ok-write.ensures.bytes) in
-    wrote-then before mid _ (header_text c.args.n) (flat_map two_bytes (made_grid c.args.n c.args.seed).heights) c.write_rows.result header c.write_rows.ensures.bytes
+    wrote-then before mid _ (header_text c.args.n) (flat_map two_bytes (made_grid c.args.n c.args.seed).heights)
+    c.write_rows.result header c.write_rows.ensures.bytes

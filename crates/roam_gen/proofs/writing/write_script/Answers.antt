@@ -18,9 +18,11 @@ returns-in_err-write-clause-bytes g c =
     let lines = made_lines c.args.n c.args.seed in
     let k = c.loop-i.i - 1 in
     rw p.1
-    (wrote-part _ (g.S.Sink.contents c.loop-i.out) _ (flat_map line_text (take k lines)) c.as_slice.result.now (flat_map line_text (drop (suc k) lines))
+    (wrote-part _ (g.S.Sink.contents c.loop-i.out) _ (flat_map line_text (take k lines)) c.as_slice.result.now
+    (flat_map line_text (drop (suc k) lines))
     (script_text c.args.n c.args.seed) _ _ c.loop-i.invariant.written c.in_err-write.ensures.bytes
-    (texts-split lines k c.gen_line.result c.as_slice.result.now c.gen_line.ensures.value (c.as_slice.ensures.value ∙ c.bytes_of.ensures)))
+    (texts-split lines k c.gen_line.result c.as_slice.result.now c.gen_line.ensures.value
+    (c.as_slice.ensures.value ∙ c.bytes_of.ensures)))
 
 pub loop-i-preserved : goal.loop-i-preserved
 loop-i-preserved g c =
@@ -29,13 +31,16 @@ loop-i-preserved g c =
     let e : k + 1 ≡ c.loop-i.i + 1 - 1 = omega arith in
     let before = g.S.Sink.contents c.args.out.now in
     let now = g.S.Sink.contents c.write.new.self in
-    let text = texts-more lines k c.gen_line.result c.as_slice.result.now c.gen_line.ensures.value (c.as_slice.ensures.value ∙ c.bytes_of.ensures) in
+    let text = texts-more lines k c.gen_line.result c.as_slice.result.now c.gen_line.ensures.value
+    (c.as_slice.ensures.value ∙ c.bytes_of.ensures) in
     record {
       written = subst (λ (m : ℕ). Wrote before now (flat_map line_text (take m lines))) e
-          (subst (Wrote before now) (sym text) (wrote-more before (g.S.Sink.contents c.loop-i.out) now (flat_map line_text (take k lines)) c.as_slice.result.now _
+          (subst (Wrote before now) (sym text) (wrote-more before (g.S.Sink.contents c.loop-i.out) now
+          (flat_map line_text (take k lines)) c.as_slice.result.now _
           c.loop-i.invariant.written c.in_ok-write.ensures.bytes));
       calm = c.in_ok-write.ensures.faults.ok ∙ c.loop-i.invariant.calm;
-      in_time = λ late calm. rw (c.in_ok-write.ensures.late, c.loop-i.invariant.in_time late calm, c.loop-i.invariant.calm ∙ calm)
+      in_time = λ late calm.
+          rw (c.in_ok-write.ensures.late, c.loop-i.invariant.in_time late calm, c.loop-i.invariant.calm ∙ calm)
           (le-ltb 0 0 (omega arith));
     }
 
@@ -47,4 +52,5 @@ returns-clause-bytes g c =
     let all : take (c.loop-i.i - 1) lines ≡ lines = take_all (c.loop-i.i - 1) lines (omega (arith, count)) in
     let before = g.S.Sink.contents c.args.out.now in
     let now = g.S.Sink.contents c.loop-i.out in
-    wrote-all before now (script_text c.args.n c.args.seed) _ (subst (λ l. Wrote before now (flat_map line_text l)) all c.loop-i.invariant.written)
+    wrote-all before now (script_text c.args.n c.args.seed) _
+    (subst (λ l. Wrote before now (flat_map line_text l)) all c.loop-i.invariant.written)

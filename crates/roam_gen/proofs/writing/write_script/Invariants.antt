@@ -9,7 +9,8 @@ use Rattle.roam_gen.proofs.writing.write_script.Given as goal
 -- the lines so far were written
 abbrev pub invariant-loop-i : goal.invariant-loop-i
 invariant-loop-i g l = record {
-  written : Wrote (g.S.Sink.contents l.fn.out) (g.S.Sink.contents l.out) (flat_map line_text (take (l.i - 1) (made_lines l.n l.seed)));
+  written : Wrote (g.S.Sink.contents l.fn.out) (g.S.Sink.contents l.out)
+      (flat_map line_text (take (l.i - 1) (made_lines l.n l.seed)));
   calm : g.S.Sink.faults l.out ≡ g.S.Sink.faults l.fn.out;
   in_time : IsInTime (g.S.Sink.late l.fn.out) (g.S.Sink.faults l.fn.out) (g.S.Sink.late l.out);
 }

@@ -5,4 +5,6 @@ use Rattle.roam_lanes.proofs.LaneLemmas.{sel-greater}
 use Rattle.roam_lanes.proofs.lanes.greater.Goals as goal
 
 pub returns : goal.returns
-returns c = ap (λ (ms : List Bool). sel_l ms c.args.b c.args.a) (tops_compared w16 ltb c.args.a c.args.b) ∙ sel-greater c.args.a c.args.b
+returns c =
+    ap (λ (ms : List Bool). sel_l ms c.args.b c.args.a) (tops_compared w16 ltb c.args.a c.args.b)
+    ∙ sel-greater c.args.a c.args.b

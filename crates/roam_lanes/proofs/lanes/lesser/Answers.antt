@@ -5,4 +5,6 @@ use Rattle.roam_lanes.proofs.LaneLemmas.{sel-lesser}
 use Rattle.roam_lanes.proofs.lanes.lesser.Goals as goal
 
 pub returns : goal.returns
-returns c = ap (λ (ms : List Bool). sel_l ms c.args.a c.args.b) (tops_compared w16 ltb c.args.a c.args.b) ∙ sel-lesser c.args.a c.args.b
+returns c =
+    ap (λ (ms : List Bool). sel_l ms c.args.a c.args.b) (tops_compared w16 ltb c.args.a c.args.b)
+    ∙ sel-lesser c.args.a c.args.b

@@ -8,5 +8,7 @@ pub returns : goal.returns
 returns c =
     let block : List ℕ = c.args.block.now in
     let changed : List ℕ = map (λ (h : ℕ). h - c.args.by) block in
-    let lanes : c.lowered.result ≡ changed = c.lowered.ensures ∙ ap (λ (xs : List ℕ). map (λ (h : ℕ). h - c.args.by) xs) (take_all 8 block (omega arith)) in
-    ap (λ (xs : List ℕ). put_chunk 0 block xs) lanes ∙ stored block changed c.requires (length-map block (λ (h : ℕ). h - c.args.by) ∙ c.requires)
+    let lanes : c.lowered.result ≡ changed =
+    c.lowered.ensures ∙ ap (λ (xs : List ℕ). map (λ (h : ℕ). h - c.args.by) xs) (take_all 8 block (omega arith)) in
+    ap (λ (xs : List ℕ). put_chunk 0 block xs) lanes
+    ∙ stored block changed c.requires (length-map block (λ (h : ℕ). h - c.args.by) ∙ c.requires)

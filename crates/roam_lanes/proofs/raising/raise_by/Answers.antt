@@ -3,11 +3,15 @@ use Rattle.roam_lanes.proofs.LaneLemmas.{map_block, map_rest}
 use Rattle.roam_lanes.proofs.raising.raise_by.Goals as goal
 
 pub loop-k-preserved : goal.loop-k-preserved
-loop-k-preserved c = map_block (λ (h : ℕ). min (h + c.args.by) c.args.maxval) c.loop-k.row c.args.row.now c.raise_block.new.block c.loop-k.k (omega arith) (omega arith) c.loop-k.invariant.0 c.loop-k.invariant.1 c.raise_block.ensures
+loop-k-preserved c =
+    map_block (λ (h : ℕ). min (h + c.args.by) c.args.maxval) c.loop-k.row c.args.row.now c.raise_block.new.block
+    c.loop-k.k (omega arith) (omega arith) c.loop-k.invariant.0 c.loop-k.invariant.1 c.raise_block.ensures
 
 pub returns : goal.returns
 returns c =
     let last : c.loop-k.k ≡ length c.args.row.now / 8 = omega arith in
-    let before = subst (λ (k : ℕ). take (8 * k) c.loop-k.row ≡ map (λ (h : ℕ). min (h + c.args.by) c.args.maxval) (take (8 * k) c.args.row.now)) last c.loop-k.invariant.0 in
+    let before = subst (λ (k : ℕ). take (8 * k) c.loop-k.row
+    ≡ map (λ (h : ℕ). min (h + c.args.by) c.args.maxval) (take (8 * k) c.args.row.now)) last c.loop-k.invariant.0 in
     let after = subst (λ (k : ℕ). drop (8 * k) c.loop-k.row ≡ drop (8 * k) c.args.row.now) last c.loop-k.invariant.1 in
-    map_rest (λ (h : ℕ). min (h + c.args.by) c.args.maxval) c.loop-k.row c.args.row.now c.raise_by_plain.new.row (8 * (length c.args.row.now / 8)) _ (omega arith) (omega arith) before after c.raise_by_plain.ensures
+    map_rest (λ (h : ℕ). min (h + c.args.by) c.args.maxval) c.loop-k.row c.args.row.now c.raise_by_plain.new.row
+    (8 * (length c.args.row.now / 8)) _ (omega arith) (omega arith) before after c.raise_by_plain.ensures

@@ -11,13 +11,16 @@ loop-place-preserved g c =
     elim c.if-left-gt0.branch [
       | then-left-gt0 w ↦ record {
         below = rw w.left-is (mod-lt (10 * c.loop-place.left) {m = c.args.over} (omega (arith, before.below)));
-        items = rw (w.text-is, w.left-is) (next-digit _ c.loop-place.text.items w.push_bytes.new.text.items c.args.most c.loop-place._place c.loop-place.left c.args.over
+        items = rw (w.text-is, w.left-is) (next-digit _ c.loop-place.text.items w.push_bytes.new.text.items c.args.most
+            c.loop-place._place c.loop-place.left c.args.over
             less w.if-left-gt0.true before.items w.push_bytes.ensures.items);
         len = rw w.text-is (let len = w.push_bytes.ensures.len in omega (arith, len, before.len));
       }
       | else-left-gt0 w ↦ record {
         below = rw w.left-is before.below;
-        items = rw (w.text-is, w.left-is) (no-digit _ c.loop-place.text.items c.args.most c.loop-place._place c.loop-place.left c.args.over
+        items =
+            rw (w.text-is, w.left-is)
+            (no-digit _ c.loop-place.text.items c.args.most c.loop-place._place c.loop-place.left c.args.over
             (let none = w.if-left-gt0.false in omega (arith, none)) before.items);
         len = rw w.text-is (omega (arith, before.len));
       }

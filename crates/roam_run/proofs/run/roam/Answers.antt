@@ -16,9 +16,11 @@ returns-clause-best g c =
     let before : Moment = moment g.F.Shelf g.M.MeshSink g.R.Sink c.args.shelf.now c.args.meshes.now c.args.report.now in
     let ends = run.ensures.runs.ends in
     loan-ended g.F.Shelf g.M.MeshSink g.R.Sink (λ now. KeepsBestMeshes before now line run.result.status)
-    run.new.outside.shelf.now _ run.new.outside.meshes.now _ run.new.outside.report.now _ (search rules) (search rules) (search rules) (record {
+    run.new.outside.shelf.now _ run.new.outside.meshes.now _ run.new.outside.report.now _ (search rules) (search rules)
+    (search rules) (record {
       of_script = λ files all s grid told_files told_meshes is_run shown.
-          c.run_laws.ensures.headline line files s grid _ _ _ _ all run.result.status is_run shown told_files told_meshes
+          c.run_laws.ensures.headline line files s grid _ _ _ _ all run.result.status is_run
+          shown told_files told_meshes
           (outcome-follows _ _ line run.result.status left files ends (λ some. told_files))
           (read-leaves _ _ line run.result.status left ends) (memory-leaves _ _ line run.result.status left ends);
       of_fit = λ files all f grid told_files told_meshes is_run.
@@ -35,7 +37,8 @@ returns-clause-certified g c =
     let before : Moment = moment g.F.Shelf g.M.MeshSink g.R.Sink c.args.shelf.now c.args.meshes.now c.args.report.now in
     let ends = run.ensures.runs.ends in
     loan-ended g.F.Shelf g.M.MeshSink g.R.Sink (λ now. CertifiesMesh before now line run.result.status)
-    run.new.outside.shelf.now _ run.new.outside.meshes.now _ run.new.outside.report.now _ (search rules) (search rules) (search rules) (record {
+    run.new.outside.shelf.now _ run.new.outside.meshes.now _ run.new.outside.report.now _ (search rules) (search rules)
+    (search rules) (record {
       of_check = λ files check grid told_files is_check done.
           c.run_laws.ensures.certified line files check grid _ _ _ _ run.result.status is_check
           (outcome-follows _ _ line run.result.status left files ends (λ some. told_files)) done;
@@ -54,7 +57,8 @@ returns-clause-ends g c =
     let left : Option EngineEnd = option_map engine_seen run.result.engine in
     let before : Moment = moment g.F.Shelf g.M.MeshSink g.R.Sink c.args.shelf.now c.args.meshes.now c.args.report.now in
     loan-ended g.F.Shelf g.M.MeshSink g.R.Sink (λ now. EndsByStatus before now said run.result.status left)
-    run.new.outside.shelf.now _ run.new.outside.meshes.now _ run.new.outside.report.now _ (search rules) (search rules) (search rules)
+    run.new.outside.shelf.now _ run.new.outside.meshes.now _ run.new.outside.report.now _ (search rules)
+    (search rules) (search rules)
     run.ensures.runs.ends
 
 pub returns-clause-leaves : goal.returns-clause-leaves
@@ -64,7 +68,8 @@ returns-clause-leaves g c =
     let left : Option EngineEnd = option_map engine_seen run.result.engine in
     let before : Moment = moment g.F.Shelf g.M.MeshSink g.R.Sink c.args.shelf.now c.args.meshes.now c.args.report.now in
     loan-ended g.F.Shelf g.M.MeshSink g.R.Sink (λ now. LeavesOutside before now said run.result.status left)
-    run.new.outside.shelf.now _ run.new.outside.meshes.now _ run.new.outside.report.now _ (search rules) (search rules) (search rules)
+    run.new.outside.shelf.now _ run.new.outside.meshes.now _ run.new.outside.report.now _ (search rules)
+    (search rules) (search rules)
     run.ensures.runs.leaves
 
 pub returns-clause-accepted : goal.returns-clause-accepted
@@ -76,6 +81,7 @@ returns-clause-causes g c =
     let said : Option Command = command_of (map string_bytes c.args.words.now) in
     let before : Moment = moment g.F.Shelf g.M.MeshSink g.R.Sink c.args.shelf.now c.args.meshes.now c.args.report.now in
     loan-ended g.F.Shelf g.M.MeshSink g.R.Sink (λ now. IsCaused before now said run.result.status)
-    run.new.outside.shelf.now _ run.new.outside.meshes.now _ run.new.outside.report.now _ (search rules) (search rules) (search rules)
+    run.new.outside.shelf.now _ run.new.outside.meshes.now _ run.new.outside.report.now _ (search rules)
+    (search rules) (search rules)
     (is-caused _ _ said run.result.status run.ensures.runs.allowed run.ensures.runs.causes
     c.requires.shelf_faults c.requires.mesh_faults c.requires.report_faults)

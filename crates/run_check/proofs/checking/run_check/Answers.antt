@@ -9,12 +9,14 @@ pub returns-in-Ok-judge-clause-runs : goal.returns-in-Ok-judge-clause-runs
 returns-in-Ok-judge-clause-runs g c =
     let judged = rw c.in-Ok-build.ensures at c.in-Ok-judge.ensures.ok in
     check-runs _ _ _ _ _ (checking_seen c.args.words.now) c.in-Ok.grid c.as_slice.result.now c.status.result _
-    c.requires.idle c.in-Ok.ensures.ok c.in-Ok-judge.judgement c.in-Ok-judge.ensures.opened c.in-Ok-judge.ensures.ended judged
+    c.requires.idle c.in-Ok.ensures.ok c.in-Ok-judge.judgement c.in-Ok-judge.ensures.opened
+    c.in-Ok-judge.ensures.ended judged
     (c.as_slice.ensures.value ∙ c.judgement_report.ensures) c.status.ensures c.end_with_text.ensures.tells
 
 pub returns-in-Err-NoMemory-clause-runs : goal.returns-in-Err-NoMemory-clause-runs
 returns-in-Err-NoMemory-clause-runs g c =
-    let no_memory = rw c.in-Ok-build.ensures at (c.in-Err-NoMemory.ensures.no_memory (ap Err c.in-Err-NoMemory.field-0-is)) in
+    let no_memory =
+    rw c.in-Ok-build.ensures at (c.in-Err-NoMemory.ensures.no_memory (ap Err c.in-Err-NoMemory.field-0-is)) in
     check-memory _ _ _ _ (checking_seen c.args.words.now) c.in-Ok.grid c.requires.idle c.in-Ok.ensures.ok no_memory
 
 pub returns-in-Ok-build-clause-runs : goal.returns-in-Ok-build-clause-runs

@@ -10,7 +10,19 @@ pub unwrap-requires : goal.unwrap-requires
 unwrap-requires c = search rules
 
 pub camera-requires : goal.camera-requires
-camera-requires c = grind (arith, common_steps, way-short c.args.engine.now.state.view.camera (record { x = c.args.x; y = c.args.y; z = c.args.z }) c.requires.near c.requires.valid)
+camera-requires c =
+    grind (
+      arith,
+      common_steps,
+      way-short c.args.engine.now.state.view.camera
+          (record { x = c.args.x; y = c.args.y; z = c.args.z }) c.requires.near c.requires.valid,
+    )
 
 pub returns : goal.returns
-returns c = grind (arith, common_steps, way-short c.args.engine.now.state.view.camera (record { x = c.args.x; y = c.args.y; z = c.args.z }) c.requires.near c.requires.valid)
+returns c =
+    grind (
+      arith,
+      common_steps,
+      way-short c.args.engine.now.state.view.camera
+          (record { x = c.args.x; y = c.args.y; z = c.args.z }) c.requires.near c.requires.valid,
+    )

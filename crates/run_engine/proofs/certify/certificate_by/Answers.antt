@@ -14,10 +14,13 @@ pub cert_of_frame-requires-clause-best : goal.cert_of_frame-requires-clause-best
 cert_of_frame-requires-clause-best c =
     let words = c.args.words.now in
     let state : State = makes_at (making_seen words) c.args.engine.now.state.grid in
-    let same : c.camera.new.self.state ≡ state = ap (λ (e : EngineState). e.state) c.camera.ensures ∙ ap (with_camera words.camera) c.requires.start in
+    let same : c.camera.new.self.state ≡ state =
+    ap (λ (e : EngineState). e.state) c.camera.ensures ∙ ap (with_camera words.camera) c.requires.start in
     let after = c.frame-note.new.self in
-    let grid : after.state.grid ≡ c.args.engine.now.state.grid = ap (λ (s : State). s.grid) (c.frame-note.ensures.done.state ∙ same) in
-    subst (λ (w : HeightField). IsBestMesh w.n words.budget (priority_in (makes_at (making_seen words) w)) (mesh_seen after)) (sym grid)
+    let grid : after.state.grid ≡ c.args.engine.now.state.grid =
+    ap (λ (s : State). s.grid) (c.frame-note.ensures.done.state ∙ same) in
+    subst (λ (w : HeightField). IsBestMesh w.n words.budget (priority_in (makes_at (making_seen words) w))
+    (mesh_seen after)) (sym grid)
     (best-frame state c.camera.new.self after c.frame-note.result (mesh_seen after) same c.frame-note.ensures.done refl
     (c.falling_laws.ensures _ _ _) c.requires.bounds.budget_low)
 
@@ -25,16 +28,23 @@ pub cert_of_frame-requires-clause-worst : goal.cert_of_frame-requires-clause-wor
 cert_of_frame-requires-clause-worst c =
     let words = c.args.words.now in
     let state : State = makes_at (making_seen words) c.args.engine.now.state.grid in
-    let same : c.camera.new.self.state ≡ state = ap (λ (e : EngineState). e.state) c.camera.ensures ∙ ap (with_camera words.camera) c.requires.start in
+    let same : c.camera.new.self.state ≡ state =
+    ap (λ (e : EngineState). e.state) c.camera.ensures ∙ ap (with_camera words.camera) c.requires.start in
     let after = c.frame-note.new.self in
-    let grid : after.state.grid ≡ c.args.engine.now.state.grid = ap (λ (s : State). s.grid) (c.frame-note.ensures.done.state ∙ same) in
-    subst (λ (w : HeightField). c.frame-note.result.worst ≡ worst_of (priority_in (makes_at (making_seen words) w)) (mesh_seen after)) (sym grid)
-    (worst-frame state c.camera.new.self after c.frame-note.result (mesh_seen after) same c.frame-note.ensures.done refl)
+    let grid : after.state.grid ≡ c.args.engine.now.state.grid =
+    ap (λ (s : State). s.grid) (c.frame-note.ensures.done.state ∙ same) in
+    subst (λ (w : HeightField). c.frame-note.result.worst
+    ≡ worst_of (priority_in (makes_at (making_seen words) w)) (mesh_seen after)) (sym grid)
+    (worst-frame state c.camera.new.self after c.frame-note.result
+    (mesh_seen after) same c.frame-note.ensures.done refl)
 
 pub returns : goal.returns
 returns c =
     let words = c.args.words.now in
     let state : State = makes_at (making_seen words) c.args.engine.now.state.grid in
-    let same : c.camera.new.self.state ≡ state = ap (λ (e : EngineState). e.state) c.camera.ensures ∙ ap (with_camera words.camera) c.requires.start in
-    let grid : c.frame-note.new.self.state.grid ≡ c.args.engine.now.state.grid = ap (λ (s : State). s.grid) (c.frame-note.ensures.done.state ∙ same) in
-    subst (λ (w : HeightField). IfOk c.cert_of_frame.result (λ cert. IsMade (making_seen words) w cert)) grid c.cert_of_frame.ensures
+    let same : c.camera.new.self.state ≡ state =
+    ap (λ (e : EngineState). e.state) c.camera.ensures ∙ ap (with_camera words.camera) c.requires.start in
+    let grid : c.frame-note.new.self.state.grid ≡ c.args.engine.now.state.grid =
+    ap (λ (s : State). s.grid) (c.frame-note.ensures.done.state ∙ same) in
+    subst (λ (w : HeightField). IfOk c.cert_of_frame.result (λ cert. IsMade (making_seen words) w cert))
+    grid c.cert_of_frame.ensures

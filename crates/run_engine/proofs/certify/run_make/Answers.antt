@@ -6,7 +6,8 @@ use Rattle.run_engine.proofs.certify.run_make.Goals as goal
 
 pub returns-in-Ok-certificate_of-clause-runs : goal.returns-in-Ok-certificate_of-clause-runs
 returns-in-Ok-certificate_of-clause-runs g c =
-    line-runs _ _ _ _ (Make (making_seen c.args.words.now)) c.in-Ok.grid _ _ c.requires.idle c.in-Ok.ensures.ok refl refl
+    line-runs _ _ _ _
+    (Make (making_seen c.args.words.now)) c.in-Ok.grid _ _ c.requires.idle c.in-Ok.ensures.ok refl refl
     (λ files. (c.in-Ok-certificate_of.cert, c.in-Ok-certificate_of.ensures, refl)) c.end_with_cert.ensures.tells
 
 pub returns-in-Err-certificate_of-clause-runs : goal.returns-in-Err-certificate_of-clause-runs

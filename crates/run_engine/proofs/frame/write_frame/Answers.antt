@@ -9,14 +9,16 @@ use Rattle.run_engine.proofs.FrameLemmas.{mesh-text, note-text, view-valid}
 use Rattle.run_engine.proofs.frame.write_frame.Goals as goal
 
 pub show_mesh-requires-clause-view : goal.show_mesh-requires-clause-view
-show_mesh-requires-clause-view g c = view-valid c.view.result c.view.ensures.wedges c.view.ensures.levels c.view.ensures.numbers
+show_mesh-requires-clause-view g c =
+    view-valid c.view.result c.view.ensures.wedges c.view.ensures.levels c.view.ensures.numbers
     c.view.ensures.spacing_low c.view.ensures.spacing_high
 
 pub returns-clause-does : goal.returns-clause-does
 returns-clause-does g c =
     let e = c.args.engine.now in
     let view = c.view.ensures in
-    let acts : ℕ → List ℕ → List ℕ → List Act = λ number text line. WholeMesh c.args.prefix.now number text ∷ (ReportText line ∷ []) in
+    let acts : ℕ → List ℕ → List ℕ → List Act =
+    λ number text line. WholeMesh c.args.prefix.now number text ∷ (ReportText line ∷ []) in
     let text : List ℕ = text_in e.state (triangles_of (picture_seen e c.args.note.now)) in
     does-same _ _ _ _ c.show_mesh.result
     (ap (λ (k : ℕ). acts k (view_text c.view.result) c.as_slice.result.now) c.frames.ensures

@@ -9,8 +9,10 @@ use Rattle.run_engine.proofs.generated.sums_of.Goals as goal
 pub loop-k-init : goal.loop-k-init
 loop-k-init c =
     let made = c.in_ok-engine.ensures in
-    gone-begins c.args.n c.args.seed c.in_ok-grid.grid c.in_ok-engine.engine c.none-sums.result c.in_ok-grid.ensures.value
-    (followed-begins c.in_ok-grid.grid made_spacing made_budget c.in_ok-engine.engine made.state made.most made.base made.odometer made.frames made.splits made.merges)
+    gone-begins c.args.n c.args.seed c.in_ok-grid.grid c.in_ok-engine.engine c.none-sums.result
+    c.in_ok-grid.ensures.value
+    (followed-begins c.in_ok-grid.grid made_spacing made_budget c.in_ok-engine.engine made.state made.most made.base
+    made.odometer made.frames made.splits made.merges)
     c.none-sums.ensures
 
 pub returns : goal.returns

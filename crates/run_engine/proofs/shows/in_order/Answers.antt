@@ -10,11 +10,13 @@ pub returns-clause-numbers : goal.returns-clause-numbers
 returns-clause-numbers c =
     let n : ℕ = c.args.engine.now.state.grid.n in
     let has : ℕ → Bool = among (pool_members c.args.engine.now.mesh.pool) in
-    c.view-view.ensures.numbers ∙ (ap (numbers_of n) c.view-view.ensures.leaves ∙ (sym (numbers-strip_of n has) ∙ ap (numbers_of n) (sym c.requires.order)))
+    c.view-view.ensures.numbers ∙ (ap (numbers_of n) c.view-view.ensures.leaves
+    ∙ (sym (numbers-strip_of n has) ∙ ap (numbers_of n) (sym c.requires.order)))
 
 pub returns-clause-levels : goal.returns-clause-levels
 returns-clause-levels c =
     let n : ℕ = c.args.engine.now.state.grid.n in
     let has : ℕ → Bool = among (pool_members c.args.engine.now.mesh.pool) in
     let P : List ℕ → Type 0 = λ l. All (λ a. level_of a ≤ 2 * n) l in
-    subst P (sym c.requires.order) (levels-strip_of n has (subst P c.view-view.ensures.leaves c.view-view.ensures.levels))
+    subst P (sym c.requires.order)
+    (levels-strip_of n has (subst P c.view-view.ensures.leaves c.view-view.ensures.levels))

@@ -3,7 +3,9 @@ use Rattle.std.proofs.lemmas.Grind.{common_steps}
 use Rattle.run_files.specs.GridStop.{stop_for}
 use Rattle.run_files.specs.declared.grid_file.GridStop.TheVariants.{Refused, NoMemory}
 use Rattle.run_laws.proofs.FileLemmas.{piece-read, stops-unopened}
-use Rattle.run_files.proofs.ReadingLemmas.{reading-begin, reading-more, reading-refused, reading-unsettled, reading-failed, start-unsettled, nothing-undecided, reading-header, grid-header, grid-ended, stop_for-refused, stop_for-memory}
+use Rattle.run_files.proofs.ReadingLemmas.{reading-begin, reading-more, reading-refused, reading-unsettled}
+use Rattle.run_files.proofs.ReadingLemmas.{reading-failed, start-unsettled, nothing-undecided, reading-header}
+use Rattle.run_files.proofs.ReadingLemmas.{grid-header, grid-ended, stop_for-refused, stop_for-memory}
 use Rattle.run_files.proofs.grid_file.read_grid.Goals as goal
 
 pub pieces-init : goal.pieces-init
@@ -44,26 +46,36 @@ pieces-preserved g c = record {
 pub returns-in-Err-clause-no_memory : goal.returns-in-Err-clause-no_memory
 returns-in-Err-clause-no_memory g c is all told =
     let wanted = stop_for-memory c.in-Err.fault (let e : stop_for c.in-Err.fault ≡ NoMemory = cc in e) in
-    let gives = piece-read _ c.in-Ok-read.count _ _ c.in-Ok-read.ensures.bytes.within c.in-Ok-read.ensures.bytes.gives in
+    let gives =
+    piece-read _ c.in-Ok-read.count _ _ c.in-Ok-read.ensures.bytes.within c.in-Ok-read.ensures.bytes.gives in
     elim (c.in-Err.ensures.no_memory (ap Err wanted)) [
-      | inl settled ↦ absurd (reading-unsettled _ _ _ _ c.grids_and_texts.ensures.others c.pieces.invariant.reading settled)
-      | inr ends ↦ reading-header _ _ _ _ _ c.in-Ok-read.count _ c.pieces.invariant.reading c.in-Ok-read.ensures.bytes.takes gives ends all told
+      | inl settled ↦
+          absurd (reading-unsettled _ _ _ _ c.grids_and_texts.ensures.others c.pieces.invariant.reading settled)
+      | inr ends ↦ reading-header _ _ _ _ _ c.in-Ok-read.count _ c.pieces.invariant.reading
+          c.in-Ok-read.ensures.bytes.takes gives ends all told
     ]
 
 pub returns-then-count-eq0-clause-header : goal.returns-then-count-eq0-clause-header
 returns-then-count-eq0-clause-header g c =
-    grid-header _ _ _ _ c.pieces.invariant.reading (λ unread is. (c.in-Ok-read.ensures.bytes.empty unread is).0 c.if-count-eq0.true)
-    c.finished.result c.grids_and_texts.ensures.headers c.finished.ensures.ok _ c.in-Ok-read.count c.if-count-eq0.true c.in-Ok-read.ensures.bytes.takes
+    grid-header _ _ _ _ c.pieces.invariant.reading
+    (λ unread is. (c.in-Ok-read.ensures.bytes.empty unread is).0 c.if-count-eq0.true)
+    c.finished.result c.grids_and_texts.ensures.headers c.finished.ensures.ok _ c.in-Ok-read.count c.if-count-eq0.true
+    c.in-Ok-read.ensures.bytes.takes
 
 pub returns-then-count-eq0-clause-ended : goal.returns-then-count-eq0-clause-ended
 returns-then-count-eq0-clause-ended g c =
-    grid-ended _ _ _ _ c.pieces.invariant.reading (λ unread is. (c.in-Ok-read.ensures.bytes.empty unread is).0 c.if-count-eq0.true)
-    _ _ _ c.in-Ok-read.count _ c.finished.result (c.in-Ok-read.ensures.only.files ∙ c.pieces.invariant.only.files) c.if-count-eq0.true (c.in-Ok-read.ensures.ends.at_end c.if-count-eq0.true)
+    grid-ended _ _ _ _ c.pieces.invariant.reading
+    (λ unread is. (c.in-Ok-read.ensures.bytes.empty unread is).0 c.if-count-eq0.true)
+    _ _ _ c.in-Ok-read.count _ c.finished.result (c.in-Ok-read.ensures.only.files
+    ∙ c.pieces.invariant.only.files) c.if-count-eq0.true (c.in-Ok-read.ensures.ends.at_end c.if-count-eq0.true)
     c.in-Ok-read.ensures.bytes.told c.in-Ok-read.ensures.bytes.takes
 
 pub returns-in_default-read-clause-undecided : goal.returns-in_default-read-clause-undecided
 returns-in_default-read-clause-undecided g c is all told =
-    reading-failed _ _ _ _ _ _ c.pieces.invariant.reading c.pieces.invariant.unsettled c.in_default-read.ensures.bytes.kept (c.in_default-read.ensures.ends.failed ∙ c.pieces.invariant.open_file) all told
+    reading-failed _ _ _ _ _ _ c.pieces.invariant.reading c.pieces.invariant.unsettled
+    c.in_default-read.ensures.bytes.kept
+    (c.in_default-read.ensures.ends.failed ∙ c.pieces.invariant.open_file) all told
 
 pub returns-in_default-clause-undecided : goal.returns-in_default-clause-undecided
-returns-in_default-clause-undecided g c is all told = stops-unopened _ _ _ _ (grind (arith, common_steps)) nothing-undecided
+returns-in_default-clause-undecided g c is all told =
+    stops-unopened _ _ _ _ (grind (arith, common_steps)) nothing-undecided

@@ -9,7 +9,8 @@ use Rattle.run_files.proofs.grid_file.read_grid.Given as goal
 -- the reader has taken a prefix of the file, and the shelf has not failed
 abbrev pub invariant-pieces : goal.invariant-pieces
 invariant-pieces g l = record {
-  reading : IsReading (g.O.Outside.moment l.fn.outside).shelf.files (g.O.Outside.moment l.outside).shelf.rest l.name l.reader;
+  reading : IsReading (g.O.Outside.moment l.fn.outside).shelf.files
+      (g.O.Outside.moment l.outside).shelf.rest l.name l.reader;
   unsettled : (fault : PgmFault) → StaysRefused l.reader fault → ⊥;
   few : taken l.reader ≤ 2 ^ 28;
   open_file : (g.O.Outside.moment l.outside).shelf.ended ≡ false;
@@ -17,7 +18,8 @@ invariant-pieces g l = record {
   only : OnlyReads (g.O.Outside.moment l.fn.outside) (g.O.Outside.moment l.outside);
   opens : (g.O.Outside.moment l.outside).shelf.opens ≡ next_count (g.O.Outside.moment l.fn.outside).shelf.opens;
   faults : (g.O.Outside.moment l.outside).shelf_faults ≡ (g.O.Outside.moment l.fn.outside).shelf_faults;
-  in_time : IsInTime (g.O.Outside.moment l.fn.outside).shelf_late (g.O.Outside.moment l.fn.outside).shelf_faults (g.O.Outside.moment l.outside).shelf_late;
+  in_time : IsInTime (g.O.Outside.moment l.fn.outside).shelf_late (g.O.Outside.moment l.fn.outside).shelf_faults
+      (g.O.Outside.moment l.outside).shelf_late;
 }
 
 abbrev pub decreases-pieces : goal.decreases-pieces

@@ -8,7 +8,8 @@ returns-clause-items c =
     let before = c.args.text.now.items in
     let first = c.push_placed.new.text.items in
     words-numbers before first c.push_placed-2.new.text.items c.push_bytes.new.text.items c.push_decimal.new.text.items
-    (codes " deviation ") (decimal c.args.deviation) (codes " over ") (decimal (2 ^ c.args.n)) (codes " error ") (exact_decimal c.args.deviation c.args.n)
+    (codes " deviation ") (decimal c.args.deviation) (codes " over ") (decimal (2 ^ c.args.n)) (codes " error ")
+    (exact_decimal c.args.deviation c.args.n)
     (c.push_placed.ensures.items ∙ ap (λ (k : ℕ). before ++ (codes " deviation " ++ decimal k)) c.from.ensures)
     (c.push_placed-2.ensures.items ∙ ap (λ (k : ℕ). first ++ (codes " over " ++ decimal k)) c.pow.ensures)
     c.push_bytes.ensures.items c.push_decimal.ensures.items

@@ -10,7 +10,8 @@ use Rattle.run_fit_check.proofs.fit_cert_file.read_fit_cert.Given as goal
 -- the bytes that were read were taken, and the shelf has not failed
 abbrev pub invariant-pieces : goal.invariant-pieces
 invariant-pieces g l = record {
-  reading : IsReadingCert l.n (g.O.Outside.moment l.fn.outside).shelf.files (g.O.Outside.moment l.outside).shelf.rest l.name l.stage;
+  reading : IsReadingCert l.n (g.O.Outside.moment l.fn.outside).shelf.files
+      (g.O.Outside.moment l.outside).shelf.rest l.name l.stage;
   level : l.stage.reader.n ≡ l.n;
   counted : IsFitStageCounted l.stage;
   open_file : (g.O.Outside.moment l.outside).shelf.ended ≡ false;
@@ -18,9 +19,12 @@ invariant-pieces g l = record {
   only : OnlyReads (g.O.Outside.moment l.fn.outside) (g.O.Outside.moment l.outside);
   opens : (g.O.Outside.moment l.outside).shelf.opens ≡ next_count (g.O.Outside.moment l.fn.outside).shelf.opens;
   faults : (g.O.Outside.moment l.outside).shelf_faults ≡ (g.O.Outside.moment l.fn.outside).shelf_faults;
-  in_time : IsInTime (g.O.Outside.moment l.fn.outside).shelf_late (g.O.Outside.moment l.fn.outside).shelf_faults (g.O.Outside.moment l.outside).shelf_late;
+  in_time : IsInTime (g.O.Outside.moment l.fn.outside).shelf_late (g.O.Outside.moment l.fn.outside).shelf_faults
+      (g.O.Outside.moment l.outside).shelf_late;
 }
 
 -- each byte makes a line longer, or is the last of an accepted line
 abbrev pub decreases-pieces : goal.decreases-pieces
-decreases-pieces g l = (MOST_LINE_BYTES + 1) * (3 + MOST_REASONS + MOST_REASONS) - ((MOST_LINE_BYTES + 1) * l.stage.lines + length l.stage.part.items)
+decreases-pieces g l =
+    (MOST_LINE_BYTES + 1) * (3 + MOST_REASONS + MOST_REASONS)
+    - ((MOST_LINE_BYTES + 1) * l.stage.lines + length l.stage.part.items)

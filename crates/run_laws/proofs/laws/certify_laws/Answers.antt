@@ -7,6 +7,7 @@ pub returns : goal.returns
 returns c = record {
   fit_read_back = fit-back c.fit_text_laws.ensures.back c.fit_text_laws.ensures.ended c.fit_text_laws.ensures.lines;
   accepted = λ words name m grid cert check files is range made budget spacing text mesh.
-      made-accepted c.text_laws.ensures.back c.text_laws.ensures.ended c.text_laws.ensures.lines m grid cert range (command-budget words name (Make m) is) made
+      made-accepted c.text_laws.ensures.back c.text_laws.ensures.ended c.text_laws.ensures.lines m grid cert range
+      (command-budget words name (Make m) is) made
       check files budget spacing text mesh;
 }

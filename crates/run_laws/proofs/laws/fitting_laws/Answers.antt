@@ -11,7 +11,8 @@ returns-clause-best c = fit-best
 
 pub returns-clause-fitted : goal.returns-clause-fitted
 returns-clause-fitted c words files f grid before now old new all status run there ends read memory =
-    fit-keeps c.grids_and_texts.ensures.texts words files f grid run before now old new all there status ends read memory
+    fit-keeps c.grids_and_texts.ensures.texts words files f grid run before now old new all
+    there status ends read memory
 
 pub returns-clause-certified : goal.returns-clause-certified
 returns-clause-certified c words files check grid before now old new status is ends done =

@@ -1,4 +1,5 @@
-use Rattle.run_laws.proofs.StatementLemmas.{outcome-follows, engine-follows, run-fault-follows, text-fault-follows, complete-follows, faults-follow}
+use Rattle.run_laws.proofs.StatementLemmas.{outcome-follows, engine-follows, run-fault-follows, text-fault-follows}
+use Rattle.run_laws.proofs.StatementLemmas.{complete-follows, faults-follow}
 use Rattle.run_laws.proofs.statement.statement_laws.Goals as goal
 
 pub returns-clause-outcome : goal.returns-clause-outcome

@@ -21,7 +21,7 @@ returns-in-Ok-made-clause-runs g c =
     let P : Show → Type 0 = λ show. LeastFollows frames show (first_walk s c.in-Ok.grid) [] in
     let Q : Show → Outcome → Type 0 = λ show end. Leaves show (LeastFollows run.new.frames) end in
     let begins : (files : List NamedFile) → (g.O.Outside.moment c.args.outside.now).shelf.files ≡ Some files
-        → Begins s.show (LeastFollows frames) (first_walk s c.in-Ok.grid) =
+    → Begins s.show (LeastFollows frames) (first_walk s c.in-Ok.grid) =
     λ files told. (let range = c.state_laws.ensures.levels c.in-Ok.grid _ (read.is_grid files told) in
     first-begins s c.in-Ok.grid c.requires.accepted.budget_low range.0 range.1 (LeastFollows frames)
     (subst P (sym shown) c.in-Ok-made.ensures.begins) (subst TellsFrames (sym shown) (λ ps. refl))) in

@@ -9,19 +9,23 @@ returns-then-byte-eq10-clause-longer g c =
 
 pub returns-in-Ok-clause-outcome : goal.returns-in-Ok-clause-outcome
 returns-in-Ok-clause-outcome g c before show start read keeps at =
-    takes-refusal before _ show (g.K.FrameMaker.follows c.args.frames.now) start read c.args.stage.now at _ c.in-Some.fault
-    (byte-settles before _ show (g.K.FrameMaker.follows c.args.frames.now) start read c.args.stage.now at c.args.byte c.in-Some.fault c.if-byte-eq10.false c.in-Some.ensures.some)
+    takes-refusal before _ show (g.K.FrameMaker.follows c.args.frames.now) start read
+    c.args.stage.now at _ c.in-Some.fault
+    (byte-settles before _ show (g.K.FrameMaker.follows c.args.frames.now) start read c.args.stage.now at c.args.byte
+    c.in-Some.fault c.if-byte-eq10.false c.in-Some.ensures.some)
     c.args.stage.now _ c.in-Ok.ensures.does.done
 
 pub returns-in-Err-clause-outcome : goal.returns-in-Err-clause-outcome
 returns-in-Err-clause-outcome g c before show start read keeps at =
     takes-cut before _ show (g.K.FrameMaker.follows c.args.frames.now) start read c.args.stage.now at _ c.in-Some.fault
-    (byte-settles before _ show (g.K.FrameMaker.follows c.args.frames.now) start read c.args.stage.now at c.args.byte c.in-Some.fault c.if-byte-eq10.false c.in-Some.ensures.some)
+    (byte-settles before _ show (g.K.FrameMaker.follows c.args.frames.now) start read c.args.stage.now at c.args.byte
+    c.in-Some.fault c.if-byte-eq10.false c.in-Some.ensures.some)
     c.args.stage.now _ c.in-Err.ensures.does.cut_short
 
 pub returns-in-None-clause-outcome : goal.returns-in-None-clause-outcome
 returns-in-None-clause-outcome g c before show start read keeps at = record {
-  ok = takes-byte before _ show (g.K.FrameMaker.follows c.args.frames.now) start read c.args.stage.now at _ c.args.byte c.if-byte-eq10.false (c.settled_fault.ensures.room c.in-None.is)
+  ok = takes-byte before _ show (g.K.FrameMaker.follows c.args.frames.now) start read c.args.stage.now at _ c.args.byte
+      c.if-byte-eq10.false (c.settled_fault.ensures.room c.in-None.is)
       (c.settled_fault.ensures.lines c.in-None.is) refl c.push.ensures.items;
   refused = λ e. cc;
   failed = λ e. cc;

@@ -17,7 +17,8 @@ invariant-loop-byte g l = record {
       (read ++ take l.byte-index l.piece) l.stage;
   ready : g.K.FrameMaker.is_ready l.frames l.stage.lines;
   stage : IsScriptStage l.stage;
-  longer : 201 * l.fn.stage.lines + length l.fn.stage.part.items + l.byte-index ≤ 201 * l.stage.lines + length l.stage.part.items;
+  longer : 201 * l.fn.stage.lines + length l.fn.stage.part.items + l.byte-index
+      ≤ 201 * l.stage.lines + length l.stage.part.items;
   same : g.O.Outside.is_same l.fn.outside l.outside;
   only : OnlyTakes {T = Unit {0}} (g.O.Outside.moment l.fn.outside) (g.O.Outside.moment l.outside) (Ok tt);
 }

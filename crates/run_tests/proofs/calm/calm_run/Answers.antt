@@ -7,7 +7,8 @@ returns-clause-complete c accepted =
     let cause = c.roam.ensures.causes in
     let faults = c.statement_laws.ensures.faults _ _ _ _ cause in
     calm-complete _ _ _ (calm-read _ cause.read) faults.writes
-    (λ same. c.statement_laws.ensures.complete _ _ _ _ _ _ c.roam.ensures.ends cause (λ named. refl) accepted refl refl same)
+    (λ same. c.statement_laws.ensures.complete _ _ _ _ _ _ c.roam.ensures.ends cause
+    (λ named. refl) accepted refl refl same)
 
 pub returns-clause-read : goal.returns-clause-read
 returns-clause-read c = calm-read _ c.roam.ensures.causes.read

@@ -1,7 +1,8 @@
 use Rattle.std.proofs.Common.{string_bytes, sym, ◌∙◌, arith, rules}
 use Rattle.run_words.proofs.WordLemmas.{eight-words, none-of-eight, none-of-nine}
 use Rattle.run_words.proofs.certify_words.long_words.Goals as goal
-use Rattle.run_words.proofs.certify_words.long_words.Goals.{in_default-via-then-words-lt8, in_default-via-else-words-lt8+else-words-lt9}
+use Rattle.run_words.proofs.certify_words.long_words.Goals.{in_default-via-then-words-lt8}
+use Rattle.run_words.proofs.certify_words.long_words.Goals.{in_default-via-else-words-lt8+else-words-lt9}
 
 pub returns-in-len8-clause-value : goal.returns-in-len8-clause-value
 returns-in-len8-clause-value c =
@@ -16,9 +17,11 @@ returns-in-len8-clause-value c =
       c.as_str-in-len8-7.ensures.value,
     ) at c.eight_words.ensures.value in
     value
-    ∙ sym (eight-words string_bytes c.args.words.now c.first-item.result c.task-item.result c.grid-item.result c.i-item.result c.j-item.result
+    ∙ sym (eight-words string_bytes c.args.words.now c.first-item.result c.task-item.result c.grid-item.result
+    c.i-item.result c.j-item.result
     c.k-item.result c.number-item.result c.spacing-item.result (omega arith) (omega arith)
-    c.first-item.is c.task-item.is c.grid-item.is c.i-item.is c.j-item.is c.k-item.is c.number-item.is c.spacing-item.is)
+    c.first-item.is c.task-item.is c.grid-item.is c.i-item.is c.j-item.is c.k-item.is
+    c.number-item.is c.spacing-item.is)
 
 pub returns-in_default-clause-value : goal.returns-in_default-clause-value
 returns-in_default-clause-value c = elim c.in_default.branch [

@@ -15,13 +15,22 @@ unreachable-requires g c =
 pub place-requires-clause-few : goal.place-requires-clause-few
 place-requires-clause-few g c =
     let room = add_room g.met.K.Ord.total c.requires.sound c.args.entry c.requires.in_range c.requires.vacant in
-    omega (arith, room.0, c.requires.sound.few, ap length c.deref_mut.ensures.value, ap length c.in-Ok.ensures.items, length_push c.args.entries.now.items c.args.entry)
+    omega (
+      arith,
+      room.0,
+      c.requires.sound.few,
+      ap length c.deref_mut.ensures.value,
+      ap length c.in-Ok.ensures.items,
+      length_push c.args.entries.now.items c.args.entry,
+    )
 
 -- the entry is held past the last one
-held : (g : Over) (c : After-deref_mut g) → IsHeld g.met.K.Ord.total c.deref_mut.result.now c.args.places.now.items c.len-at.result c.args.entry
+held : (g : Over) (c : After-deref_mut g) →
+    IsHeld g.met.K.Ord.total c.deref_mut.result.now c.args.places.now.items c.len-at.result c.args.entry
     (set (keys_of c.args.entries.now.items c.args.places.now.items) c.args.entry.slot.0 (Some c.args.entry.key))
 held g c =
-    IsHeld-add g.met.K.Ord.total c.requires.sound c.args.entry c.requires.in_range c.requires.vacant c.deref_mut.result.now c.len-at.result (c.deref_mut.ensures.value ∙ c.in-Ok.ensures.items) (omega arith)
+    IsHeld-add g.met.K.Ord.total c.requires.sound c.args.entry c.requires.in_range c.requires.vacant
+    c.deref_mut.result.now c.len-at.result (c.deref_mut.ensures.value ∙ c.in-Ok.ensures.items) (omega arith)
 
 pub place-requires-clause-linked : goal.place-requires-clause-linked
 place-requires-clause-linked g c =
@@ -35,6 +44,12 @@ returns g c =
     let held = held g (goal.at.returns g c).After-deref_mut in
     let same = rw c.deref_mut-in-Ok.ensures.value at c.place.ensures.same in
     let places = ap length c.deref_mut-in-Ok.ensures.value in record {
-      sound = IsSound-placed g.met.K.Ord.total held c.push.new.self c.args.places.now c.place.new.entries c.place.new.places (omega arith) (omega arith) same c.push.new.self.cap c.place.ensures.linked c.place.ensures.order (omega arith) (omega (arith, c.requires.sound.room, c.in-Ok.ensures.capacity)) (omega (arith, c.requires.sound.few));
-      keys = keys_of-placed g.met.K.Ord.total held c.push.new.self c.args.places.now c.place.new.entries c.place.new.places (omega arith) (omega arith) same;
+      sound =
+          IsSound-placed g.met.K.Ord.total held c.push.new.self c.args.places.now c.place.new.entries c.place.new.places
+          (omega arith) (omega arith) same c.push.new.self.cap c.place.ensures.linked c.place.ensures.order
+          (omega arith) (omega (arith, c.requires.sound.room, c.in-Ok.ensures.capacity))
+          (omega (arith, c.requires.sound.few));
+      keys =
+          keys_of-placed g.met.K.Ord.total held c.push.new.self c.args.places.now c.place.new.entries c.place.new.places
+          (omega arith) (omega arith) same;
     }

@@ -18,16 +18,24 @@ held : (g : Over) (c : After-deref_mut g) → (c.index.result.now < length c.arg
     (set (keys_of c.args.entries.now.items c.args.places.now.items) c.args.entry.slot.0 (Some c.args.entry.key))
 held g c =
     let entry = IsFound-present g.met.K.Ord.total c.requires.sound c.args.entry.slot.0 c.requires.present in
-    let is_at = get_or_read c.args.places.now.items c.args.entry.slot.0 c.index.result.now entry.2.in_places c.index.ensures 0 in (
+    let is_at = get_or_read c.args.places.now.items c.args.entry.slot.0 c.index.result.now
+    entry.2.in_places c.index.ensures 0 in (
       omega (arith, entry.2.inside, is_at),
-      IsHeld-replace g.met.K.Ord.total c.requires.sound c.args.entry entry.0 entry.1 entry.2 c.index.result.now is_at c.deref_mut.result.now c.deref_mut.ensures.value,
+      IsHeld-replace g.met.K.Ord.total c.requires.sound c.args.entry entry.0 entry.1 entry.2 c.index.result.now is_at
+          c.deref_mut.result.now c.deref_mut.ensures.value,
     )
 
 pub place-requires : goal.place-requires
 place-requires g c =
     let held = held g (goal.at.place-requires g c).After-deref_mut in record {
       in_heap = omega (arith, held.0, ap length c.deref_mut.ensures.value);
-      few = omega (arith, entries_few c.args.entries.now.items c.args.places.now.items, c.requires.sound.count, c.requires.sound.few, ap length c.deref_mut.ensures.value);
+      few = omega (
+        arith,
+        entries_few c.args.entries.now.items c.args.places.now.items,
+        c.requires.sound.count,
+        c.requires.sound.few,
+        ap length c.deref_mut.ensures.value,
+      );
       linked = rw c.deref_mut-2.ensures.value held.1.linked;
       order = held.1.order;
     }
@@ -38,6 +46,10 @@ returns g c =
     let same = rw c.deref_mut-2.ensures.value at c.place.ensures.same in
     let entries = ap length c.deref_mut.ensures.value in
     let places = ap length c.deref_mut-2.ensures.value in record {
-      sound = IsSound-placed g.met.K.Ord.total held c.args.entries.now c.args.places.now c.place.new.entries c.place.new.places (omega arith) (omega arith) same c.args.entries.now.cap c.place.ensures.linked c.place.ensures.order (omega arith) (omega (arith, c.requires.sound.room)) (omega (arith, c.requires.sound.few));
-      keys = keys_of-placed g.met.K.Ord.total held c.args.entries.now c.args.places.now c.place.new.entries c.place.new.places (omega arith) (omega arith) same;
+      sound = IsSound-placed g.met.K.Ord.total held c.args.entries.now c.args.places.now c.place.new.entries
+          c.place.new.places (omega arith)
+          (omega arith) same c.args.entries.now.cap c.place.ensures.linked c.place.ensures.order (omega arith)
+          (omega (arith, c.requires.sound.room)) (omega (arith, c.requires.sound.few));
+      keys = keys_of-placed g.met.K.Ord.total held c.args.entries.now c.args.places.now c.place.new.entries
+          c.place.new.places (omega arith) (omega arith) same;
     }

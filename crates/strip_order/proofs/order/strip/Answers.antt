@@ -15,8 +15,10 @@ arrange-lower-requires c =
       2 * n,
       has,
       leaves_under (2 * n) has 3,
-      subst (λ z. IsFront (2 * n) has z (leaves_under (2 * n) has 3) c.copy_from_slice.new.self) (sym c.half.ensures.value)
-          (IsFront-lower n has c.args.leaves.now c.copy_from_slice.new.self c.requires.leaves.2 c.copy_from_slice.ensures.after),
+      subst (λ z. IsFront (2 * n) has z (leaves_under (2 * n) has 3) c.copy_from_slice.new.self)
+          (sym c.half.ensures.value)
+          (IsFront-lower n has c.args.leaves.now c.copy_from_slice.new.self c.requires.leaves.2
+          c.copy_from_slice.ensures.after),
     )
 
 pub arrange-requires : goal.arrange-requires
@@ -24,27 +26,33 @@ arrange-requires c =
     let n = c.requires.leaves.0 in
     let has = c.requires.leaves.1 in
     let of = c.requires.leaves.2 in
-    let lower = IsArranged-same c.half.result 2 c.copy_from_slice.new.self c.arrange-lower.new.run c.arrange-lower.result c.half.ensures.value
+    let lower = IsArranged-same c.half.result 2 c.copy_from_slice.new.self c.arrange-lower.new.run
+    c.arrange-lower.result c.half.ensures.value
     c.arrange-lower.ensures.arranged (2 * n) has (leaves_under (2 * n) has 3)
     (IsFront-lower n has c.args.leaves.now c.copy_from_slice.new.self of c.copy_from_slice.ensures.after) in (
       2 * n,
       has,
       [],
       subst (λ z. IsFront (2 * n) has z [] c.split_at_mut-below.result.1.now) (sym c.half-2.ensures.value)
-          (IsFront-upper n has c.args.leaves.now c.arrange-lower.new.run c.split_at_mut-below.result.1.now c.arrange-lower.result of lower
+          (IsFront-upper n has c.args.leaves.now c.arrange-lower.new.run c.split_at_mut-below.result.1.now
+          c.arrange-lower.result of lower
           c.split_at_mut-below.ensures.back),
     )
 
 pub returns-clause-order : goal.returns-clause-order
 returns-clause-order c n has of =
-    let lower = IsArranged-same c.half.result 2 c.copy_from_slice.new.self c.arrange-lower.new.run c.arrange-lower.result c.half.ensures.value
+    let lower = IsArranged-same c.half.result 2 c.copy_from_slice.new.self c.arrange-lower.new.run
+    c.arrange-lower.result c.half.ensures.value
     c.arrange-lower.ensures.arranged (2 * n) has (leaves_under (2 * n) has 3)
     (IsFront-lower n has c.args.leaves.now c.copy_from_slice.new.self of c.copy_from_slice.ensures.after) in
-    let upper = IsArranged-same c.half-2.result 3 c.split_at_mut-below.result.1.now c.arrange.new.run c.arrange.result c.half-2.ensures.value
+    let upper = IsArranged-same c.half-2.result 3 c.split_at_mut-below.result.1.now c.arrange.new.run
+    c.arrange.result c.half-2.ensures.value
     c.arrange.ensures.arranged (2 * n) has []
-    (IsFront-upper n has c.args.leaves.now c.arrange-lower.new.run c.split_at_mut-below.result.1.now c.arrange-lower.result of lower
+    (IsFront-upper n has c.args.leaves.now c.arrange-lower.new.run c.split_at_mut-below.result.1.now
+    c.arrange-lower.result of lower
     c.split_at_mut-below.ensures.back) in
-    strip_of-parts n has c.arrange-lower.new.run c.split_at_mut-below.result.0.now c.arrange.new.run c.arrange-lower.result c.arrange.result
+    strip_of-parts n has c.arrange-lower.new.run c.split_at_mut-below.result.0.now c.arrange.new.run
+    c.arrange-lower.result c.arrange.result
     lower c.split_at_mut-below.ensures.front upper
 
 pub returns-clause-same : goal.returns-clause-same

@@ -23,4 +23,5 @@ pub returns-clause-each_once : goal.returns-clause-each_once
 returns-clause-each_once c = AreLeaves-ancestors_of
 
 pub returns-clause-same_count : goal.returns-clause-same_count
-returns-clause-same_count c n others h = length-counts (leaves_of n (ancestors_of others)) others (AreLeaves-ancestors_of n others h).counts
+returns-clause-same_count c n others h =
+    length-counts (leaves_of n (ancestors_of others)) others (AreLeaves-ancestors_of n others h).counts

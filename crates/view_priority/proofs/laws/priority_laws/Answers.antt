@@ -1,14 +1,16 @@
 use Rattle.std.proofs.Common.{◌+◌, ◌*◌, arith}
 use Rattle.mesh_defs.specs.Priority.{priority_of}
 use Rattle.view_priority.proofs.NestLemmas.{box_of-child}
-use Rattle.view_priority.proofs.PriorityLemmas.{priority_of-inside, priority_of-none, parent-by_children, no_rank-before}
+use Rattle.view_priority.proofs.PriorityLemmas.{priority_of-inside, priority_of-none, parent-by_children}
+use Rattle.view_priority.proofs.PriorityLemmas.{no_rank-before}
 use Rattle.view_priority.proofs.laws.priority_laws.Goals as goal
 
 pub returns-clause-left_box : goal.returns-clause-left_box
 returns-clause-left_box c = λ n heights spacing a splittable.
     let low = c.wedge_laws.ensures.low n heights a splittable in
     let high = c.wedge_laws.ensures.high n heights a splittable in
-    box_of-child n heights spacing a (2 * a) 0 (omega arith) (omega arith) (c.corner_laws.ensures.left n a splittable.low)
+    box_of-child n heights spacing a (2 * a) 0 (omega arith) (omega arith)
+    (c.corner_laws.ensures.left n a splittable.low)
 
 pub returns-clause-right_box : goal.returns-clause-right_box
 returns-clause-right_box c = λ n heights spacing a splittable.

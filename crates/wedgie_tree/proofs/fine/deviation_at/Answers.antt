@@ -13,16 +13,22 @@ overflow_add-places c =
 pub height_in-requires : goal.height_in-requires
 height_in-requires c =
     let w : AreWithin c.args.places (length c.args.grid.now.heights) =
-    AreWithin-at address_laws c.args.grid.now c.args.tri c.args.places c.points-few.ensures.valid c.requires.at in omega (arith, w.v0, w.v1)
+    AreWithin-at address_laws c.args.grid.now c.args.tri c.args.places c.points-few.ensures.valid c.requires.at in
+    omega (arith, w.v0, w.v1)
 
 pub height_in-requires-2 : goal.height_in-requires-2
-height_in-requires-2 c = (AreWithin-at address_laws c.args.grid.now c.args.tri c.args.places c.points-few.ensures.valid c.requires.at).v0
+height_in-requires-2 c =
+    (AreWithin-at address_laws c.args.grid.now c.args.tri c.args.places c.points-few.ensures.valid c.requires.at).v0
 
 pub height_in-requires-3 : goal.height_in-requires-3
-height_in-requires-3 c = (AreWithin-at address_laws c.args.grid.now c.args.tri c.args.places c.points-few.ensures.valid c.requires.at).v1
+height_in-requires-3 c =
+    (AreWithin-at address_laws c.args.grid.now c.args.tri c.args.places c.points-few.ensures.valid c.requires.at).v1
 
 pub returns : goal.returns
 returns c =
-    let by_places : c.abs_diff.result ≡ apart (2 * slice_index c.args.grid.now.heights ((c.args.places.v0 + c.args.places.v1) / 2))
-    (slice_index c.args.grid.now.heights c.args.places.v0 + slice_index c.args.grid.now.heights c.args.places.v1) = omega arith in
-    by_places ∙ deviation-at address_laws c.args.grid.now.n c.args.grid.now.heights c.args.tri c.args.places c.requires.splittable c.requires.at
+    let by_places : c.abs_diff.result
+    ≡ apart (2 * slice_index c.args.grid.now.heights ((c.args.places.v0 + c.args.places.v1) / 2))
+    (slice_index c.args.grid.now.heights c.args.places.v0 + slice_index c.args.grid.now.heights c.args.places.v1) =
+    omega arith in
+    by_places ∙ deviation-at address_laws c.args.grid.now.n c.args.grid.now.heights c.args.tri c.args.places
+    c.requires.splittable c.requires.at

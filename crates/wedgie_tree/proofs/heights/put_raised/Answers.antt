@@ -10,7 +10,8 @@ use Rattle.wedgie_tree.proofs.heights.put_raised.Goals as goal
 
 pub put_row-requires-clause-bounded : goal.put_row-requires-clause-bounded
 put_row-requires-clause-bounded c =
-    raised-row-bounded c.args.grid.now.maxval c.maxval.result (to_z w32 (of_z w32 c.args.dz)) c.args.row.now c.raise_row.new.row
+    raised-row-bounded c.args.grid.now.maxval c.maxval.result
+    (to_z w32 (of_z w32 c.args.dz)) c.args.row.now c.raise_row.new.row
     c.raise_row.ensures.value c.maxval.ensures.value
 
 pub returns-clause-there : goal.returns-clause-there
@@ -19,5 +20,7 @@ returns-clause-there c =
     height_at c.args.grid.now.n c.put_row.new.grid.heights (c.args.x + k) c.args.y
     ≡ clamped c.args.grid.now.maxval (pos (slice_index c.args.row.now k) +ℤ z) in
     subst Raised (to_z-of_z w32 c.args.dz c.ranges.dz)
-    (raised-row-there c.args.grid.now.n c.args.grid.now.maxval c.args.x c.args.y c.maxval.result (to_z w32 (of_z w32 c.args.dz)) c.args.row.now
-    c.raise_row.new.row c.put_row.new.grid.heights c.raise_row.ensures.value c.maxval.ensures.value c.put_row.ensures.there)
+    (raised-row-there c.args.grid.now.n c.args.grid.now.maxval c.args.x c.args.y c.maxval.result
+    (to_z w32 (of_z w32 c.args.dz)) c.args.row.now
+    c.raise_row.new.row c.put_row.new.grid.heights c.raise_row.ensures.value c.maxval.ensures.value
+    c.put_row.ensures.there)

@@ -14,6 +14,7 @@ returns-clause-there c =
     height_at c.args.grid.now.n c.put_raised.new.grid.heights i c.args.y
     ≡ clamped c.args.grid.now.maxval (pos (height_at c.args.grid.now.n c.args.grid.now.heights i c.args.y) +ℤ z) in
     subst Raised (to_z-of_z w32 c.args.dz c.ranges.dz)
-    (raised-row-columns c.args.grid.now c.args.x0 c.args.x1 c.args.y (to_z w32 (of_z w32 c.args.dz)) c.row_of-row.result.items
+    (raised-row-columns c.args.grid.now c.args.x0 c.args.x1 c.args.y
+    (to_z w32 (of_z w32 c.args.dz)) c.row_of-row.result.items
     c.as_mut_slice.result.now c.put_raised.new.grid.heights c.as_mut_slice.ensures.value
     c.row_of-row.ensures.count c.row_of-row.ensures.each c.put_raised.ensures.there)

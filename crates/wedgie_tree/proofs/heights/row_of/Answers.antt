@@ -13,7 +13,9 @@ push-requires c = (
 )
 
 pub loop-x-preserved : goal.loop-x-preserved
-loop-x-preserved c = IsReadSoFar-next c.args.grid.now c.args.x0 c.args.y c.loop-x.row.items c.push.new.self.items c.loop-x.x c.height.result
+loop-x-preserved c =
+    IsReadSoFar-next c.args.grid.now c.args.x0 c.args.y c.loop-x.row.items c.push.new.self.items
+    c.loop-x.x c.height.result
     c.push.ensures.items c.height.ensures.value c.height.ensures.bounded c.loop-x.invariant
 
 pub returns-clause-count : goal.returns-clause-count

@@ -13,7 +13,8 @@ returns-clause-under t c =
     AllUnder-filled c.args.grid.now (kept_levels c.args.grid.now.n) c.args.tri c.left.result c.right.result
     c.number.result c.fill_under-left.new.table
     c.fill_under-right.new.table c.over-wedge.result c.left.ensures.value c.right.ensures.value c.left.ensures.level
-    c.right.ensures.level coarse c.fill_under-left.ensures.under c.fill_under-right.ensures.others c.fill_under-right.ensures.under
+    c.right.ensures.level coarse c.fill_under-left.ensures.under c.fill_under-right.ensures.others
+    c.fill_under-right.ensures.under
     c.number.ensures.value (omega arith) c.over-wedge.ensures
 
 pub returns-clause-others : goal.returns-clause-others

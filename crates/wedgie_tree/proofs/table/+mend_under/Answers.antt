@@ -27,9 +27,11 @@ returns-clause-under t c =
     let coarse : level_of c.args.tri < kept_levels c.args.grid.now.n = omega arith in
     let place : c.args.tri < 2 ^ (kept_levels c.args.grid.now.n + 1) =
     (c.level_laws.ensures.below c.args.tri (kept_levels c.args.grid.now.n) low).0 coarse in
-    AllUnder-filled c.args.grid.now (kept_levels c.args.grid.now.n) c.args.tri c.left.result c.right.result c.number-2.result c.mend_under-left.new.table
+    AllUnder-filled c.args.grid.now (kept_levels c.args.grid.now.n) c.args.tri c.left.result c.right.result
+    c.number-2.result c.mend_under-left.new.table
     c.mend_under-right.new.table c.joined-wedge.result c.left.ensures.value c.right.ensures.value c.left.ensures.level
-    c.right.ensures.level coarse c.mend_under-left.ensures.under c.mend_under-right.ensures.others c.mend_under-right.ensures.under
+    c.right.ensures.level coarse c.mend_under-left.ensures.under c.mend_under-right.ensures.others
+    c.mend_under-right.ensures.under
     c.number-2.ensures.value (omega arith) c.joined-wedge.ensures
 
 pub returns-clause-others : goal.returns-clause-others
@@ -39,7 +41,8 @@ returns-clause-others t c =
     (c.level_laws.ensures.below c.args.tri (kept_levels c.args.grid.now.n) low).0 (omega arith) in
     let wedge : IsWedge c.args.grid.now c.number-2.result c.joined-wedge.result =
     rw c.number-2.ensures.value c.joined-wedge.ensures in
-    λ a has. HasEntry-set c.args.grid.now c.mend_under-right.new.table c.number-2.result c.joined-wedge.result (omega arith)
+    λ a has. HasEntry-set c.args.grid.now c.mend_under-right.new.table c.number-2.result
+    c.joined-wedge.result (omega arith)
     wedge a (c.mend_under-right.ensures.others a (c.mend_under-left.ensures.others a has))
 
 -- a triangle that is left out holds no point of the area
@@ -50,9 +53,11 @@ is_clear t c = IsClearOf-apart address_laws c.args.grid.now.n c.args.tri c.args.
 pub returns-then-not-meets-clause-value : goal.returns-then-not-meets-clause-value
 returns-then-not-meets-clause-value t c =
     let coarse : level_of c.args.tri < kept_levels c.args.grid.now.n = omega arith in
-    let Own : ℕ → Type 0 = λ i. IsWedge c.args.grid.now c.args.tri (slice_index_or c.args.table.now i record { thickness = 0; low = 0; high = 0 }) in
+    let Own : ℕ → Type 0 = λ i. IsWedge c.args.grid.now c.args.tri (slice_index_or c.args.table.now i
+    record { thickness = 0; low = 0; high = 0 }) in
     subst Own (sym c.number.ensures.value)
-    (c.requires.clear c.args.tri (record { low = omega arith; coarse = coarse }) (is_clear t c) (record { thickness = 0; low = 0; high = 0 }))
+    (c.requires.clear c.args.tri (record { low = omega arith; coarse = coarse }) (is_clear t c)
+    (record { thickness = 0; low = 0; high = 0 }))
 
 pub returns-then-not-meets-clause-under : goal.returns-then-not-meets-clause-under
 returns-then-not-meets-clause-under t c =
@@ -61,7 +66,8 @@ returns-then-not-meets-clause-under t c =
 
 pub returns-clause-clear : goal.returns-clause-clear
 returns-clause-clear t c =
-    IsRightOff-kept c.args.grid.now c.args.area c.args.table.now (set c.mend_under-right.new.table c.number-2.result c.joined-wedge.result)
+    IsRightOff-kept c.args.grid.now c.args.area c.args.table.now
+    (set c.mend_under-right.new.table c.number-2.result c.joined-wedge.result)
     (returns-clause-others t c) c.requires.clear
 
 pub slice_copy_out-result : goal.slice_copy_out-result

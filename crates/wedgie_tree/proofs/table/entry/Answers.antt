@@ -14,5 +14,6 @@ bounds-table-number c =
 pub returns : goal.returns
 returns c =
     let unused : Wedge = record { thickness = 0; low = 0; high = 0 } in
-    subst (λ i. IsWedge c.args.grid.now c.args.tri (slice_index_or c.args.table.now i unused)) (sym c.number.ensures.value)
+    subst (λ i. IsWedge c.args.grid.now c.args.tri (slice_index_or c.args.table.now i unused))
+    (sym c.number.ensures.value)
     (c.requires.table.each c.args.tri (record { low = omega arith; coarse = c.requires.kept }) unused)

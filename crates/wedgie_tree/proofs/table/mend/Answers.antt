@@ -5,6 +5,8 @@ use Rattle.wedgie_tree.proofs.table.mend.Goals as goal
 
 pub returns : goal.returns
 returns c = IsTable-filled address_laws c.args.grid.now c.base-below_diagonal.result c.base-above_diagonal.result
-    c.mend_under.new.table c.mend_under-2.new.table c.base-below_diagonal.ensures.value c.base-above_diagonal.ensures.value
-    c.base-below_diagonal.ensures.level c.base-above_diagonal.ensures.level c.mend_under.ensures.under c.mend_under-2.ensures.others
+    c.mend_under.new.table c.mend_under-2.new.table c.base-below_diagonal.ensures.value
+    c.base-above_diagonal.ensures.value
+    c.base-below_diagonal.ensures.level c.base-above_diagonal.ensures.level c.mend_under.ensures.under
+    c.mend_under-2.ensures.others
     c.mend_under-2.ensures.under c.n-n.ensures.valid (omega arith)

@@ -1,6 +1,7 @@
 use Rattle.std.proofs.Common.{◌-◌, ◌/◌, ◌^◌, ◌∙◌, ap, arith}
 use Rattle.mesh_defs.specs.Triangle.{corners_of}
-use Rattle.bintree_laws.proofs.CornerLemmas.{IsWithin-reached, IsWithin-corners_at, corners_at-start, corners_at-next, corners_at-end}
+use Rattle.bintree_laws.proofs.CornerLemmas.{IsWithin-reached, IsWithin-corners_at, corners_at-start, corners_at-next}
+use Rattle.bintree_laws.proofs.CornerLemmas.{corners_at-end}
 use Rattle.bintree_addr.proofs.tri.Tri.corners.Goals as goal
 
 pub child_corners-corners-requires : goal.child_corners-corners-requires

@@ -120,7 +120,8 @@ pub returns-then-at-len-clause-told : goal.returns-then-at-len-clause-told
 returns-then-at-len-clause-told c =
     let i = c.self.inside in
     rw (← c.self.view_is) (told-gap _ _ c.place-at.result c.swap_remove-old.result c.place-at.ensures.within
-    (whole-long i.n i.places i.vertices i.corners.items i.waiting.items _ _ _ c.self.invariant) c.note-then-at-len.ensures.items
+    (whole-long i.n i.places i.vertices i.corners.items i.waiting.items _ _ _ c.self.invariant)
+    c.note-then-at-len.ensures.items
     (ap (λ (p : PlaceState). p.triangles) c.close.ensures) c.swap_remove-old.ensures.items)
 
 pub returns-else-at-len-clause-total : goal.returns-else-at-len-clause-total

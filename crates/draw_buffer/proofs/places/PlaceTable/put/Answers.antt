@@ -16,7 +16,8 @@ invariant_of-self c =
     let low : c.args.t < length ps = rw end c.requires.address in
     let same = length-set ts c.args.at c.args.t in
     record {
-      linked = rw c.number.ensures.value (IsLinked-put ts ps c.self.invariant.linked c.args.at c.args.t within low away);
+      linked =
+          rw c.number.ensures.value (IsLinked-put ts ps c.self.invariant.linked c.args.at c.args.t within low away);
       few = (let few = c.self.invariant.few in omega arith);
       room = c.self.invariant.room;
       small = c.self.invariant.small;

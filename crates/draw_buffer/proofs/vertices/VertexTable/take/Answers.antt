@@ -10,7 +10,8 @@ invariant_of-self c =
     let v = c.index-v.result.now in
     let long = c.self.invariant.long in
     let within : v < length i.uses.items = omega (arith, i.points.ok.0, i.uses.ok.0) in
-    let used : c.index.result.now ≡ get_or i.uses.items v 0 = get_or_read i.uses.items v c.index.result.now within c.index.ensures 0 in
+    let used : c.index.result.now ≡ get_or i.uses.items v 0 =
+    get_or_read i.uses.items v c.index.result.now within c.index.ensures 0 in
     sound-stay i.points.items i.uses.items i.numbers.items i.free.items i.most _ _ _ _ c.self.invariant v
     (c.index_mut.result.now + 1) (omega arith) (omega arith)
 
@@ -21,7 +22,8 @@ returns-then-index-point c =
     let long = c.self.invariant.long in
     let within : v < length i.uses.items = omega (arith, i.points.ok.0, i.uses.ok.0) in
     let near : v < length i.points.items = omega arith in
-    let used : c.index.result.now ≡ get_or i.uses.items v 0 = get_or_read i.uses.items v c.index.result.now within c.index.ensures 0 in
+    let used : c.index.result.now ≡ get_or i.uses.items v 0 =
+    get_or_read i.uses.items v c.index.result.now within c.index.ensures 0 in
     let now : c.index_mut.result.now ≡ get_or i.uses.items v 0 =
     get_or_read i.uses.items v c.index_mut.result.now within c.index_mut.ensures.value 0 in
     let point : c.index-then-index-gt0.result.now ≡ get_or i.points.items v 0 =
@@ -33,4 +35,5 @@ returns-then-index-point c =
       end = length i.numbers.items;
       most = i.most;
     } in
-    rw (← c.self.view_is) (taken-again _ _ c.args.point v (omega arith) (sym point ∙ c.if-index-point.true) (ap built now))
+    rw (← c.self.view_is)
+    (taken-again _ _ c.args.point v (omega arith) (sym point ∙ c.if-index-point.true) (ap built now))

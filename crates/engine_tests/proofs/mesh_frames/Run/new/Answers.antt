@@ -4,7 +4,8 @@ use Rattle.roam_mesh.specs.Mesh.{MeshState, stamp_of}
 use Rattle.engine_tests.proofs.mesh_frames.Run.new.Goals as goal
 
 -- no stamp is none
-none_there : (mesh : MeshState) → ((a : ℕ) → stamp_of mesh a ≡ None) → (a : ℕ) (stamp : Stamp) → stamp_of mesh a ≡ Some stamp → ⊥
+none_there : (mesh : MeshState) → ((a : ℕ) → stamp_of mesh a ≡ None) → (a : ℕ) (stamp : Stamp) →
+    stamp_of mesh a ≡ Some stamp → ⊥
 none_there mesh none a stamp there = let no = none a in cc
 
 pub invariant_of-result : goal.invariant_of-result

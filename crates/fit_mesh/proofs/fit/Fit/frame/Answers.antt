@@ -14,7 +14,8 @@ invariant_of-self c =
     let grid : n ≡ c.args.grid.now.n = ap (λ (z : FitMesh). z.n) c.self.view_is ∙ sym c.requires.grid in
     let flags = with_items_is c.self.inside.flags found.new.flags (found.auto.flags ∙ c.deref_mut.ensures.len) in
     let room = with_items_is c.self.inside.room found.new.room (found.auto.room ∙ c.deref_mut-2.ensures.len) in
-    let conforming : IsConforming n (take count found.new.room) = subst (λ k. IsConforming k (take count found.new.room)) (sym grid) found.ensures.least.conforming in
+    let conforming : IsConforming n (take count found.new.room) =
+    subst (λ k. IsConforming k (take count found.new.room)) (sym grid) found.ensures.least.conforming in
     record {
       n_low = c.self.invariant.n_low;
       n_high = c.self.invariant.n_high;
@@ -26,5 +27,6 @@ invariant_of-self c =
       places = found.ensures.places ∙ c.self.invariant.places;
       numbered = found.ensures.numbers ∙ ap (λ k. numbers_of k (take count found.new.room)) (sym grid)
           ∙ ap (λ (l : List ℕ). numbers_of n (take count l)) (sym room);
-      waiting = λ small. (let before = c.self.invariant.waiting small in let more = found.ensures.capacity in omega arith);
+      waiting =
+          λ small. (let before = c.self.invariant.waiting small in let more = found.ensures.capacity in omega arith);
     }

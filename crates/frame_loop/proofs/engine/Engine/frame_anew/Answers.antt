@@ -17,18 +17,25 @@ pub list_changed-vertices-requires-clause-before : goal.list_changed-vertices-re
 list_changed-vertices-requires-clause-before c =
     let is = c.self.invariant in
     let before = split_set c.self.inside.mesh.pool.pairs in
-    let same_n : c.advance_mesh-steps.new.mesh.pool.n ≡ c.self.inside.outlook.grid.n = c.advance_mesh-steps.ensures.n ∙ is.0.n in
-    rw (c.pool-pool.ensures.pool) (record { before = before; leaves_are = is.1.leaf_list ∙ ap (λ k. leaves_of k before) (sym same_n) })
+    let same_n : c.advance_mesh-steps.new.mesh.pool.n ≡ c.self.inside.outlook.grid.n =
+    c.advance_mesh-steps.ensures.n ∙ is.0.n in
+    rw (c.pool-pool.ensures.pool) (record {
+      before = before;
+      leaves_are = is.1.leaf_list ∙ ap (λ k. leaves_of k before) (sym same_n);
+    })
 
 pub list_changed-vertices-requires-clause-same : goal.list_changed-vertices-requires-clause-same
 list_changed-vertices-requires-clause-same c none =
     let is = c.self.invariant in
     let n = c.self.inside.outlook.grid.n in
     let same_n : c.advance_mesh-steps.new.mesh.pool.n ≡ n = c.advance_mesh-steps.ensures.n ∙ is.0.n in
-    let same = c.advance_mesh-steps.ensures.still none ∙ ap (λ k. leaves_of k (split_set c.self.inside.mesh.pool.pairs)) is.0.n in
+    let same = c.advance_mesh-steps.ensures.still none
+    ∙ ap (λ k. leaves_of k (split_set c.self.inside.mesh.pool.pairs)) is.0.n in
     rw (c.pool-pool.ensures.pool)
-    (kept_listing n c.advance_mesh-steps.new.mesh.pool.n c.self.inside.mesh.pool.pairs c.advance_mesh-steps.new.mesh.pool.pairs
-    c.self.inside.list.leaves c.self.inside.numbers c.self.inside.vertices same_n same is.1.leaf_list is.1.vertex_numbers is.5)
+    (kept_listing n c.advance_mesh-steps.new.mesh.pool.n c.self.inside.mesh.pool.pairs
+    c.advance_mesh-steps.new.mesh.pool.pairs
+    c.self.inside.list.leaves c.self.inside.numbers c.self.inside.vertices same_n same is.1.leaf_list
+    is.1.vertex_numbers is.5)
 
 pub list_changed-vertices-requires-clause-known : goal.list_changed-vertices-requires-clause-known
 list_changed-vertices-requires-clause-known c =
@@ -43,7 +50,8 @@ list_changed-vertices-requires-clause-known c =
     is.1.vertex_numbers is.1.leaf_list c.advance_mesh-steps.ensures.changed c.changed.ensures)
 
 pub count_marks-marks-requires-clause-n : goal.count_marks-marks-requires-clause-n
-count_marks-marks-requires-clause-n c = ap (λ (p : PoolState). p.n) c.pool-pool.ensures.pool ∙ c.advance_mesh-steps.ensures.n ∙ c.self.invariant.0.n
+count_marks-marks-requires-clause-n c =
+    ap (λ (p : PoolState). p.n) c.pool-pool.ensures.pool ∙ c.advance_mesh-steps.ensures.n ∙ c.self.invariant.0.n
 
 pub returns-clause-done : goal.returns-clause-done
 returns-clause-done c =
@@ -51,8 +59,10 @@ returns-clause-done c =
     let pool : PoolState = c.advance_mesh-steps.new.mesh.pool in
     let n : ℕ = c.self.inside.outlook.grid.n in
     let same_n : pool.n ≡ n = c.advance_mesh-steps.ensures.n ∙ c.self.invariant.0.n in
-    let set : leaves_of c.pool-pool.result.now.n (split_set c.pool-pool.result.now.pairs) ≡ leaves_of n (among (pool_members pool)) =
-    ap (λ (p : PoolState). leaves_of p.n (split_set p.pairs)) c.pool-pool.ensures.pool ∙ members_leaves_at pool n c.pool-pool.ensures.valid same_n in
+    let set : leaves_of c.pool-pool.result.now.n (split_set c.pool-pool.result.now.pairs)
+    ≡ leaves_of n (among (pool_members pool)) =
+    ap (λ (p : PoolState). leaves_of p.n (split_set p.pairs)) c.pool-pool.ensures.pool
+    ∙ members_leaves_at pool n c.pool-pool.ensures.valid same_n in
     let told_n : c.pool-pool.result.now.n ≡ n = ap (λ (p : PoolState). p.n) c.pool-pool.ensures.pool ∙ same_n in
     rw (← c.self.view_is, c.note.ensures) (record {
       state = refl;
@@ -67,7 +77,8 @@ returns-clause-done c =
       least_asked = c.advance_mesh-steps.ensures.least;
       stamps = c.advance_mesh-steps.ensures.stamps;
       triangles = c.leaf_count.ensures.leaves ∙ ap length set;
-      vertices = call.ensures.listing.vertex_total ∙ ap (λ k. length (vertices_of k (leaves_of c.pool-pool.result.now.n (split_set c.pool-pool.result.now.pairs)))) told_n
+      vertices = call.ensures.listing.vertex_total ∙ ap (λ k.
+          length (vertices_of k (leaves_of c.pool-pool.result.now.n (split_set c.pool-pool.result.now.pairs)))) told_n
           ∙ ap (λ xs. length (vertices_of n xs)) set;
       inside = c.count_marks-marks.ensures.inside ∙ ap (marks_seen c.self.inside.outlook Inside) set;
       cut = c.count_marks-marks.ensures.cut ∙ ap (marks_seen c.self.inside.outlook Cut) set;
@@ -101,13 +112,15 @@ returns-clause-changes c =
     let pool : PoolState = c.advance_mesh-steps.new.mesh.pool in
     let same_n : pool.n ≡ n = c.advance_mesh-steps.ensures.n ∙ is.0.n in
     let before : c.self.inside.list.leaves ≡ leaves_of n (among (pool_members old)) =
-    is.1.leaf_list ∙ ap (λ k. leaves_of k (split_set old.pairs)) (sym is.0.n) ∙ members_leaves_at old n c.pool-before.ensures.valid is.0.n in
+    is.1.leaf_list ∙ ap (λ k. leaves_of k (split_set old.pairs)) (sym is.0.n)
+    ∙ members_leaves_at old n c.pool-before.ensures.valid is.0.n in
     let after : call.new.list.leaves ≡ leaves_of n (among (pool_members pool)) =
     call.ensures.listing.leaf_list ∙ ap (λ (p : PoolState). leaves_of p.n (split_set p.pairs)) c.pool-pool.ensures.pool
     ∙ members_leaves_at pool n c.pool-pool.ensures.valid same_n in
     rw (← c.self.view_is)
     (subst (λ xs. IsChange xs (leaves_of n (among (pool_members pool))) call.new.list.gone call.new.list.come) before
-    (subst (λ ys. IsChange c.self.inside.list.leaves ys call.new.list.gone call.new.list.come) after call.ensures.change))
+    (subst (λ ys. IsChange c.self.inside.list.leaves ys call.new.list.gone call.new.list.come)
+    after call.ensures.change))
 
 pub invariant_of-self : goal.invariant_of-self
 invariant_of-self c = grind (arith, common_steps)

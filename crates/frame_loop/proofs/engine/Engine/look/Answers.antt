@@ -15,10 +15,13 @@ invariant_of-self c =
     let whole = c.self.invariant in
     let put = c.put_planes.new.self in
     let turned = c.expire_by_turn.ensures in (
-      planes_engine e.outlook put c.args.planes.now e.budget e.most e.mesh c.expire_by_turn.new.mesh e.odometer e.frames e.meter (changes_of e.list) c.put_planes.ensures turned whole.0,
-      heights_leaves e.outlook put e.budget e.most e.mesh c.expire_by_turn.new.mesh e.odometer e.frames e.meter (changes_of e.list)
+      planes_engine e.outlook put c.args.planes.now e.budget e.most e.mesh c.expire_by_turn.new.mesh e.odometer e.frames
+          e.meter (changes_of e.list) c.put_planes.ensures turned whole.0,
+      heights_leaves e.outlook put e.budget e.most e.mesh c.expire_by_turn.new.mesh e.odometer e.frames e.meter
+          (changes_of e.list)
           e.list.leaves e.numbers (ap (λ (o : SceneState). o.grid.n) c.put_planes.ensures) turned.pool whole.1,
-      (λ all. AreAllExpired-kept e.mesh c.expire_by_turn.new.mesh (is_turned e.outlook c.args.planes.now) turned (whole.2 all)),
+      (λ all. AreAllExpired-kept e.mesh c.expire_by_turn.new.mesh
+          (is_turned e.outlook c.args.planes.now) turned (whole.2 all)),
       rw c.put_planes.ensures whole.3,
       rw c.put_planes.ensures whole.4,
       rw c.put_planes.ensures whole.5,
@@ -27,5 +30,6 @@ invariant_of-self c =
 
 pub returns-clause-mesh : goal.returns-clause-mesh
 returns-clause-mesh c =
-    subst (λ (e : EngineState). IsExpired e.mesh c.expire_by_turn.new.mesh (is_turned (scene_of e.state) c.args.planes.now))
+    subst (λ (e : EngineState). IsExpired e.mesh c.expire_by_turn.new.mesh
+    (is_turned (scene_of e.state) c.args.planes.now))
     c.self.view_is c.expire_by_turn.ensures

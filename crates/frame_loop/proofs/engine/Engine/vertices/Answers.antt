@@ -11,7 +11,10 @@ pub returns : goal.returns
 returns c =
     let e = c.self.inside in
     let valid : IsPool e.mesh.pool.n e.mesh.pool.pairs = c.pool-pool.ensures.valid in
-    let set : leaves_of e.outlook.grid.n (split_set e.mesh.pool.pairs) ≡ leaves_of e.outlook.grid.n (among (pool_members e.mesh.pool)) =
-    ap (λ k. leaves_of k (split_set e.mesh.pool.pairs)) (sym c.self.invariant.0.n) ∙ members_leaves_at e.mesh.pool e.outlook.grid.n valid c.self.invariant.0.n in
+    let set : leaves_of e.outlook.grid.n (split_set e.mesh.pool.pairs)
+    ≡ leaves_of e.outlook.grid.n (among (pool_members e.mesh.pool)) =
+    ap (λ k. leaves_of k (split_set e.mesh.pool.pairs)) (sym c.self.invariant.0.n)
+    ∙ members_leaves_at e.mesh.pool e.outlook.grid.n valid c.self.invariant.0.n in
     subst (λ (z : EngineState). e.vertices ≡ length (vertices_of z.state.grid.n (mesh_seen z))) c.self.view_is
-    (c.self.invariant.5 ∙ ap (λ (l : List ℕ). length (vertices_of e.outlook.grid.n l)) (c.self.invariant.1.leaf_list ∙ set))
+    (c.self.invariant.5
+    ∙ ap (λ (l : List ℕ). length (vertices_of e.outlook.grid.n l)) (c.self.invariant.1.leaf_list ∙ set))

@@ -11,11 +11,24 @@ returns-clause-below c none =
     let after = mark_under o c.args.planes.now in
     let laws = c.view_laws.ensures in
     let settled : is_settled (before c.args.t) (after c.args.t) ≡ true =
-    ap (λ m. is_settled m (after c.args.t)) (sym c.marks-before.ensures.before) ∙ ap (is_settled c.marks-before.result.0) (sym c.marks-before.ensures.after)
+    ap (λ m. is_settled m (after c.args.t)) (sym c.marks-before.ensures.before)
+    ∙ ap (is_settled c.marks-before.result.0) (sym c.marks-before.ensures.after)
     ∙ not-false (is_settled c.marks-before.result.0 c.marks-before.result.1) (sym c.between.ensures.below ∙ none) in
     settled_below o.grid.n before after
-    (record { left = laws.inside_left o.grid.n o.grid.heights o.view.spacing o.view.planes; right = laws.inside_right o.grid.n o.grid.heights o.view.spacing o.view.planes })
-    (record { left = laws.inside_left o.grid.n o.grid.heights o.view.spacing c.args.planes.now; right = laws.inside_right o.grid.n o.grid.heights o.view.spacing c.args.planes.now })
-    (record { left = laws.outside_left o.grid.n o.grid.heights o.view.spacing o.view.planes; right = laws.outside_right o.grid.n o.grid.heights o.view.spacing o.view.planes })
-    (record { left = laws.outside_left o.grid.n o.grid.heights o.view.spacing c.args.planes.now; right = laws.outside_right o.grid.n o.grid.heights o.view.spacing c.args.planes.now })
+    (record {
+      left = laws.inside_left o.grid.n o.grid.heights o.view.spacing o.view.planes;
+      right = laws.inside_right o.grid.n o.grid.heights o.view.spacing o.view.planes;
+    })
+    (record {
+      left = laws.inside_left o.grid.n o.grid.heights o.view.spacing c.args.planes.now;
+      right = laws.inside_right o.grid.n o.grid.heights o.view.spacing c.args.planes.now;
+    })
+    (record {
+      left = laws.outside_left o.grid.n o.grid.heights o.view.spacing o.view.planes;
+      right = laws.outside_right o.grid.n o.grid.heights o.view.spacing o.view.planes;
+    })
+    (record {
+      left = laws.outside_left o.grid.n o.grid.heights o.view.spacing c.args.planes.now;
+      right = laws.outside_right o.grid.n o.grid.heights o.view.spacing c.args.planes.now;
+    })
     c.args.t settled

@@ -11,4 +11,5 @@ pub returns-else-is_some : goal.returns-else-is_some
 returns-else-is_some c =
     let none : slice_index_or c.self.inside.due_from c.args.slot.0 None ≡ None = search rules in
     subst (λ l. l ≡ slice_set l c.args.slot.0 None) c.self.view_is
-    (sym (kept-no_one c.self.inside.due_from c.self.inside.has_one.items c.args.slot.0 (no_key c.self.inside.due_from c.self.inside.has_one.items c.args.slot.0 none)))
+    (sym (kept-no_one c.self.inside.due_from c.self.inside.has_one.items c.args.slot.0
+    (no_key c.self.inside.due_from c.self.inside.has_one.items c.args.slot.0 none)))

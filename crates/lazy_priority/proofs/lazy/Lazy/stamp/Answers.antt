@@ -6,13 +6,15 @@ use Rattle.lazy_priority.proofs.lazy.Lazy.stamp.Goals.{in-Some, in-None}
 
 pub put-requires-clause-in_range : goal.put-requires-clause-in_range
 put-requires-clause-in_range c =
-    let same : length c.args.self.now ≡ length c.self.inside.due_from = ap length (sym c.self.view_is) ∙ length-kept c.self.inside.due_from c.self.inside.has_one.items in
+    let same : length c.args.self.now ≡ length c.self.inside.due_from =
+    ap length (sym c.self.view_is) ∙ length-kept c.self.inside.due_from c.self.inside.has_one.items in
     let below = c.requires.in_range in
     omega (arith, same)
 
 pub index_mut-requires : goal.index_mut-requires
 index_mut-requires c =
-    let same : length c.args.self.now ≡ length c.self.inside.due_from = ap length (sym c.self.view_is) ∙ length-kept c.self.inside.due_from c.self.inside.has_one.items in
+    let same : length c.args.self.now ≡ length c.self.inside.due_from =
+    ap length (sym c.self.view_is) ∙ length-kept c.self.inside.due_from c.self.inside.has_one.items in
     let below = c.requires.in_range in
     let long = c.self.invariant in
     let kept_long = c.self.inside.has_one.ok.0 in

@@ -12,7 +12,8 @@ put_under-requires-clause-level c =
     let lower = half_slot pairs 2 0 c.requires.root (omega arith) (omega arith) (omega arith) in
     let upper = half_slot pairs 3 1 c.requires.root (omega arith) (omega arith) (omega arith) in
     let all : 2 * c.n-levels.result ≡ 2 * c.args.pool.now.n = ap (λ k. 2 * k) c.n-levels.ensures.value in
-    let halves : AreHalves c.args.pool.now.n pairs (2 * c.n-levels.result) = halves_of c.args.pool.now.n pairs (2 * c.n-levels.result) lower upper all in
+    let halves : AreHalves c.args.pool.now.n pairs (2 * c.n-levels.result) =
+    halves_of c.args.pool.now.n pairs (2 * c.n-levels.result) lower upper all in
     halves.lower_level
 
 pub put_under-requires-clause-room : goal.put_under-requires-clause-room
@@ -21,7 +22,8 @@ put_under-requires-clause-room c =
     let lower = half_slot pairs 2 0 c.requires.root (omega arith) (omega arith) (omega arith) in
     let upper = half_slot pairs 3 1 c.requires.root (omega arith) (omega arith) (omega arith) in
     let all : 2 * c.n-levels.result ≡ 2 * c.args.pool.now.n = ap (λ k. 2 * k) c.n-levels.ensures.value in
-    let halves : AreHalves c.args.pool.now.n pairs (2 * c.n-levels.result) = halves_of c.args.pool.now.n pairs (2 * c.n-levels.result) lower upper all in
+    let halves : AreHalves c.args.pool.now.n pairs (2 * c.n-levels.result) =
+    halves_of c.args.pool.now.n pairs (2 * c.n-levels.result) lower upper all in
     let none = ap length c.in_ok-walk.ensures.leaves in
     let most = c.in_ok-walk.ensures.most in
     let count = halves.count in
@@ -33,7 +35,8 @@ put_under-requires-2-clause-level c =
     let lower = half_slot pairs 2 0 c.requires.root (omega arith) (omega arith) (omega arith) in
     let upper = half_slot pairs 3 1 c.requires.root (omega arith) (omega arith) (omega arith) in
     let all : 2 * c.n-levels.result ≡ 2 * c.args.pool.now.n = ap (λ k. 2 * k) c.n-levels.ensures.value in
-    let halves : AreHalves c.args.pool.now.n pairs (2 * c.n-levels.result) = halves_of c.args.pool.now.n pairs (2 * c.n-levels.result) lower upper all in
+    let halves : AreHalves c.args.pool.now.n pairs (2 * c.n-levels.result) =
+    halves_of c.args.pool.now.n pairs (2 * c.n-levels.result) lower upper all in
     halves.upper_level
 
 pub put_under-requires-2-clause-room : goal.put_under-requires-2-clause-room
@@ -42,7 +45,8 @@ put_under-requires-2-clause-room c =
     let lower = half_slot pairs 2 0 c.requires.root (omega arith) (omega arith) (omega arith) in
     let upper = half_slot pairs 3 1 c.requires.root (omega arith) (omega arith) (omega arith) in
     let all : 2 * c.n-levels.result ≡ 2 * c.args.pool.now.n = ap (λ k. 2 * k) c.n-levels.ensures.value in
-    let halves : AreHalves c.args.pool.now.n pairs (2 * c.n-levels.result) = halves_of c.args.pool.now.n pairs (2 * c.n-levels.result) lower upper all in
+    let halves : AreHalves c.args.pool.now.n pairs (2 * c.n-levels.result) =
+    halves_of c.args.pool.now.n pairs (2 * c.n-levels.result) lower upper all in
     let none = ap length c.in_ok-walk.ensures.leaves in
     let most = c.in_ok-walk.ensures.most in
     let count = halves.count in
@@ -54,8 +58,11 @@ returns-clause-leaves c =
     let lower = half_slot pairs 2 0 c.requires.root (omega arith) (omega arith) (omega arith) in
     let upper = half_slot pairs 3 1 c.requires.root (omega arith) (omega arith) (omega arith) in
     let all : 2 * c.n-levels.result ≡ 2 * c.args.pool.now.n = ap (λ k. 2 * k) c.n-levels.ensures.value in
-    let halves : AreHalves c.args.pool.now.n pairs (2 * c.n-levels.result) = halves_of c.args.pool.now.n pairs (2 * c.n-levels.result) lower upper all in
+    let halves : AreHalves c.args.pool.now.n pairs (2 * c.n-levels.result) =
+    halves_of c.args.pool.now.n pairs (2 * c.n-levels.result) lower upper all in
     let under = λ (a : ℕ). leaves_under (2 * c.n-levels.result) (split_set pairs) (address_at pairs a) in
-    ap (λ (z : WalkState). z.leaves) (c.in_ok-new.ensures.ok ∙ c.forget.ensures) ∙ ap (λ (z : WalkState). z.leaves) c.put_under-2.ensures
-    ∙ ap (λ xs. xs ++ under 1) (ap (λ (z : WalkState). z.leaves) c.put_under.ensures ∙ ap (λ xs. xs ++ under 0) c.in_ok-walk.ensures.leaves)
+    ap (λ (z : WalkState). z.leaves) (c.in_ok-new.ensures.ok ∙ c.forget.ensures)
+    ∙ ap (λ (z : WalkState). z.leaves) c.put_under-2.ensures
+    ∙ ap (λ xs. xs ++ under 1) (ap (λ (z : WalkState). z.leaves) c.put_under.ensures
+    ∙ ap (λ xs. xs ++ under 0) c.in_ok-walk.ensures.leaves)
     ∙ sym halves.list

@@ -2,7 +2,8 @@ use Rattle.std.proofs.Common.{◌≡◌, ◌++◌, ◌∙◌, ℕ, length, take,
 use Rattle.std.proofs.Math.Seq.{take-append_seam}
 use Rattle.obj_write.specs.VertexMarks.{numbered, marked}
 use Rattle.obj_write.specs.Table.{IsCounted, block_end}
-use Rattle.obj_write.proofs.PatchLemmas.{counted-front, changed-numbers, changed-count, grid_few, numbers-long, numbers-done}
+use Rattle.obj_write.proofs.PatchLemmas.{counted-front, changed-numbers, changed-count, grid_few, numbers-long}
+use Rattle.obj_write.proofs.PatchLemmas.{numbers-done}
 use Rattle.obj_write.proofs.table.VertexTable.patch.Goals as goal
 
 pub put_changes-first-requires-clause-room : goal.put_changes-first-requires-clause-room

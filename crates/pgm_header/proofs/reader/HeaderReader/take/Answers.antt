@@ -10,14 +10,17 @@ use Rattle.pgm_header.proofs.reader.HeaderReader.take.Goals.{in-Ok, in-Err}
 pub returns-then-self-eq-LAST_PLACE-clause-refusal : goal.returns-then-self-eq-LAST_PLACE-clause-refusal
 returns-then-self-eq-LAST_PLACE-clause-refusal c = λ more.
     subst (λ (p : HeaderProgress). resume_header p (c.args.byte ∷ more) ≡ Bad HeaderTooLong) c.self.view_is
-    (resume_long (header_progress_of c.self.inside) c.in-Goes.state c.args.byte more (sym c.step_from.ensures.value ∙ c.in-Goes.is) c.if-self-eq-LAST_PLACE.true)
+    (resume_long (header_progress_of c.self.inside) c.in-Goes.state c.args.byte more
+    (sym c.step_from.ensures.value ∙ c.in-Goes.is) c.if-self-eq-LAST_PLACE.true)
 
 pub returns-after-judge-clause-ends : goal.returns-after-judge-clause-ends
 returns-after-judge-clause-ends c =
     elim c.match-judge.branch [
       | in-Ok w ↦ rw w.result-is (λ more.
-          subst (λ (p : HeaderProgress). resume_header p (c.args.byte ∷ more) ≡ Whole w.in-Ok.header more) c.self.view_is
-          (resume_ends (header_progress_of c.self.inside) c.in-Ends.values w.in-Ok.header c.args.byte more (sym c.step_from.ensures.value ∙ c.in-Ends.is) (sym c.judge.ensures ∙ w.in-Ok.is)))
+          subst (λ (p : HeaderProgress). resume_header p (c.args.byte ∷ more)
+          ≡ Whole w.in-Ok.header more) c.self.view_is
+          (resume_ends (header_progress_of c.self.inside) c.in-Ends.values w.in-Ok.header c.args.byte more
+          (sym c.step_from.ensures.value ∙ c.in-Ends.is) (sym c.judge.ensures ∙ w.in-Ok.is)))
       | in-Err w ↦ rw w.result-is tt
     ]
 
@@ -27,7 +30,8 @@ returns-after-judge-clause-refusal c =
       | in-Ok w ↦ rw w.result-is tt
       | in-Err w ↦ rw w.result-is (λ more.
           subst (λ (p : HeaderProgress). resume_header p (c.args.byte ∷ more) ≡ Bad w.in-Err.fault) c.self.view_is
-          (resume_judged (header_progress_of c.self.inside) c.in-Ends.values w.in-Err.fault c.args.byte more (sym c.step_from.ensures.value ∙ c.in-Ends.is) (sym c.judge.ensures ∙ w.in-Err.is)))
+          (resume_judged (header_progress_of c.self.inside) c.in-Ends.values w.in-Err.fault c.args.byte more
+          (sym c.step_from.ensures.value ∙ c.in-Ends.is) (sym c.judge.ensures ∙ w.in-Err.is)))
     ]
 
 pub returns-else-self-eq-LAST_PLACE-clause-refusable : goal.returns-else-self-eq-LAST_PLACE-clause-refusable

@@ -17,7 +17,10 @@ use Rattle.roam_c.specs.Held.{Kept, is_mark, held_if}
 use Rattle.roam_c.specs.contracts.handle.Handle.{the_row, the_type}
 
 held_if-keyless : (full : Bool) (at : Ptr) (value : Option Kept) → Keyless (held_if full at value)
-held_if-keyless true at (Some x) = (lies engine.the_row engine_send at x, heap.frees.frees (record { memory = record { seal = tt } }) (raw (lone (engine.the_row).mir)) at)
+held_if-keyless true at (Some x) = (
+  lies engine.the_row engine_send at x,
+  heap.frees.frees (record { memory = record { seal = tt } }) (raw (lone (engine.the_row).mir)) at,
+)
 held_if-keyless true at None = tt
 held_if-keyless false at (Some x) = tt
 held_if-keyless false at None = tt

@@ -7,14 +7,18 @@ pub returns-clause-after : goal.returns-clause-after
 returns-clause-after c =
     let was = c.self.inside in
     let now = c.extend_from_slice.new.self.items in
-    let done = mesh_at-grown was.room.items c.args.piece.now now was.done.items (vec_len was.room) c.in-Ok.ensures.items was.room.ok.0 c.self.invariant.done_within in
-    let current = mesh_from-grown was.room.items c.args.piece.now now was.current (vec_len was.room) c.in-Ok.ensures.items was.room.ok.0 c.self.invariant.current_within in
+    let done = mesh_at-grown was.room.items c.args.piece.now now was.done.items
+    (vec_len was.room) c.in-Ok.ensures.items was.room.ok.0 c.self.invariant.done_within in
+    let current = mesh_from-grown was.room.items c.args.piece.now now was.current
+    (vec_len was.room) c.in-Ok.ensures.items was.room.ok.0 c.self.invariant.current_within in
     grind (arith, common_steps)
 
 pub returns-clause-mesh : goal.returns-clause-mesh
 returns-clause-mesh c =
     let was = c.self.inside in
     let now = c.extend_from_slice.new.self.items in
-    let done = mesh_at-grown was.room.items c.args.piece.now now was.done.items (vec_len was.room) c.in-Ok.ensures.items was.room.ok.0 c.self.invariant.done_within in
-    let current = mesh_from-grown was.room.items c.args.piece.now now was.current (vec_len was.room) c.in-Ok.ensures.items was.room.ok.0 c.self.invariant.current_within in
+    let done = mesh_at-grown was.room.items c.args.piece.now now was.done.items
+    (vec_len was.room) c.in-Ok.ensures.items was.room.ok.0 c.self.invariant.done_within in
+    let current = mesh_from-grown was.room.items c.args.piece.now now was.current
+    (vec_len was.room) c.in-Ok.ensures.items was.room.ok.0 c.self.invariant.current_within in
     grind (arith, common_steps)

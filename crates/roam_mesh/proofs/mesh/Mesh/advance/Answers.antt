@@ -37,12 +37,14 @@ advance-steps-requires-clause-stamps g c =
 pub advance-steps-requires-clause-valid : goal.advance-steps-requires-clause-valid
 advance-steps-requires-clause-valid g c =
     split_list-closed c.deref_mut.result.now.parts.pool.n c.deref_mut.result.now.parts.pool.pairs
-    (subst (λ (z : MeshState). IsPool z.pool.n z.pool.pairs) (sym (seen_behind _ _ _ c.deref_mut.ensures.value c.self.view_is))
+    (subst (λ (z : MeshState). IsPool z.pool.n z.pool.pairs)
+    (sym (seen_behind _ _ _ c.deref_mut.ensures.value c.self.view_is))
     c.pool-before.ensures.valid)
 
 pub returns-clause-most : goal.returns-clause-most
 returns-clause-most g c =
-    subst (λ (z : MeshState). IsAtMost (g.G.Gauge.told c.args.gauge.now) (g.G.Gauge.readings c.args.gauge.now) c.args.odometer
+    subst (λ (z : MeshState). IsAtMost (g.G.Gauge.told c.args.gauge.now)
+    (g.G.Gauge.readings c.args.gauge.now) c.args.odometer
     (seen_of z) c.args.budget
     (c.advance-steps.result.splits + c.advance-steps.result.merges) (g.G.Gauge.count c.args.gauge.now)
     (g.G.Gauge.count c.advance-steps.new.gauge)) (seen_behind _ _ _ c.deref_mut.ensures.value c.self.view_is)

@@ -15,17 +15,23 @@ worst_rank-requires c = record { live = ready_live c.args.self.now.pool.pairs c.
 pub returns-then-ranks_before : goal.returns-then-ranks_before
 returns-then-ranks_before c =
     let parts : PartsState = c.args.self.now in
-    let pool : IsPool parts.pool.n parts.pool.pairs = subst (λ (z : PoolState). IsPool z.n z.pairs) (ap (λ (z : PartsState). z.pool) c.self.view_is) c.n-n.ensures.valid in
-    let first : ComesFirst (worst_rank parts (address_at parts.pool.pairs c.in-Some.mate.0)) (worst_rank parts (address_at parts.pool.pairs c.args.s.0)) =
+    let pool : IsPool parts.pool.n parts.pool.pairs = subst (λ (z : PoolState). IsPool z.n z.pairs)
+    (ap (λ (z : PartsState). z.pool) c.self.view_is) c.n-n.ensures.valid in
+    let first : ComesFirst (worst_rank parts (address_at parts.pool.pairs c.in-Some.mate.0))
+    (worst_rank parts (address_at parts.pool.pairs c.args.s.0)) =
     subst (λ (z : Rank). ComesFirst z (worst_rank parts (address_at parts.pool.pairs c.args.s.0))) c.worst_rank.ensures
-    (subst (λ (z : Rank). ComesFirst c.worst_rank.result z) c.worst_rank-in-Some.ensures (c.ranks_before.ensures.0 c.if-ranks_before.true)) in
-    better_mate parts pool c.args.s c.in-Some.mate c.requires.ready c.in-Some.ensures.some c.in-Some.ensures.address first
+    (subst (λ (z : Rank). ComesFirst c.worst_rank.result z) c.worst_rank-in-Some.ensures
+    (c.ranks_before.ensures.0 c.if-ranks_before.true)) in
+    better_mate parts pool c.args.s c.in-Some.mate c.requires.ready c.in-Some.ensures.some
+    c.in-Some.ensures.address first
 
 pub returns-else-ranks_before : goal.returns-else-ranks_before
 returns-else-ranks_before c =
     let parts : PartsState = c.args.self.now in
-    let pool : IsPool parts.pool.n parts.pool.pairs = subst (λ (z : PoolState). IsPool z.n z.pairs) (ap (λ (z : PartsState). z.pool) c.self.view_is) c.n-n.ensures.valid in
+    let pool : IsPool parts.pool.n parts.pool.pairs = subst (λ (z : PoolState). IsPool z.n z.pairs)
+    (ap (λ (z : PartsState). z.pool) c.self.view_is) c.n-n.ensures.valid in
     better_own parts pool c.args.s c.in-Some.mate c.requires.ready c.in-Some.ensures.some c.in-Some.ensures.address
     (λ first. both_ways c.ranks_before.result c.if-ranks_before.false (c.ranks_before.ensures.1
     (subst (λ (z : Rank). ComesFirst c.worst_rank.result z) (sym c.worst_rank-in-Some.ensures)
-    (subst (λ (z : Rank). ComesFirst z (worst_rank parts (address_at parts.pool.pairs c.args.s.0))) (sym c.worst_rank.ensures) first))))
+    (subst (λ (z : Rank). ComesFirst z (worst_rank parts (address_at parts.pool.pairs c.args.s.0)))
+    (sym c.worst_rank.ensures) first))))

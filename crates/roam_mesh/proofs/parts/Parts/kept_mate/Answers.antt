@@ -15,9 +15,13 @@ returns-in-Some-clause-some c =
     let t = c.in-Some.t.0 in
     let live = leaf_live now.pool.pairs t mate.leaf in
     let here : slot_of now.pool.pairs (mate_of (address_at now.pool.pairs c.args.s.0)) ≡ t =
-    one_slot now.pool.n now.pool.pairs t (mate_of (address_at now.pool.pairs c.args.s.0)) mate.pool (subst (λ z. 2 ≤ z) mate.mate live) mate.mate in
+    one_slot now.pool.n now.pool.pairs t (mate_of (address_at now.pool.pairs c.args.s.0)) mate.pool
+    (subst (λ z. 2 ≤ z) mate.mate live) mate.mate in
     let within : t < length c.self.inside.entries.items =
-    let below = live_below now.pool.pairs t live in let long = c.self.invariant.0.entries in let same = ap (λ (p : PartsState). length p.pool.pairs) c.self.view_is in omega arith in
+    let below = live_below now.pool.pairs t live in
+    let long = c.self.invariant.0.entries in
+    let same = ap (λ (p : PartsState). length p.pool.pairs) c.self.view_is in
+    omega arith in
     record {
       some = mate.some;
       leaf = subst (λ z. is_leaf_at now.pool.pairs z ≡ true) (sym here) mate.leaf;

@@ -12,7 +12,8 @@ push_fresh-requires-2 c =
     let now = c.args.self.now in
     let below = live_below now.pool.pairs c.args.s.0 (ready_live now.pool.pairs c.args.s.0 c.requires.ready) in
     let pool : c.match-mate.self.pool ≡ now.pool = elim c.match-mate.branch [
-      | in-Some w ↦ ap (λ (p : PartsState). p.pool) (w.self-is ∙ w.push_fresh.ensures) ∙ pushed-pool now w.in-Some.mate.0
+      | in-Some w ↦ ap (λ (p : PartsState). p.pool) (w.self-is ∙ w.push_fresh.ensures)
+          ∙ pushed-pool now w.in-Some.mate.0
       | in_default w ↦ ap (λ (p : PartsState). p.pool) w.self-is
     ] in
     record { slot = subst (λ (p : PoolState). c.args.s.0 < 2 * length p.pairs) (sym pool) below }

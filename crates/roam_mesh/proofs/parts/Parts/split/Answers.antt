@@ -6,7 +6,8 @@ use Rattle.roam_mesh.specs.Keeping.{CanTakeBack, IsKeptMate}
 use Rattle.roam_mesh.specs.declared.entry.Entry.{Entry}
 use Rattle.roam_mesh.proofs.PlaceLemmas.{live_below}
 use Rattle.roam_mesh.proofs.RoleLemmas.{leaf_live}
-use Rattle.roam_mesh.proofs.SplitLaws.{first_rest, second_rest, mate, first_last, split_first, split_second, split_alone, split_both}
+use Rattle.roam_mesh.proofs.SplitLaws.{first_rest, second_rest, mate, first_last, split_first, split_second}
+use Rattle.roam_mesh.proofs.SplitLaws.{split_alone, split_both}
 use Rattle.roam_mesh.proofs.parts.Parts.split.Goals as goal
 use Rattle.roam_mesh.proofs.parts.Parts.split.Goals.{After-n-n}
 
@@ -21,11 +22,13 @@ module _ (c : After-n-n) where
   -- what was read is what the slot had
   own : c.index.result.now ≡ entry_at c.args.self.now c.args.s.0
   own =
-      let below = live_below c.args.self.now.pool.pairs c.args.s.0 (leaf_live c.args.self.now.pool.pairs c.args.s.0 c.requires.leaf) in
+      let below = live_below c.args.self.now.pool.pairs c.args.s.0
+      (leaf_live c.args.self.now.pool.pairs c.args.s.0 c.requires.leaf) in
       let long = whole.entries in
       let same = ap (λ (p : PartsState). length p.entries) c.self.view_is in
       let within : c.args.s.0 < length c.self.inside.entries.items = omega arith in
-      get_or_read c.self.inside.entries.items c.args.s.0 c.index.result.now within c.index.ensures blank ∙ ap (λ (p : PartsState). entry_at p c.args.s.0) c.self.view_is
+      get_or_read c.self.inside.entries.items c.args.s.0 c.index.result.now within c.index.ensures blank
+      ∙ ap (λ (p : PartsState). entry_at p c.args.s.0) c.self.view_is
 
   -- what is fresh besides the slot, and besides its mate
   abbrev rest : List ℕ
@@ -78,7 +81,8 @@ take_back-requires-in-Some c =
         front begun,
         other begun,
         subst (λ (e : Entry). CanTakeBack c.take_back.new.self (front begun) (other begun) e) (sym kept.own)
-            (second begun c.take_back.new.self c.in-Some.other kept (first begun c.take_back.new.self c.take_back.ensures.seated)),
+            (second begun c.take_back.new.self c.in-Some.other kept
+            (first begun c.take_back.new.self c.take_back.ensures.seated)),
       );
     }
 
@@ -91,7 +95,8 @@ returns-in-Some-clause-split c =
     split_both c.args.self.now c.split_at-born.new.self c.args.s.0 c.requires.parts (whole begun)
     (now begun) c.requires.settled c.requires.leaf c.split_at-born.ensures.split c.take_back.new.self
     c.take_back-in-Some.new.self c.in-Some.other kept back
-    (c.take_back-in-Some.ensures.seated (front begun) (other begun) last ∙ ap (seated c.take_back.new.self (front begun) (other begun)) kept.own)
+    (c.take_back-in-Some.ensures.seated (front begun) (other begun) last
+    ∙ ap (seated c.take_back.new.self (front begun) (other begun)) kept.own)
 
 pub returns-in_default-clause-split : goal.returns-in_default-clause-split
 returns-in_default-clause-split c =

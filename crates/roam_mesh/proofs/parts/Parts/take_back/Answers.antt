@@ -1,5 +1,6 @@
 use Rattle.std.proofs.lemmas.Grind.{common_steps}
-use Rattle.std.proofs.Common.{◌≡◌, ℕ, ◌-◌, ◌≤◌, true, false, List, Option, Some, arith, length, map, take, slice_set, refl, sym, ap, subst, ◌∙◌, ⊎_elim}
+use Rattle.std.proofs.Common.{◌≡◌, ℕ, ◌-◌, ◌≤◌, true, false, List, Option, Some, arith, length, map, take, slice_set}
+use Rattle.std.proofs.Common.{refl, sym, ap, subst, ◌∙◌, ⊎_elim}
 use Rattle.std.proofs.lemmas.Bool.{both_ways}
 use Rattle.mesh_defs.specs.ClosedSet.{among}
 use Rattle.roam_mesh.specs.contracts.parts.Parts.{the_view}
@@ -20,16 +21,20 @@ rest_of m = map (λ t. t.0) (take (m.fresh_count - 1) m.fresh.items)
 
 -- once the last one is read
 module _ (c : After-index-s) where
-  back : (1 ≤ c.self.inside.fresh_count) × CanTakeBack (the_view c.self.inside) (rest_of c.self.inside) c.index-s.result.now.0 c.args.was.now
-  back = back_last (the_view c.self.inside) c.args.self.now c.self.inside.fresh.items c.self.inside.fresh_count c.index-s.result.now c.args.was.now c.self.view_is refl c.self.invariant.2.1 c.index-s.ensures c.requires.last
+  back : (1 ≤ c.self.inside.fresh_count)
+      × CanTakeBack (the_view c.self.inside) (rest_of c.self.inside) c.index-s.result.now.0 c.args.was.now
+  back = back_last (the_view c.self.inside) c.args.self.now c.self.inside.fresh.items c.self.inside.fresh_count
+      c.index-s.result.now c.args.was.now c.self.view_is refl c.self.invariant.2.1 c.index-s.ensures c.requires.last
 
   there : among (the_view c.self.inside).fresh c.index-s.result.now.0 ≡ true
-  there = ap (λ l. among l c.index-s.result.now.0) back.1.last ∙ among_last (rest_of c.self.inside) c.index-s.result.now.0
+  there =
+      ap (λ l. among l c.index-s.result.now.0) back.1.last ∙ among_last (rest_of c.self.inside) c.index-s.result.now.0
 
 pub index_mut-requires : goal.index_mut-requires
 index_mut-requires c =
     let m = c.self.inside in
-    let below = listed_below m.entries.items (λ f. f.fresh) (the_view m).fresh c.index-s.result.now.0 c.self.invariant.0.fresh refl (there (goal.at.index_mut-requires c).After-index-s) in
+    let below = listed_below m.entries.items (λ f. f.fresh) (the_view m).fresh c.index-s.result.now.0
+    c.self.invariant.0.fresh refl (there (goal.at.index_mut-requires c).After-index-s) in
     omega (arith, m.entries.ok.0)
 
 pub invariant_of-self : goal.invariant_of-self
@@ -39,9 +44,14 @@ invariant_of-self c =
     let s = c.index-s.result.now in
     let read = (goal.at.invariant_of-self c).After-index-s in
     let can = (back read).1 in
-    let is = read_whole parts (rest_of m) s.0 c.args.was.now (Some (deadline_of c.args.was.now)) c.self.invariant.0 can.last can.stale can.listed can.known in
+    let is = read_whole parts (rest_of m) s.0 c.args.was.now
+    (Some (deadline_of c.args.was.now)) c.self.invariant.0 can.last can.stale can.listed can.known in
     let within : m.fresh_count ≤ length m.fresh.items = c.self.invariant.2.1 in (
-      subst IsWhole (sym (ap (λ (d : List (Option ℕ)). record parts { entries = slice_set m.entries.items s.0 c.args.was.now; due = d; fresh = rest_of m }) c.renew.ensures)) is,
+      subst IsWhole (sym (ap (λ (d : List (Option ℕ)). record parts {
+        entries = slice_set m.entries.items s.0 c.args.was.now;
+        due = d;
+        fresh = rest_of m;
+      }) c.renew.ensures)) is,
       c.self.invariant.1,
       (c.self.invariant.2.0, omega arith),
     )
@@ -54,7 +64,8 @@ put_in-requires-clause-entry c =
 pub put_in-requires-clause-leaf : goal.put_in-requires-clause-leaf
 put_in-requires-clause-leaf c leaf =
     let read = (goal.at.put_in-requires-clause-leaf c).After-index-s in
-    leaf_absent (the_view c.self.inside) (among (the_view c.self.inside).fresh) c.index-s.result.now.0 (back read).1.parts_are.placed (there read)
+    leaf_absent (the_view c.self.inside) (among (the_view c.self.inside).fresh) c.index-s.result.now.0
+    (back read).1.parts_are.placed (there read)
 
 pub put_in-requires-clause-diamond : goal.put_in-requires-clause-diamond
 put_in-requires-clause-diamond c whole =
@@ -69,21 +80,25 @@ put_in-requires-clause-diamond c whole =
     diamond_absent parts (among parts.fresh) s.0 is.pool is.placed ready (there read)
 
 -- the slot is back in its place
-state : (c : goal.After-put_in) → c.put_in.new.self ≡ seated (the_view c.self.inside) (rest_of c.self.inside) c.index-s.result.now.0 c.args.was.now
+state : (c : goal.After-put_in) →
+    c.put_in.new.self ≡ seated (the_view c.self.inside) (rest_of c.self.inside) c.index-s.result.now.0 c.args.was.now
 state c =
     let m = c.self.inside in
     let s = c.index-s.result.now in
-    c.put_in.ensures ∙ ap (λ (d : List (Option ℕ)). put_in (record (the_view m) { entries = slice_set m.entries.items s.0 c.args.was.now; due = d; fresh = rest_of m }) s.0) c.renew.ensures
+    c.put_in.ensures ∙ ap (λ (d : List (Option ℕ)). put_in (record (the_view m)
+    { entries = slice_set m.entries.items s.0 c.args.was.now; due = d; fresh = rest_of m }) s.0) c.renew.ensures
 
 pub returns-clause-parts : goal.returns-clause-parts
 returns-clause-parts c =
     let read = (goal.at.returns-clause-parts c).After-index-s in
-    subst IsParts (sym (state c)) (seated_has (the_view c.self.inside) (rest_of c.self.inside) c.index-s.result.now.0 c.args.was.now c.self.invariant.0 (back read).1).parts
+    subst IsParts (sym (state c)) (seated_has (the_view c.self.inside)
+    (rest_of c.self.inside) c.index-s.result.now.0 c.args.was.now c.self.invariant.0 (back read).1).parts
 
 pub returns-clause-seated : goal.returns-clause-seated
 returns-clause-seated c old_rest old_s old_last =
     let read = (goal.at.returns-clause-seated c).After-index-s in
-    state c ∙ seated_same (the_view c.self.inside) c.args.self.now (rest_of c.self.inside) old_rest c.index-s.result.now.0 old_s c.args.was.now c.self.view_is (back read).1.last old_last
+    state c ∙ seated_same (the_view c.self.inside) c.args.self.now (rest_of c.self.inside) old_rest
+    c.index-s.result.now.0 old_s c.args.was.now c.self.view_is (back read).1.last old_last
 
 pub overflow_sub-self : goal.overflow_sub-self
 overflow_sub-self c = grind (arith, common_steps)
@@ -93,4 +108,5 @@ index-s-requires c = grind (arith, common_steps)
 
 pub returns-clause-pool : goal.returns-clause-pool
 returns-clause-pool c =
-    ap (λ (p : PartsState). p.pool) c.put_in.ensures ∙ put_in-pool _ c.index-s.result.now.0 ∙ ap (λ (p : PartsState). p.pool) c.self.view_is
+    ap (λ (p : PartsState). p.pool) c.put_in.ensures ∙ put_in-pool _ c.index-s.result.now.0
+    ∙ ap (λ (p : PartsState). p.pool) c.self.view_is

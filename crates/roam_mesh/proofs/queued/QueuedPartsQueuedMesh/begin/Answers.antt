@@ -4,7 +4,8 @@ use Rattle.mesh_defs.specs.ClosedSet.{among}
 use Rattle.deferred_loop.specs.Seen.{IsQuiet, IsBegun}
 use Rattle.deferred_loop.specs.Log.{emptied}
 use Rattle.roam_mesh.specs.Parts.{QueuedState, PartsState, seen_parts}
-use Rattle.roam_mesh.proofs.BeginLemmas.{IsBeginning, beginning_start, beginning_step, beginning_more, beginning_end, due_entry}
+use Rattle.roam_mesh.proofs.BeginLemmas.{IsBeginning, beginning_start, beginning_step, beginning_more, beginning_end}
+use Rattle.roam_mesh.proofs.BeginLemmas.{due_entry}
 use Rattle.roam_mesh.proofs.queued.QueuedPartsQueuedMesh.begin.Goals as goal
 
 pub loop-self-init : goal.loop-self-init
@@ -27,7 +28,8 @@ pub loop-self-smaller : goal.loop-self-smaller
 loop-self-smaller c =
     let now = c.loop-self.self-inside.parts in
     let due = c.loop-self-test.ensures.some refl in
-    let more = beginning_more c.args.self.now.parts now c.args.odometer due.0 c.list_due.ensures.whole due.1 c.loop-self.invariant.0 in
+    let more = beginning_more c.args.self.now.parts now c.args.odometer due.0 c.list_due.ensures.whole due.1
+    c.loop-self.invariant.0 in
     let long = ap (λ (p : PartsState). length p.fresh) due.2 ∙ more.0 in
     let pairs = ap (λ (p : PartsState). length p.pool.pairs) due.2 ∙ ap (λ (p : PoolState). length p.pairs) more.2 in
     omega (arith, long, pairs, more.1)

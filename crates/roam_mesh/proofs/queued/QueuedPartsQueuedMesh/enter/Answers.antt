@@ -12,11 +12,13 @@ use Rattle.roam_mesh.proofs.SlotListLemmas.{among_last}
 use Rattle.roam_mesh.proofs.queued.QueuedPartsQueuedMesh.enter.Goals as goal
 
 pub enter_next-requires-clause-entry : goal.enter_next-requires-clause-entry
-enter_next-requires-clause-entry c s rest last = c.self.invariant.entries s (ap (λ l. among l s) last ∙ among_last rest s)
+enter_next-requires-clause-entry c s rest last =
+    c.self.invariant.entries s (ap (λ l. among l s) last ∙ among_last rest s)
 
 pub enter_next-requires-clause-leaf : goal.enter_next-requires-clause-leaf
 enter_next-requires-clause-leaf c s rest last leaf =
-    leaf_absent c.self.inside.parts (among c.self.inside.parts.fresh) s c.self.invariant.placed (ap (λ l. among l s) last ∙ among_last rest s)
+    leaf_absent c.self.inside.parts (among c.self.inside.parts.fresh) s c.self.invariant.placed
+    (ap (λ l. among l s) last ∙ among_last rest s)
 
 pub enter_next-requires-clause-diamond : goal.enter_next-requires-clause-diamond
 enter_next-requires-clause-diamond c s rest last whole =
@@ -32,7 +34,8 @@ pub invariant_of-self : goal.invariant_of-self
 invariant_of-self c =
     let parts = c.self.inside.parts in
     let after = c.enter_next.ensures.entered in
-    subst IsParts (sym after.3) (entered_parts parts after.0 after.1 c.args.reading.now c.args.odometer c.enter_next.ensures.whole c.self.invariant after.2 c.requires.far c.requires.small)
+    subst IsParts (sym after.3) (entered_parts parts after.0 after.1 c.args.reading.now c.args.odometer
+    c.enter_next.ensures.whole c.self.invariant after.2 c.requires.far c.requires.small)
 
 -- equal lists begin alike
 same_head : (a b : ℕ) (xs ys : List ℕ) → a ∷ xs ≡ b ∷ ys → a ≡ b
@@ -43,11 +46,14 @@ returns-clause-entered c =
     let parts = c.self.inside.parts in
     let reading = c.args.reading.now in
     let after = c.enter_next.ensures.entered in
-    let seen = entered_seen parts after.0 after.1 reading c.args.odometer c.enter_next.ensures.whole c.self.invariant after.2 in
+    let seen = entered_seen parts after.0 after.1 reading c.args.odometer c.enter_next.ensures.whole
+    c.self.invariant after.2 in
     let head = same_head (address_at parts.pool.pairs after.1) c.args._t _ _ (sym seen.fresh
     ∙ ap (λ (p : PartsState). (seen_parts p).fresh) (ap (λ (z : QueuedState). z.parts) c.self.view_is)
     ∙ c.requires.next.1) in
-    let one = subst (λ t. IsEntered (seen_parts parts) (seen_parts (entered parts after.0 after.1 reading c.args.odometer)) t reading c.args.odometer) head seen in
-    let two = subst (λ p. IsEntered (seen_parts parts) (seen_parts p) c.args._t reading c.args.odometer) (sym after.3) one in
+    let one = subst (λ t. IsEntered (seen_parts parts)
+    (seen_parts (entered parts after.0 after.1 reading c.args.odometer)) t reading c.args.odometer) head seen in
+    let two =
+    subst (λ p. IsEntered (seen_parts parts) (seen_parts p) c.args._t reading c.args.odometer) (sym after.3) one in
     subst (λ (p : PartsState). IsEntered (seen_parts p) (seen_parts c.enter_next.new.self) c.args._t reading
     c.args.odometer) (ap (λ (z : QueuedState). z.parts) c.self.view_is) two

@@ -29,7 +29,8 @@ returns-clause-gain c =
     let next = forced_list pool.n (pool_members pool) c.args.t.tri set.closed c.requires.splittable in
     let planned = subst (λ (z : PoolState). (members after : List ℕ) → IsAscending members →
     ((a : ℕ) → among members a ≡ split_set z.pairs a) →
-    IsForced z.n members (address_at z.pairs c.args.t.slot.0) after → length after ≡ length members + c.plan.result.gain)
+    IsForced z.n members (address_at z.pairs c.args.t.slot.0) after →
+    length after ≡ length members + c.plan.result.gain)
     (ap (λ (z : PartsState). z.pool) state) c.plan.ensures.members in
     record {
       after = next.0;
@@ -47,6 +48,7 @@ returns-clause-small c =
     let same : length slots ≡ length c.plan.result.slots.items = length-map c.plan.result.slots.items (λ s. s.0) in
     let count = subst (λ (n : ℕ). length c.plan.result.slots.items ≤ 2 * n) (ap (λ (z : PartsState). z.pool.n) state)
     c.plan.ensures.count in
-    let size = subst (λ (p : List ℕ). c.plan.result.gain ≡ chain_size p slots) (ap (λ (z : PartsState). z.pool.pairs) state)
+    let size =
+    subst (λ (p : List ℕ). c.plan.result.gain ≡ chain_size p slots) (ap (λ (z : PartsState). z.pool.pairs) state)
     c.plan.ensures.size in
     let most = chain_size-le c.args.self.now.parts.pool.pairs slots in omega (arith, high, same, count, size, most)

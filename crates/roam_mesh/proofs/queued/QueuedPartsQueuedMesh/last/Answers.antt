@@ -22,7 +22,8 @@ use Rattle.roam_mesh.proofs.queued.QueuedPartsQueuedMesh.last.Goals.{in-Some, in
 pub returns-in_err-head-clause-head : goal.returns-in_err-head-clause-head
 returns-in_err-head-clause-head c =
     let parts : PartsState = c.args.self.now.parts in
-    let is : IsParts c.args.self.now.parts = subst IsParts (ap (λ (z : QueuedState). z.parts) c.self.view_is) c.self.invariant in
+    let is : IsParts c.args.self.now.parts =
+    subst IsParts (ap (λ (z : QueuedState). z.parts) c.self.view_is) c.self.invariant in
     let view : the_view c.self-inside.inside.0.0 ≡ c.args.self.now.parts =
     ap (λ (z : Inside). z.parts) c.self-inside.view_is ∙ (ap (λ (z : QueuedState). z.parts) c.self.view_is) in
     let none : c.args.self.now.parts.fresh ≡ [] = settled_fresh c.args.self.now.parts c.requires.settled in
@@ -36,7 +37,8 @@ returns-in_err-head-clause-head c =
 pub better_and_unasked-next-requires : goal.better_and_unasked-next-requires
 better_and_unasked-next-requires c =
     let parts : PartsState = c.args.self.now.parts in
-    let is : IsParts c.args.self.now.parts = subst IsParts (ap (λ (z : QueuedState). z.parts) c.self.view_is) c.self.invariant in
+    let is : IsParts c.args.self.now.parts =
+    subst IsParts (ap (λ (z : QueuedState). z.parts) c.self.view_is) c.self.invariant in
     let view : the_view c.self-inside.inside.0.0 ≡ c.args.self.now.parts =
     ap (λ (z : Inside). z.parts) c.self-inside.view_is ∙ (ap (λ (z : QueuedState). z.parts) c.self.view_is) in
     let none : c.args.self.now.parts.fresh ≡ [] = settled_fresh c.args.self.now.parts c.requires.settled in
@@ -57,15 +59,18 @@ tri-requires c =
     let view : the_view c.self-inside.inside.0.0 ≡ parts = ap (λ (z : Inside). z.parts) c.self-inside.view_is ∙ state in
     let none : parts.fresh ≡ [] = settled_fresh parts c.requires.settled in
     let last : IsLastEntry parts.merge c.in_ok-head.head c.in_ok-head.rank =
-    subst (λ (z : PartsState). IsLastEntry z.merge c.in_ok-head.head c.in_ok-head.rank) view c.in_ok-head.ensures.last in
+    subst (λ (z : PartsState). IsLastEntry z.merge c.in_ok-head.head c.in_ok-head.rank) view
+    c.in_ok-head.ensures.last in
     let unasked : IsUnasked parts c.in_ok-head.head.0 c.in-Some.s =
-    subst (λ (o : Option Slot). MatchOption o (IsKnownRank parts c.in_ok-head.head.0) (IsUnasked parts c.in_ok-head.head.0)) c.in-Some.is
+    subst (λ (o : Option Slot). MatchOption o (IsKnownRank parts c.in_ok-head.head.0)
+    (IsUnasked parts c.in_ok-head.head.0)) c.in-Some.is
     (subst (λ (z : PartsState). MatchOption c.better_and_unasked-next.result.1 (IsKnownRank z c.in_ok-head.head.0)
     (IsUnasked z c.in_ok-head.head.0)) state
     c.better_and_unasked-next.ensures.unasked) in
     record {
       live = subst (λ (z : PartsState). IsLive z.pool.pairs c.in-Some.s.0) (sym view)
-          (of_live parts c.in_ok-head.head.0 c.in-Some.s.0 (ready_chief parts is none c.in_ok-head.head c.in_ok-head.rank last)
+          (of_live parts c.in_ok-head.head.0 c.in-Some.s.0
+          (ready_chief parts is none c.in_ok-head.head c.in_ok-head.rank last)
           unasked.own);
     }
 
@@ -77,25 +82,30 @@ returns-clause-head c =
     let view : the_view c.self-inside.inside.0.0 ≡ parts = ap (λ (z : Inside). z.parts) c.self-inside.view_is ∙ state in
     let none : parts.fresh ≡ [] = settled_fresh parts c.requires.settled in
     let last : IsLastEntry parts.merge c.in_ok-head.head c.in_ok-head.rank =
-    subst (λ (z : PartsState). IsLastEntry z.merge c.in_ok-head.head c.in_ok-head.rank) view c.in_ok-head.ensures.last in
+    subst (λ (z : PartsState). IsLastEntry z.merge c.in_ok-head.head c.in_ok-head.rank) view
+    c.in_ok-head.ensures.last in
     let next : MatchOption c.better_and_unasked-next.result.1 (IsKnownRank parts c.in_ok-head.head.0)
     (IsUnasked parts c.in_ok-head.head.0) =
     subst (λ (z : PartsState). MatchOption c.better_and_unasked-next.result.1 (IsKnownRank z c.in_ok-head.head.0)
     (IsUnasked z c.in_ok-head.head.0)) state
     c.better_and_unasked-next.ensures.unasked in
-    last_head parts is none c.in_ok-head.head c.in_ok-head.rank last c.better_and_unasked-next.result.0 c.match-next.unasked
+    last_head parts is none c.in_ok-head.head c.in_ok-head.rank last
+    c.better_and_unasked-next.result.0 c.match-next.unasked
     (elim c.match-next.branch [
       | in-Some w ↦ subst (λ (o : Option Located). MatchOption o (IsKnownRank parts c.in_ok-head.head.0)
           (λ t. IsUnasked parts c.in_ok-head.head.0 t.slot × (address_at parts.pool.pairs t.slot.0 ≡ t.tri)))
           (sym w.unasked-is) (
-            subst (λ (o : Option Slot). MatchOption o (IsKnownRank parts c.in_ok-head.head.0) (IsUnasked parts c.in_ok-head.head.0))
+            subst (λ (o : Option Slot). MatchOption o (IsKnownRank parts c.in_ok-head.head.0)
+                (IsUnasked parts c.in_ok-head.head.0))
                 w.in-Some.is next,
-            sym (subst (λ (z : PartsState). w.tri.result ≡ address_at z.pool.pairs w.in-Some.s.0) view w.tri.ensures.value),
+            sym (subst (λ (z : PartsState). w.tri.result ≡ address_at z.pool.pairs w.in-Some.s.0)
+                view w.tri.ensures.value),
           )
       | in-None w ↦ subst (λ (o : Option Located). MatchOption o (IsKnownRank parts c.in_ok-head.head.0)
           (λ t. IsUnasked parts c.in_ok-head.head.0 t.slot × (address_at parts.pool.pairs t.slot.0 ≡ t.tri)))
           (sym w.unasked-is)
-          (subst (λ (o : Option Slot). MatchOption o (IsKnownRank parts c.in_ok-head.head.0) (IsUnasked parts c.in_ok-head.head.0))
+          (subst (λ (o : Option Slot). MatchOption o (IsKnownRank parts c.in_ok-head.head.0)
+          (IsUnasked parts c.in_ok-head.head.0))
           w.in-None.is next)
     ])
 
@@ -106,10 +116,13 @@ returns-clause-at c =
     let is : IsParts parts = subst IsParts state c.self.invariant in
     let view : the_view c.self-inside.inside.0.0 ≡ parts = ap (λ (z : Inside). z.parts) c.self-inside.view_is ∙ state in
     let last : IsLastEntry parts.merge c.in_ok-head.head c.in_ok-head.rank =
-    subst (λ (z : PartsState). IsLastEntry z.merge c.in_ok-head.head c.in_ok-head.rank) view c.in_ok-head.ensures.last in
-    named_at parts is (settled_fresh parts c.requires.settled) c.in_ok-head.head c.in_ok-head.rank last c.better_and_unasked-next.result.0
+    subst (λ (z : PartsState). IsLastEntry z.merge c.in_ok-head.head c.in_ok-head.rank) view
+    c.in_ok-head.ensures.last in
+    named_at parts is (settled_fresh parts c.requires.settled) c.in_ok-head.head c.in_ok-head.rank last
+    c.better_and_unasked-next.result.0
     (subst (λ (z : PartsState). worst_rank z (address_at z.pool.pairs c.better_and_unasked-next.result.0.0)
-    ≡ diamond_rank z (chief_of (address_at z.pool.pairs c.in_ok-head.head.0))) state c.better_and_unasked-next.ensures.better)
+    ≡ diamond_rank z (chief_of (address_at z.pool.pairs c.in_ok-head.head.0))) state
+    c.better_and_unasked-next.ensures.better)
 
 pub returns-clause-unasked_at : goal.returns-clause-unasked_at
 returns-clause-unasked_at c =
@@ -117,7 +130,10 @@ returns-clause-unasked_at c =
     let view : the_view c.self-inside.inside.0.0 ≡ parts =
     ap (λ (z : Inside). z.parts) c.self-inside.view_is ∙ ap (λ (z : QueuedState). z.parts) c.self.view_is in
     elim c.match-next.branch [
-      | in-Some w ↦ subst (λ (o : Option Located). IfSome o (λ t. address_at parts.pool.pairs t.slot.0 ≡ t.tri)) (sym w.unasked-is)
-          (sym (subst (λ (z : PartsState). w.tri.result ≡ address_at z.pool.pairs w.in-Some.s.0) view w.tri.ensures.value))
-      | in-None w ↦ subst (λ (o : Option Located). IfSome o (λ t. address_at parts.pool.pairs t.slot.0 ≡ t.tri)) (sym w.unasked-is) tt
+      | in-Some w ↦ subst (λ (o : Option Located). IfSome o (λ t. address_at parts.pool.pairs t.slot.0 ≡ t.tri))
+          (sym w.unasked-is)
+          (sym (subst (λ (z : PartsState). w.tri.result ≡ address_at z.pool.pairs w.in-Some.s.0)
+          view w.tri.ensures.value))
+      | in-None w ↦ subst (λ (o : Option Located). IfSome o (λ t. address_at parts.pool.pairs t.slot.0 ≡ t.tri))
+          (sym w.unasked-is) tt
     ]

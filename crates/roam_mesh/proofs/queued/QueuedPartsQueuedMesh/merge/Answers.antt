@@ -45,7 +45,8 @@ returns-clause-log c =
     let before = c.self.inside.parts.pool in
     subst (λ (z : QueuedState). IsLogged (pool_set z.parts.pool) (pool_set c.merge.new.self.pool) z.log
     c.note_diamond.new.self) c.self.view_is
-    (subst (λ (z : Log). IsLogged (pool_set before) (pool_set c.merge.new.self.pool) c.self.inside.log z) (sym c.note_diamond.ensures)
+    (subst (λ (z : Log). IsLogged (pool_set before) (pool_set c.merge.new.self.pool) c.self.inside.log z)
+    (sym c.note_diamond.ensures)
     (merge_logged before c.merge.new.self.pool (address_at before.pairs c.args.t.slot.0) c.self.inside.log
     c.self.invariant.pool c.merge.ensures.parts.pool
     c.merge.ensures.pool c.merge.ensures.merge.splits c.merge.ensures.merges))

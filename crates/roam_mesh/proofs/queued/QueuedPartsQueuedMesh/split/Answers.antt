@@ -23,7 +23,8 @@ split-born-requires-clause-settled c =
 pub split-born-requires-clause-leaf : goal.split-born-requires-clause-leaf
 split-born-requires-clause-leaf c =
     let valid = subst IsParts (ap (λ (z : QueuedState). z.parts) c.self.view_is) c.self.invariant in
-    let leaf = slot_leaf c.args.self.now.parts.pool c.args.t.slot.0 c.args.t.tri valid.pool c.requires.leaf c.requires.at in
+    let leaf =
+    slot_leaf c.args.self.now.parts.pool c.args.t.slot.0 c.args.t.tri valid.pool c.requires.leaf c.requires.at in
     subst (λ (z : PartsState). is_leaf_at z.pool.pairs c.args.t.slot.0 ≡ true)
     (sym (ap (λ (z : QueuedState). z.parts) c.self.view_is))
     (leaf_from c.args.self.now.parts.pool.pairs c.args.t.slot.0 leaf)
@@ -36,7 +37,8 @@ split-born-requires-clause-room c =
     subst (λ (z : PartsState). (gain : ℕ)
     → IsGainOf z.pool.n z.pool.pairs (address_at z.pool.pairs c.args.t.slot.0) gain
     → gain ≤ room_of z.pool.pairs) (sym (ap (λ (z : QueuedState). z.parts) c.self.view_is))
-    (λ gain grows. split_room c.args.self.now.parts.pool c.args.t.tri gain valid.pool c.requires.splittable whole.pairs c.requires.room
+    (λ gain grows. split_room c.args.self.now.parts.pool c.args.t.tri gain valid.pool c.requires.splittable
+    whole.pairs c.requires.room
     (subst (λ t. IsGainOf c.args.self.now.parts.pool.n c.args.self.now.parts.pool.pairs t gain) c.requires.at grows))
 
 pub returns-clause-split : goal.returns-clause-split
@@ -56,8 +58,10 @@ pub returns-clause-log : goal.returns-clause-log
 returns-clause-log c =
     let before = c.self.inside.parts.pool in
     let after = c.split-born.new.self.pool in
-    let listed = c.note_split.ensures ∙ ap (λ (x : List Born). noted_all c.self.inside.log (parents_of after.pairs x)) c.deref.ensures.0 in
-    subst (λ (z : QueuedState). IsLogged (pool_set z.parts.pool) (pool_set after) z.log c.note_split.new.self) c.self.view_is
+    let listed = c.note_split.ensures
+    ∙ ap (λ (x : List Born). noted_all c.self.inside.log (parents_of after.pairs x)) c.deref.ensures.0 in
+    subst (λ (z : QueuedState). IsLogged (pool_set z.parts.pool)
+    (pool_set after) z.log c.note_split.new.self) c.self.view_is
     (subst (λ (z : Log). IsLogged (pool_set before) (pool_set after) c.self.inside.log z) (sym listed)
     (split_logged before after c.split-born.result.items c.self.inside.log c.self.invariant.pool
     c.split-born.ensures.parts.pool c.split-born.ensures.born))

@@ -45,10 +45,12 @@ hear-requires-clause-diamond c leaf =
     let ready : is_ready_at c.self.inside.parts.pool.pairs c.args.slot.0 ≡ true = ⊎_elim
     (λ (there : is_leaf_at c.self.inside.parts.pool.pairs c.args.slot.0 ≡ true). absurd
     (both_ways (is_leaf_at c.self.inside.parts.pool.pairs c.args.slot.0) leaf there))
-    (λ (diamond : (is_leaf_at c.self.inside.parts.pool.pairs c.args.slot.0 ≡ false) × (is_ready_at c.self.inside.parts.pool.pairs c.args.slot.0 ≡ true)). diamond.1)
+    (λ (diamond : (is_leaf_at c.self.inside.parts.pool.pairs c.args.slot.0 ≡ false)
+    × (is_ready_at c.self.inside.parts.pool.pairs c.args.slot.0 ≡ true)). diamond.1)
     (entry_cases c.self.inside.parts.pool.pairs c.args.slot.0
     (entry_told c.self.inside.parts c.args.slot.0 c.args.rank.tri c.self.invariant entry at)) in
-    diamond_present c.self.inside.parts (among c.self.inside.parts.fresh) c.args.slot.0 c.self.invariant.pool c.self.invariant.placed ready
+    diamond_present c.self.inside.parts
+    (among c.self.inside.parts.fresh) c.args.slot.0 c.self.invariant.pool c.self.invariant.placed ready
     (λ r. ap (λ l. among l r) none)
 
 pub invariant_of-self : goal.invariant_of-self
@@ -74,10 +76,13 @@ returns-clause-told c =
     let at : address_at c.self.inside.parts.pool.pairs c.args.slot.0 ≡ c.args.rank.tri =
     subst (λ (z : PartsState). address_at z.pool.pairs c.args.slot.0 ≡ c.args.rank.tri)
     (sym (ap (λ (z : QueuedState). z.parts) c.self.view_is)) c.requires.at in
-    let live : IsLive c.self.inside.parts.pool.pairs c.args.slot.0 = entry_live c.self.inside.parts.pool.pairs c.args.slot.0
+    let live : IsLive c.self.inside.parts.pool.pairs c.args.slot.0 =
+    entry_live c.self.inside.parts.pool.pairs c.args.slot.0
     (entry_told c.self.inside.parts c.args.slot.0 c.args.rank.tri c.self.invariant entry at) in
-    let seen : IsRated (seen_parts c.self.inside.parts) (seen_parts (rated c.self.inside.parts c.args.slot.0 c.args.rank.p)) c.args.rank =
+    let seen : IsRated (seen_parts c.self.inside.parts)
+    (seen_parts (rated c.self.inside.parts c.args.slot.0 c.args.rank.p)) c.args.rank =
     told_seen c.self.inside.parts c.args.slot.0 c.args.rank c.hear.ensures.whole c.self.invariant.pool live at in
     subst (λ (z : PartsState). IsRated (seen_parts z) (seen_parts c.hear.new.self) c.args.rank)
     (ap (λ (z : QueuedState). z.parts) c.self.view_is)
-    (subst (λ (z : PartsState). IsRated (seen_parts c.self.inside.parts) (seen_parts z) c.args.rank) (sym c.hear.ensures.told) seen)
+    (subst (λ (z : PartsState). IsRated (seen_parts c.self.inside.parts) (seen_parts z) c.args.rank)
+    (sym c.hear.ensures.told) seen)

@@ -5,8 +5,10 @@ use Rattle.roam_script.proofs.command.Command.line.Goals as goal
 
 pub returns-in-Camera : goal.returns-in-Camera
 returns-in-Camera c =
-    c.camera.ensures c.args.limits.now ∙ ap (λ w. line_of c.args.limits.now w (fields_of c.args.fields.now.rest.now)) (sym c.in-Camera.is)
+    c.camera.ensures c.args.limits.now
+    ∙ ap (λ w. line_of c.args.limits.now w (fields_of c.args.fields.now.rest.now)) (sym c.in-Camera.is)
 
 pub returns-in-Plane : goal.returns-in-Plane
 returns-in-Plane c =
-    c.plane.ensures c.args.limits.now ∙ ap (λ w. line_of c.args.limits.now w (fields_of c.args.fields.now.rest.now)) (sym c.in-Plane.is)
+    c.plane.ensures c.args.limits.now
+    ∙ ap (λ w. line_of c.args.limits.now w (fields_of c.args.fields.now.rest.now)) (sym c.in-Plane.is)

@@ -7,7 +7,8 @@ use Rattle.run_files.proofs.cert_file.CertStage.take_byte.Goals as goal
 pub returns-then-byte-eq10-clause-taken : goal.returns-then-byte-eq10-clause-taken
 returns-then-byte-eq10-clause-taken c read come =
     let t = c.take_line.ensures in
-    rw c.if-byte-eq10.true (takes-line c.args.self.now.reader.n read c.args.self.now come c.take_line.new.self c.take_line.result t.ok t.lines t.part t.bad_line t.number)
+    rw c.if-byte-eq10.true (takes-line c.args.self.now.reader.n read c.args.self.now come c.take_line.new.self
+    c.take_line.result t.ok t.lines t.part t.bad_line t.number)
 
 pub returns-then-is_full-clause-taken : goal.returns-then-is_full-clause-taken
 returns-then-is_full-clause-taken c read come =

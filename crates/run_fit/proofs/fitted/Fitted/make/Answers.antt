@@ -11,8 +11,11 @@ returns c =
     let target : Target = target_seen c.args.target in
     let frame = c.frame-note.ensures in
     record {
-      fitted = framed-fitted (record { wedges = c.in_ok-wedges.wedges; fit = c.frame-note.new.self; note = c.frame-note.result }) target c.args.grid c.grid.result.now
-          c.tolerance_in.result c.in_ok-fit.fit.budget (rw c.n-n.ensures.value at c.n-n.ensures.high) (c.grid.ensures.value ∙ c.in_ok-wedges.ensures) c.in_ok-wedges.ensures
+      fitted = framed-fitted
+          (record { wedges = c.in_ok-wedges.wedges; fit = c.frame-note.new.self; note = c.frame-note.result }) target
+          c.args.grid c.grid.result.now
+          c.tolerance_in.result c.in_ok-fit.fit.budget (rw c.n-n.ensures.value at c.n-n.ensures.high)
+          (c.grid.ensures.value ∙ c.in_ok-wedges.ensures) c.in_ok-wedges.ensures
           (frame.n ∙ c.in_ok-fit.ensures.n ∙ c.n-n.ensures.value)
           (c.tolerance_in.ensures ∙ ap (λ (k : ℕ). tolerance_for k target) c.n-n.ensures.value)
           (c.in_ok-fit.ensures.budget ∙ c.budget_of.ensures.value)

@@ -10,5 +10,6 @@ invariant-loop-byte l = record {
   come : (read : List ℕ) → HasFitCertCome l.fn.self.reader.n read (fit_place_seen l.fn.self)
       → HasFitCertCome l.fn.self.reader.n (read ++ take l.byte-index l.piece) (fit_place_seen l.self);
   counted : IsFitStageCounted l.self;
-  longer : 201 * l.fn.self.lines + length l.fn.self.part.items + l.byte-index ≤ 201 * l.self.lines + length l.self.part.items;
+  longer : 201 * l.fn.self.lines + length l.fn.self.part.items + l.byte-index
+      ≤ 201 * l.self.lines + length l.self.part.items;
 }

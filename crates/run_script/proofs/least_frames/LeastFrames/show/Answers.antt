@@ -8,7 +8,8 @@ use Rattle.run_script.proofs.least_frames.LeastFrames.show.Goals as goal
 pub returns-clause-does : goal.returns-clause-does
 returns-clause-does g c =
     let f = c.args.self.now in
-    let acts : List ℕ → List ℕ → List Act = λ text line. WholeMesh f.prefix.now f.frames text ∷ (ReportText line ∷ []) in
+    let acts : List ℕ → List ℕ → List Act =
+    λ text line. WholeMesh f.prefix.now f.frames text ∷ (ReportText line ∷ []) in
     does-same _ _ _ _ c.show_mesh.result
     (ap (λ (t : List ℕ). acts t c.as_slice.result.now) c.view.ensures.text
     ∙ ap (acts (text_in (state_seen f) f.least.leaves)) (c.as_slice.ensures.value ∙ c.least_report-line.ensures))

@@ -11,7 +11,8 @@ pub returns-clause-valid : goal.returns-clause-valid
 returns-clause-valid c =
     let f = c.args.self.now in
     let n : ℕ = c.scene.inside.wedges.now.n in
-    let level : f.least.n ≡ n = c.requires.level ∙ sym (ap (λ (s : SceneState). s.grid.n) (c.scene.view_is ∙ c.scene-scene.ensures)) in
+    let level : f.least.n ≡ n =
+    c.requires.level ∙ sym (ap (λ (s : SceneState). s.grid.n) (c.scene.view_is ∙ c.scene-scene.ensures)) in
     record {
       levels = subst (λ (l : List ℕ). All (λ a. level_of a ≤ 2 * n) l) (sym c.leaves.ensures.value)
           (conforming-levels f.least.n n f.least.leaves level c.leaves.ensures.conforming);

@@ -10,10 +10,13 @@ pub returns : goal.returns
 returns c =
     let pairs : List ℕ = c.self.inside.pairs.items in
     let e : pairs ≡ c.args.self.now.pairs = ap (λ p. p.pairs) c.self.view_is in
-    let read = node_at-read _ pairs _ _ c.self.inside.nodes.items c.args.s c.index.result.now c.self.invariant e c.requires.live c.index.ensures in
-    let link = left_across c.self.inside.n pairs c.self.inside.parents.items c.self.inside.nodes.items c.args.s (address_at pairs c.args.s) c.self.invariant.forest c.self.invariant.closed refl read.0
+    let read = node_at-read _ pairs _ _ c.self.inside.nodes.items c.args.s c.index.result.now c.self.invariant e
+    c.requires.live c.index.ensures in
+    let link = left_across c.self.inside.n pairs c.self.inside.parents.items c.self.inside.nodes.items c.args.s
+    (address_at pairs c.args.s) c.self.invariant.forest c.self.invariant.closed refl read.0
     (ap (λ t. has_children t (address_at t c.args.s)) e ∙ c.requires.leaf) in
-    subst (λ t. IsAcross t (2 * address_at t c.args.s) c.index.result.now.left) e (subst (λ t. IsAcross pairs (2 * address_at pairs c.args.s) t.left) read.1 link)
+    subst (λ t. IsAcross t (2 * address_at t c.args.s) c.index.result.now.left) e
+    (subst (λ t. IsAcross pairs (2 * address_at pairs c.args.s) t.left) read.1 link)
 
 pub index-requires : goal.index-requires
 index-requires c = grind (arith, common_steps)

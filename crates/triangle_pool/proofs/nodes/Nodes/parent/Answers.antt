@@ -13,12 +13,16 @@ returns-else-index-eq1 c =
     let forest = c.self.invariant.forest in
     let live : IsLive c.self.inside.pairs.items c.args.s = subst (λ t. IsLive t c.args.s) (sym e) c.requires.live in
     let within = live_within c.self.inside.pairs.items c.args.s live in
-    let top : c.index.result.now ≡ get_or c.self.inside.pairs.items (c.args.s / 2) 0 = c.index.ensures ∙ get_or_default c.self.inside.pairs.items (c.args.s / 2) c.index.result.now 0 within in
-    let read = parent_link c.self.inside.pairs.items c.self.inside.parents.items c.args.s c.index-else-index-eq1.result.now live forest.parent_count forest.sound.short forest.upward
+    let top : c.index.result.now ≡ get_or c.self.inside.pairs.items (c.args.s / 2) 0 =
+    c.index.ensures ∙ get_or_default c.self.inside.pairs.items (c.args.s / 2) c.index.result.now 0 within in
+    let read = parent_link c.self.inside.pairs.items c.self.inside.parents.items c.args.s
+    c.index-else-index-eq1.result.now live forest.parent_count forest.sound.short forest.upward
     (λ one. c.if-index-eq1.false (top ∙ one)) c.index-else-index-eq1.ensures in
     record {
-      none = subst (λ t. (c.index-else-index-eq1.result.now ≡ nowhere → address_at t c.args.s < 4) × (address_at t c.args.s < 4 → c.index-else-index-eq1.result.now ≡ nowhere)) e read.0;
-      some = subst (λ t. c.index-else-index-eq1.result.now ≢ nowhere → address_at t c.index-else-index-eq1.result.now ≡ address_at t c.args.s / 2) e read.1;
+      none = subst (λ t. (c.index-else-index-eq1.result.now ≡ nowhere → address_at t c.args.s < 4)
+          × (address_at t c.args.s < 4 → c.index-else-index-eq1.result.now ≡ nowhere)) e read.0;
+      some = subst (λ t. c.index-else-index-eq1.result.now ≢ nowhere →
+          address_at t c.index-else-index-eq1.result.now ≡ address_at t c.args.s / 2) e read.1;
     }
 
 pub index-requires : goal.index-requires

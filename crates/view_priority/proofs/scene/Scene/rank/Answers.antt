@@ -5,7 +5,8 @@ use Rattle.mesh_defs.specs.View.{View, mark_of}
 use Rattle.mesh_defs.specs.State.{SceneState, priority_seen}
 use Rattle.cull_marks.specs.Cuboid.{as_box}
 use Rattle.view_priority.specs.Camera.{view_from}
-use Rattle.view_priority.proofs.PriorityLemmas.{priority_seen-by_parts, priority_of-none, as_box-is, as_box-within_reach}
+use Rattle.view_priority.proofs.PriorityLemmas.{priority_seen-by_parts, priority_of-none, as_box-is}
+use Rattle.view_priority.proofs.PriorityLemmas.{as_box-within_reach}
 use Rattle.view_priority.proofs.NestLemmas.{box_of-ordered}
 use Rattle.view_priority.proofs.scene.Scene.rank.Goals as goal
 
@@ -33,7 +34,8 @@ distance-requires c =
     record {
       reach = as_box-within_reach c.thickness_and_cuboid-thickness.result.1 _
           (as_box-is c.thickness_and_cuboid-thickness.result.1 _ is.x0 is.x1 is.y0 is.y1 is.z0 is.z1)
-          (box_of-ordered i.wedges.now.n i.wedges.now.heights i.spacing c.args.t) is.x_from_0 is.y_from_0 is.z_from_0 is.x_small
+          (box_of-ordered i.wedges.now.n i.wedges.now.heights i.spacing c.args.t) is.x_from_0
+          is.y_from_0 is.z_from_0 is.x_small
           is.y_small is.z_small;
     }
 
@@ -43,7 +45,8 @@ returns-clause-value c =
     let scene : SceneState = record { grid = i.wedges.now; view = view_from i.camera.now i.spacing i.planes.now } in
     let look = c.thickness_and_cuboid-thickness in
     let box : as_box look.result.1 ≡ box_of i.wedges.now.n i.wedges.now.heights i.spacing c.args.t =
-    as_box-is look.result.1 _ look.ensures.x0 look.ensures.x1 look.ensures.y0 look.ensures.y1 look.ensures.z0 look.ensures.z1 in
+    as_box-is look.result.1 _ look.ensures.x0 look.ensures.x1 look.ensures.y0 look.ensures.y1
+    look.ensures.z0 look.ensures.z1 in
     subst (λ (s : SceneState). c.seen_priority.result ≡ priority_seen s c.args.t) c.self.view_is
     (priority_seen-by_parts scene c.args.t c.seen_priority.result _ _ _ c.seen_priority.ensures
     (c.mark.ensures ∙ ap (mark_of i.planes.now) box) look.ensures.thickness

@@ -7,7 +7,8 @@ use Rattle.wedgie_tree.proofs.wedges.Wedges.set.Goals as goal
 
 pub mend-requires-clause-clear : goal.mend-requires-clause-clear
 mend-requires-clause-clear c =
-    IsRightOff-set address_laws c.self.inside.grid c.put.new.self c.new.result c.self.inside.table.items c.deref_mut.result.now
+    IsRightOff-set address_laws c.self.inside.grid c.put.new.self c.new.result
+    c.self.inside.table.items c.deref_mut.result.now
     c.args.x c.args.y c.new.ensures c.deref_mut.ensures.value (ap (λ (g : HeightField). g.n) c.put.ensures.value)
     c.self.invariant c.put.ensures.others
 

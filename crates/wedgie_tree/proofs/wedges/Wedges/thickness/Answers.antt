@@ -19,5 +19,6 @@ returns-then-level-n-clause-bounded c = omega arith
 pub returns-else-level-n-clause-bounded : goal.returns-else-level-n-clause-bounded
 returns-else-level-n-clause-bounded c =
     let small = c.wedge_laws.ensures.bounded c.self.inside.grid c.args.t c.self.invariant.valid in
-    let own = c.wedge.ensures.thickness ∙ ap (λ (g : HeightField). thickness_of g.n g.heights c.args.t) (sym c.self.view_is) in
+    let own = c.wedge.ensures.thickness
+    ∙ ap (λ (g : HeightField). thickness_of g.n g.heights c.args.t) (sym c.self.view_is) in
     omega arith

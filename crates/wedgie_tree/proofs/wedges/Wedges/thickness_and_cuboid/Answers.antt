@@ -12,9 +12,12 @@ corners_is c = c.corners-corners.ensures.value ∙ ap (λ k. corners_of k c.args
     (c.n.ensures.value ∙ ap (λ (g : HeightField). g.n) c.self.view_is)
 
 -- so the box around them is that of the triangle
-box_is : (c : goal.After-box_around-cuboid) → box_by c.args.spacing c.corners-corners.result c.wedge_at-wedge.result.low c.wedge_at-wedge.result.high
+box_is : (c : goal.After-box_around-cuboid) →
+    box_by c.args.spacing c.corners-corners.result c.wedge_at-wedge.result.low c.wedge_at-wedge.result.high
     ≡ box_of c.args.self.now.n c.args.self.now.heights c.args.spacing c.args.t
-box_is c = box_by-triangle c.args.self.now.n c.args.self.now.heights c.args.spacing c.args.t c.wedge_at-wedge.result.low c.wedge_at-wedge.result.high
+box_is c =
+    box_by-triangle c.args.self.now.n c.args.self.now.heights c.args.spacing c.args.t c.wedge_at-wedge.result.low
+    c.wedge_at-wedge.result.high
     c.corners-corners.result (corners_is c) c.wedge_at-wedge.ensures.low c.wedge_at-wedge.ensures.high
 
 pub box_around-cuboid-requires-clause-within : goal.box_around-cuboid-requires-clause-within
