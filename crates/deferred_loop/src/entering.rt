@@ -1,6 +1,7 @@
 //! New and due entries.
 
 ghost use Rattle.std.specs.Prelude.{◌≡◌, ℕ, ◌+◌, ◌-◌, ◌<◌, ◌≤◌, ◌^◌, IsTrue, false, length};
+ghost use Rattle.mesh_defs.specs.declared.counters.TheConstants.{LONGEST_WAY};
 ghost use Rattle.mesh_defs.specs.Triangle.{IsAddress};
 ghost use Rattle.mesh_defs.specs.ClosedSet.{among};
 ghost use Rattle.frame_steps.specs.Deferred.{DeferredFrame, IsDeferredFrame};
@@ -20,7 +21,7 @@ pub fn enter_fresh<M: QueuedMesh, G: Gauge>(mesh: &mut M, gauge: &mut G, odomete
     requires sound { HasTrueKeys w (M.seen mesh.old) }
     requires unknown { (a : ℕ) → IsTrue (among (M.seen mesh.old).fresh a) → (M.seen mesh.old).known a ≡ false }
     requires addresses { (a : ℕ) → IsTrue (among (M.seen mesh.old).fresh a) → IsAddress w.n a }
-    requires far { odometer ≤ 2 ^ 62 }
+    requires far { odometer ≤ LONGEST_WAY }
     ensures told { G.told gauge.new ≡ G.told gauge.old }
     ensures readings { G.readings gauge.new ≡ G.readings gauge.old }
     ensures log { M.log mesh.new ≡ M.log mesh.old }
@@ -45,7 +46,7 @@ pub fn begin_frame<M: QueuedMesh, G: Gauge>(mesh: &mut M, gauge: &mut G, odomete
     requires of { IsFrameOf w (G.readings gauge.old) odometer (M.seen mesh.old) }
     requires hold { ReadingsHold w.n w.priority odometer (G.readings gauge.old) }
     requires quiet { IsQuiet (M.seen mesh.old) }
-    requires far { odometer ≤ 2 ^ 62 }
+    requires far { odometer ≤ LONGEST_WAY }
     ensures told { G.told gauge.new ≡ G.told gauge.old }
     ensures readings { G.readings gauge.new ≡ G.readings gauge.old }
     ensures log { M.log mesh.new ≡ emptied (M.log mesh.old) }

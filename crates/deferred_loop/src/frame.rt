@@ -1,6 +1,7 @@
 //! One frame.
 
 ghost use Rattle.std.specs.Prelude.{◌≡◌, ℕ, ◌+◌, ◌-◌, ◌*◌, ◌<◌, ◌≤◌, ◌^◌, IsTrue, List, length};
+ghost use Rattle.mesh_defs.specs.declared.counters.TheConstants.{LONGEST_WAY, CHANGES_AT_FRAME};
 ghost use Rattle.mesh_defs.specs.ClosedSet.{among};
 ghost use Rattle.mesh_defs.specs.GridSet.{IsGridSet};
 ghost use Rattle.mesh_defs.specs.Falling.{IsFalling};
@@ -49,10 +50,10 @@ fn advance_over<M: QueuedMesh, G: Gauge>(
     requires hold { ReadingsHold w.n w.priority odometer (G.readings gauge.old) }
     requires quiet { IsQuiet (M.seen mesh.old) }
     requires budget { budget ≡ w.budget }
-    requires far { odometer ≤ 2 ^ 62 }
-    requires counted { G.count gauge.old < 2 ^ 61 }
+    requires far { odometer ≤ LONGEST_WAY }
+    requires counted { G.count gauge.old < CHANGES_AT_FRAME }
     requires room { HasRoom w.n (M.seen mesh.old).set.most w.budget }
-    requires counters { ((M.seen mesh.old).set.splits < 2 ^ 61) × ((M.seen mesh.old).set.merges < 2 ^ 61) }
+    requires counters { ((M.seen mesh.old).set.splits < CHANGES_AT_FRAME) × ((M.seen mesh.old).set.merges < CHANGES_AT_FRAME) }
     ensures told { G.told gauge.new ≡ G.told gauge.old }
     ensures readings { G.readings gauge.new ≡ G.readings gauge.old }
     ensures log { IsLogged (M.seen mesh.old).set (M.seen mesh.new).set (emptied (M.log mesh.old)) (M.log mesh.new) }
@@ -99,10 +100,10 @@ pub fn advance<M: QueuedMesh, G: Gauge>(
 ) -> Steps
     requires grid { (G.told gauge.old).n ≡ (M.seen mesh.old).set.n }
     requires budget { 2 ≤ budget }
-    requires far { odometer ≤ 2 ^ 62 }
-    requires counted { G.count gauge.old < 2 ^ 61 }
+    requires far { odometer ≤ LONGEST_WAY }
+    requires counted { G.count gauge.old < CHANGES_AT_FRAME }
     requires room { HasRoom (M.seen mesh.old).set.n (M.seen mesh.old).set.most budget }
-    requires counters { ((M.seen mesh.old).set.splits < 2 ^ 61) × ((M.seen mesh.old).set.merges < 2 ^ 61) }
+    requires counters { ((M.seen mesh.old).set.splits < CHANGES_AT_FRAME) × ((M.seen mesh.old).set.merges < CHANGES_AT_FRAME) }
     requires falls { IsFalling (G.told gauge.old).n (G.told gauge.old).of }
     requires readings { ReadingsHold (G.told gauge.old).n (G.told gauge.old).of
         odometer (G.readings gauge.old) }

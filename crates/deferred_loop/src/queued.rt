@@ -2,6 +2,7 @@
 //! entries, the priorities that were told in this frame, and the entries that are still fresh.
 
 ghost use Rattle.std.specs.Prelude.{◌≡◌, ℕ, ◌+◌, ◌<◌, ◌≤◌, ◌∷◌, ◌^◌, List, [], false, Contains, IfSome, MatchOption};
+ghost use Rattle.mesh_defs.specs.declared.counters.TheConstants.{LONGEST_WAY, MOST_CHANGES};
 ghost use Rattle.mesh_defs.specs.Triangle.{IsSplittable};
 ghost use Rattle.mesh_defs.specs.ClosedSet.{leaves_of, among};
 ghost use Rattle.mesh_defs.specs.GridSet.{IsForced, IsGain};
@@ -122,7 +123,7 @@ pub trait QueuedMesh {
     /// Gives the next fresh entry its stamp, and puts it in its place once nothing of its diamond is fresh.
     fn enter(&mut self, t: Tri, reading: &Reading, odometer: u64)
         requires next { (rest : List ℕ) × ((seen self.old).fresh ≡ t ∷ rest) }
-        requires far { odometer ≤ 2 ^ 62 }
+        requires far { odometer ≤ LONGEST_WAY }
         requires small { reading.now.slack ≤ 2 ^ 32 }
         requires hi { reading.now.hi.tri ≡ t }
         requires lo { reading.now.lo.tri ≡ t }
@@ -137,7 +138,7 @@ pub trait QueuedMesh {
         requires leaf { Contains (leaves_of (seen self.old).set.n (among (seen self.old).set.members)) t.tri }
         requires room { (after : List ℕ) → IsForced (seen self.old).set.n (seen self.old).set.members t.tri after →
             leaf_count (seen self.old).set.n after ≤ (seen self.old).set.most }
-        requires counter { (seen self.old).set.splits + 48 < 2 ^ 62 }
+        requires counter { (seen self.old).set.splits + 48 < MOST_CHANGES }
         ensures split { IsSplitOf (seen self.old) (seen self.new) t.tri }
         ensures log { IsLogged (seen self.old).set (seen self.new).set (log self.old) (log self.new) };
 
@@ -146,14 +147,14 @@ pub trait QueuedMesh {
         requires at { tri_at self.old t.slot.0 ≡ t.tri }
         requires settled { (seen self.old).fresh ≡ [] }
         requires can { CanMerge (seen self.old).set.n (among (seen self.old).set.members) t.tri }
-        requires counter { (seen self.old).set.merges < 2 ^ 62 }
+        requires counter { (seen self.old).set.merges < MOST_CHANGES }
         ensures merge { IsMergeOf (seen self.old) (seen self.new) t.tri }
         ensures log { IsLogged (seen self.old).set (seen self.new).set (log self.old) (log self.new) };
 
     /// Lists what is due at this odometer, and empties the log.
     fn begin(&mut self, odometer: u64)
         requires quiet { IsQuiet (seen self.old) }
-        requires far { odometer ≤ 2 ^ 62 }
+        requires far { odometer ≤ LONGEST_WAY }
         ensures begun { IsBegun (seen self.old) (seen self.new) odometer }
         ensures log { log self.new ≡ emptied (log self.old) };
 

@@ -1,6 +1,7 @@
 //! One split or merge, with its new entries.
 
 ghost use Rattle.std.specs.Prelude.{◌≡◌, ℕ, ◌+◌, ◌-◌, ◌<◌, ◌≤◌, ◌^◌, length};
+ghost use Rattle.mesh_defs.specs.declared.counters.TheConstants.{LONGEST_WAY, MOST_CHANGES};
 ghost use Rattle.frame_steps.specs.Steps.{IsSplitStep, IsMergeStep};
 ghost use Rattle.frame_steps.specs.Deferred.{DeferredFrame, IsDeferredFrame};
 ghost use Rattle.frame_steps.specs.Stamps.{ReadingsHold};
@@ -27,9 +28,9 @@ pub fn split_at<M: QueuedMesh, G: Gauge>(
     requires settled { IsSettled w (M.seen mesh.old) }
     requires next { IsNextSplit w.n w.budget w.priority (M.seen mesh.old).set.members t.tri }
     requires hold { ReadingsHold w.n w.priority odometer (G.readings gauge.old) }
-    requires far { odometer ≤ 2 ^ 62 }
+    requires far { odometer ≤ LONGEST_WAY }
     requires small { splits.old ≤ 2 ^ 30 }
-    requires counter { (M.seen mesh.old).set.splits + 48 < 2 ^ 62 }
+    requires counter { (M.seen mesh.old).set.splits + 48 < MOST_CHANGES }
     requires room { HasRoom w.n (M.seen mesh.old).set.most w.budget }
     requires at { M.tri_at mesh.old t.slot.0 ≡ t.tri }
     ensures told { G.told gauge.new ≡ G.told gauge.old }
@@ -66,9 +67,9 @@ pub fn merge_at<M: QueuedMesh, G: Gauge>(
     requires settled { IsSettled w (M.seen mesh.old) }
     requires next { IsNextMerge w.n w.budget w.priority (M.seen mesh.old).set.members t.tri }
     requires hold { ReadingsHold w.n w.priority odometer (G.readings gauge.old) }
-    requires far { odometer ≤ 2 ^ 62 }
+    requires far { odometer ≤ LONGEST_WAY }
     requires small { merges.old ≤ 2 ^ 30 }
-    requires counter { (M.seen mesh.old).set.merges < 2 ^ 62 }
+    requires counter { (M.seen mesh.old).set.merges < MOST_CHANGES }
     requires at { M.tri_at mesh.old t.slot.0 ≡ t.tri }
     ensures told { G.told gauge.new ≡ G.told gauge.old }
     ensures readings { G.readings gauge.new ≡ G.readings gauge.old }

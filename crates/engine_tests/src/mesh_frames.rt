@@ -3,6 +3,7 @@
 //! The lists were worked out apart, from heights and cameras by the definitions.
 
 ghost use Rattle.std.specs.Prelude.{◌≡◌, ℕ, ◌+◌, ◌*◌, ◌/◌, ◌<◌, ◌≤◌, ◌^◌, true, Some, get_or, IfOk};
+ghost use Rattle.mesh_defs.specs.declared.counters.TheConstants.{LONGEST_WAY, CHANGES_AT_FRAME};
 ghost use Rattle.mesh_defs.specs.Falling.{IsFalling};
 ghost use Rattle.frame_steps.specs.Stamps.{Stamp};
 ghost use Rattle.roam_mesh.specs.Mesh.{stamp_of};
@@ -170,8 +171,8 @@ impl Run {
         ensures below { (a : ℕ) → get_or priorities.now a 0 ≤ get_or self.now.upper.items a 0 }
         ensures budget { (2 ≤ budget) × (budget ≤ self.now.mesh.pool.most) }
         ensures slack { slack ≤ 2 ^ 32 }
-        ensures odometer { (self.now.since ≤ odometer) × (odometer ≤ 2 ^ 62) }
-        ensures counters { (self.now.mesh.pool.splits < 2 ^ 61) × (self.now.mesh.pool.merges < 2 ^ 61) }
+        ensures odometer { (self.now.since ≤ odometer) × (odometer ≤ LONGEST_WAY) }
+        ensures counters { (self.now.mesh.pool.splits < CHANGES_AT_FRAME) × (self.now.mesh.pool.merges < CHANGES_AT_FRAME) }
     {
         check_falling(rt, self.mesh.pool().n(), priorities);
         assert!(rt; is_below(self.lower.as_slice(), priorities), "lower bounds");

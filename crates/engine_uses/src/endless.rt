@@ -1,8 +1,9 @@
 //! A flight without an end.
 
 ghost use Rattle.std.specs.Prelude.{◌≡◌, ◌+◌, ◌<◌, ◌≤◌, ◌^◌};
+ghost use Rattle.mesh_defs.specs.declared.counters.TheConstants.{LONGEST_WAY};
 ghost use Rattle.mesh_defs.specs.State.{with_camera};
-ghost use Rattle.frame_loop.specs.declared.limits.TheConstants.{LONGEST_WAY, MOST_FRAMES};
+ghost use Rattle.frame_loop.specs.declared.limits.TheConstants.{MOST_FRAMES};
 ghost use Rattle.frame_loop.specs.Engine.{mesh_seen};
 ghost use Rattle.engine_uses.specs.Best.{IsBestSeen};
 

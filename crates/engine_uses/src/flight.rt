@@ -1,9 +1,10 @@
 //! A flight over terrain.
 
 ghost use Rattle.std.specs.Prelude.{◌≡◌, ◌+◌, ◌<◌, ◌≤◌, ◌^◌, length, IfOk};
+ghost use Rattle.mesh_defs.specs.declared.counters.TheConstants.{LONGEST_WAY};
 ghost use Rattle.mesh_defs.specs.State.{with_camera};
 ghost use Rattle.triangle_pool.specs.declared.pool.TheConstants.{MOST_LEAVES};
-ghost use Rattle.frame_loop.specs.declared.limits.TheConstants.{LONGEST_WAY, MOST_FRAMES};
+ghost use Rattle.frame_loop.specs.declared.limits.TheConstants.{MOST_FRAMES};
 ghost use Rattle.frame_loop.specs.Engine.{mesh_seen};
 ghost use Rattle.engine_uses.specs.Best.{AreBestFrom, IsBestSeen};
 

@@ -1,6 +1,7 @@
 //! Forced splits, the coarsest first.
 
-ghost use Rattle.std.specs.Prelude.{◌≡◌, ℕ, ◌+◌, ◌*◌, ◌/◌, ◌^◌, ◌<◌, ◌≤◌, ◌⊎◌, ◌++◌, ◌∷◌, List, length, slice_index, true, false};
+ghost use Rattle.std.specs.Prelude.{◌≡◌, ℕ, ◌+◌, ◌*◌, ◌/◌, ◌<◌, ◌≤◌, ◌⊎◌, ◌++◌, ◌∷◌, List, length, slice_index, true, false};
+ghost use Rattle.mesh_defs.specs.declared.counters.TheConstants.{MOST_CHANGES};
 ghost use Rattle.arrayvec.specs.ArrayVec.{array_vec_len};
 ghost use Rattle.mesh_defs.specs.Triangle.{level_of};
 ghost use Rattle.mesh_defs.specs.ClosedSet.{IsLeastClosed};
@@ -21,7 +22,7 @@ fn split_all(pool: &mut Pool, slots: &[Slot], answers: &mut ArrayVec<Born, 24>)
     requires chain { IsChain pool.old.pairs (numbers slots.now) }
     requires coarse { 1 ≤ length slots.now → level_of (address_at pool.old.pairs (slice_index (numbers slots.now) 0)) < 2 * pool.old.n }
     requires room { chain_size pool.old.pairs (numbers slots.now) ≤ room_of pool.old.pairs }
-    requires count { pool.old.splits + chain_size pool.old.pairs (numbers slots.now) < 2 ^ 62 }
+    requires count { pool.old.splits + chain_size pool.old.pairs (numbers slots.now) < MOST_CHANGES }
     requires fits { array_vec_len answers.old + length slots.now ≤ 24 }
     ensures n { pool.new.n ≡ pool.old.n }
     ensures most { pool.new.most ≡ pool.old.most }
@@ -52,7 +53,7 @@ pub fn carry_out(pool: &mut Pool, chain: &Chain) -> ArrayVec<Born, 24>
     requires size { chain.now.gain ≡ chain_size pool.old.pairs (numbers chain.now.slots.items) }
     requires coarse { level_of (address_at pool.old.pairs (slice_index (numbers chain.now.slots.items) 0)) < 2 * pool.old.n }
     requires room { chain.now.gain ≤ room_of pool.old.pairs }
-    requires count { pool.old.splits + 48 < 2 ^ 62 }
+    requires count { pool.old.splits + 48 < MOST_CHANGES }
     ensures n { pool.new.n ≡ pool.old.n }
     ensures most { pool.new.most ≡ pool.old.most }
     ensures merges { pool.new.merges ≡ pool.old.merges }

@@ -1,6 +1,7 @@
 //! The engine.
 
 ghost use Rattle.std.specs.Prelude.{◌≡◌, ℕ, ◌+◌, ◌-◌, ◌*◌, ◌<◌, ◌≤◌, ◌^◌, min, [], All, None, IfOk, length};
+ghost use Rattle.mesh_defs.specs.declared.counters.TheConstants.{LONGEST_WAY};
 ghost use Rattle.mesh_defs.specs.State.{scene_of, start_state, with_camera, with_budget, move_length};
 ghost use Rattle.mesh_defs.specs.Triangle.{level_of};
 ghost use Rattle.mesh_defs.specs.ClosedSet.{IsClosed};
@@ -10,7 +11,6 @@ ghost use Rattle.mesh_defs.specs.HeightField.{side_of};
 ghost use Rattle.mesh_defs.specs.declared.level.TheConstants.{GREATEST_LEVEL};
 ghost use Rattle.wedgie_tree.specs.declared.wedges.TheConstants.{GREATEST_SPACING};
 ghost use Rattle.roam_mesh.specs.Mesh.{stamp_of, pool_members, OnlyEntriesStamped};
-ghost use Rattle.frame_loop.specs.declared.limits.TheConstants.{LONGEST_WAY};
 ghost use Rattle.frame_loop.specs.Outlook.{AreBracketed};
 ghost use Rattle.frame_loop.specs.Changes.{no_changes};
 ghost use Rattle.frame_loop.specs.Engine.{is_split, mesh_seen};

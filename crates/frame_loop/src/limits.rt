@@ -2,6 +2,3 @@
 
 /// The most frames of an engine until it is renewed: 4 h 38 min at 60 a second. Its other counters stay in their range by it.
 pub const MOST_FRAMES: u32 = 1_000_000;
-
-/// The longest way of a camera, move by move, until its engine is renewed.
-pub const LONGEST_WAY: u64 = 1 << 62;

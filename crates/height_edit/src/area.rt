@@ -1,6 +1,7 @@
 //! Raising an area, and the triangles that meet it.
 
-ghost use Rattle.std.specs.Prelude.{◌≡◌, ℕ, ◌*◌, ◌^◌, ◌≤◌, ◌≤ℤ◌, ◌↔◌, IsTrue, pos, negsuc};
+ghost use Rattle.std.specs.Prelude.{◌≡◌, ℕ, ◌*◌, ◌^◌, ◌≤◌, ◌≤ℤ◌, ◌↔◌, IsTrue};
+ghost use Rattle.roam_lanes.specs.Raising.{least_change, greatest_change};
 ghost use Rattle.mesh_defs.specs.Triangle.{IsAddress, level_of, corners_of};
 ghost use Rattle.mesh_defs.specs.Thickness.{thickness_of};
 ghost use Rattle.mesh_defs.specs.BoundingBox.{box_of};
@@ -36,8 +37,8 @@ pub fn raise_area(wedges: &mut Wedges, x0: u32, y0: u32, x1: u32, y1: u32, dz: i
     requires in_columns { x1 ≤ 2 ^ wedges.old.n }
     requires rows { y0 ≤ y1 }
     requires in_rows { y1 ≤ 2 ^ wedges.old.n }
-    requires at_least { negsuc 65534 ≤ℤ dz }
-    requires at_most { dz ≤ℤ pos 65535 }
+    requires at_least { least_change ≤ℤ dz }
+    requires at_most { dz ≤ℤ greatest_change }
     ensures value { wedges.new
         ≡ record wedges.old { heights = raised_heights wedges.old (area_between x0 y0 x1 y1) dz } }
     // A triangle that does not meet the area keeps its thickness and its box.

@@ -7,11 +7,13 @@
 
 #![tactic(auto)]
 
+mod counters;
 mod laws;
 mod level;
 mod mark;
 mod point;
 
+pub use counters::{CHANGES_AT_FRAME, LONGEST_WAY, MOST_CHANGES};
 pub use laws::roots;
 pub use level::GREATEST_LEVEL;
 pub use mark::Mark;

@@ -1,6 +1,7 @@
 //! Frames of a mesh over made heights: the first one, and one more.
 
-ghost use Rattle.std.specs.Prelude.{◌≡◌, ℕ, ◌≤◌, ◌^◌, None, IfSome, IfOk};
+ghost use Rattle.std.specs.Prelude.{◌≡◌, ℕ, ◌≤◌, None, IfSome, IfOk};
+ghost use Rattle.mesh_defs.specs.declared.counters.TheConstants.{LONGEST_WAY};
 ghost use Rattle.mesh_defs.specs.State.{move_length};
 ghost use Rattle.mesh_defs.specs.declared.level.TheConstants.{GREATEST_LEVEL};
 ghost use Rattle.roam_mesh.specs.Mesh.{stamp_of};
@@ -156,7 +157,7 @@ fn two_frames(
     requires merges { mesh.old.pool.merges ≡ 0 }
     requires stamps { (a : ℕ) → stamp_of mesh.old a ≡ None }
     requires way { move_length from to ≤ odometer }
-    requires far { odometer ≤ 2 ^ 62 }
+    requires far { odometer ≤ LONGEST_WAY }
 {
     gauge_laws();
     let mut gauge = ViewGauge {

@@ -1,7 +1,7 @@
 //! A row of samples that is raised or lowered within its bounds.
 
-ghost use Rattle.std.specs.Prelude.{◌≡◌, ◌+◌, ◌-◌, ◌≤◌, ◌≤ℤ◌, pos, negsuc, unsigned_abs, length, map, min, All};
-ghost use Rattle.roam_lanes.specs.Raising.{raised};
+ghost use Rattle.std.specs.Prelude.{◌≡◌, ◌+◌, ◌-◌, ◌≤◌, ◌≤ℤ◌, unsigned_abs, length, map, min, All};
+ghost use Rattle.roam_lanes.specs.Raising.{least_change, greatest_change, raised};
 
 use crate::lanes::{greater, lesser};
 use std::simd::prelude::*;
@@ -13,8 +13,8 @@ const LANES: usize = 8;
 ///
 /// Cost (not proved): a step for each block of eight samples.
 pub fn raise_row(row: &mut [u16], delta: i32, maxval: u16)
-    requires at_least { negsuc 65534 ≤ℤ delta }
-    requires at_most { delta ≤ℤ pos 65535 }
+    requires at_least { least_change ≤ℤ delta }
+    requires at_most { delta ≤ℤ greatest_change }
     requires bounded { All (λ h. h ≤ maxval) row.old }
     ensures value { row.new ≡ map (λ h. raised maxval delta h) row.old }
 {
@@ -27,8 +27,8 @@ pub fn raise_row(row: &mut [u16], delta: i32, maxval: u16)
 
 /// The plain twin of `raise_row`: sample by sample.
 pub fn raise_row_plain(row: &mut [u16], delta: i32, maxval: u16)
-    requires at_least { negsuc 65534 ≤ℤ delta }
-    requires at_most { delta ≤ℤ pos 65535 }
+    requires at_least { least_change ≤ℤ delta }
+    requires at_most { delta ≤ℤ greatest_change }
     requires bounded { All (λ h. h ≤ maxval) row.old }
     ensures value { row.new ≡ map (λ h. raised maxval delta h) row.old }
 {
@@ -41,8 +41,8 @@ pub fn raise_row_plain(row: &mut [u16], delta: i32, maxval: u16)
 
 /// How far a step goes, up or down.
 fn size_of_step(delta: i32) -> u16
-    requires at_least { negsuc 65534 ≤ℤ delta }
-    requires at_most { delta ≤ℤ pos 65535 }
+    requires at_least { least_change ≤ℤ delta }
+    requires at_most { delta ≤ℤ greatest_change }
     ensures { result ≡ unsigned_abs delta }
 {
     delta.unsigned_abs() as u16

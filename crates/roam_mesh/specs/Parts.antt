@@ -4,6 +4,7 @@
 -- QueuedState, mesh_of, is_leaf_at, is_bare, is_ready, is_ready_at, is_chief_at, is_entry_at, is_out, leaf_rank,
 -- worst_rank, better_of, diamond_rank, IsSlotList, IsWhole, IsPlaced, IsNear, IsParts.
 use Rattle.std.specs.Prelude.{◌≡◌, ℕ, ◌+◌, ◌*◌, ◌^◌, ◌≤◌, Bool, true, false, not, ◌&&◌, ◌||◌, cond, nat_eq, nat_le}
+use Rattle.mesh_defs.specs.declared.counters.TheConstants.{LONGEST_WAY}
 use Rattle.std.specs.Prelude.{nat_lt, List, length, map, take, reverse, Option, None, Some, slice_index, slice_index_or}
 use Rattle.std.specs.List.{IsDistinct}
 use Rattle.mesh_defs.specs.ClosedSet.{among}
@@ -188,7 +189,7 @@ pub record IsPlaced (parts : PartsState) (out : ℕ → Bool) : Type 0 where
 
 -- a stamp is small enough for a deadline
 abbrev pub IsNear : Entry → Type 0
-IsNear e = (e.odometer ≤ 2 ^ 62) × (e.slack ≤ 2 ^ 32)
+IsNear e = (e.odometer ≤ LONGEST_WAY) × (e.slack ≤ 2 ^ 32)
 
 -- what holds between two calls of the loop: all entries are in their places but the fresh ones
 pub record IsParts (parts : PartsState) : Type 0 where

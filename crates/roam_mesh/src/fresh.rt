@@ -1,6 +1,7 @@
 //! The lists of a frame: which slots are fresh, and which were asked.
 
 ghost use Rattle.std.specs.Prelude.{◌≡◌, ℕ, ◌<◌, ◌≤◌, ◌+◌, ◌*◌, ◌^◌, ◌++◌, ◌∷◌, List, [], true, false, None, Some, IfNone, IfSome, IsNone, IsSome, length, slice_index_or};
+ghost use Rattle.mesh_defs.specs.declared.counters.TheConstants.{LONGEST_WAY};
 ghost use Rattle.lazy_priority.specs.Due.{IsDue, NoneIsDue};
 ghost use Rattle.roam_mesh.specs.Parts.{is_leaf_at, is_entry_at, is_ready_at, entry_at, IsWhole, IsPlaced, IsParts};
 ghost use Rattle.roam_mesh.specs.Change.{chief_slot, diamond_slots, above_slots, pushed, pushed_all, rated, entered, seated, forgotten, begun_at};
@@ -90,7 +91,7 @@ impl Parts {
         requires leaf { (s : ℕ) (rest : List ℕ) → self.old.fresh ≡ rest ++ (s ∷ []) → is_leaf_at self.old.pool.pairs s ≡ true → slice_index_or self.old.split s None ≡ None }
         requires diamond { (s : ℕ) (rest : List ℕ) → self.old.fresh ≡ rest ++ (s ∷ []) → is_leaf_at self.old.pool.pairs s ≡ false →
             slice_index_or self.old.merge (chief_slot self.old.pool.pairs s) None ≡ None }
-        requires far { odometer ≤ 2 ^ 62 }
+        requires far { odometer ≤ LONGEST_WAY }
         requires small { reading.now.slack ≤ 2 ^ 32 }
         ensures whole { IsWhole self.old }
         ensures entered { (rest : List ℕ) × (s : ℕ) × (self.old.fresh ≡ rest ++ (s ∷ [])) × (self.new ≡ entered self.old rest s reading.now odometer) }

@@ -1,6 +1,7 @@
 //! What a merge does to the places of the entries.
 
-ghost use Rattle.std.specs.Prelude.{◌≡◌, ◌+◌, ◌<◌, ◌≤◌, ◌^◌, ◌++◌, true, cond, nat_lt, [], IsNone, IfSome};
+ghost use Rattle.std.specs.Prelude.{◌≡◌, ◌+◌, ◌<◌, ◌≤◌, ◌++◌, true, cond, nat_lt, [], IsNone, IfSome};
+ghost use Rattle.mesh_defs.specs.declared.counters.TheConstants.{MOST_CHANGES};
 ghost use Rattle.edge_laws.specs.Edge.{mate_of};
 ghost use Rattle.edge_laws.specs.Slots.{address_at, diamond_size, IsMerge};
 ghost use Rattle.roam_mesh.specs.Mesh.{slot_of};
@@ -19,7 +20,7 @@ impl Parts {
         requires parts { IsParts self.old }
         requires settled { self.old.fresh ≡ [] }
         requires ready { is_ready_at self.old.pool.pairs s.0 ≡ true }
-        requires count { self.old.pool.merges < 2 ^ 62 }
+        requires count { self.old.pool.merges < MOST_CHANGES }
         ensures parts { IsParts self.new }
         ensures merge { IsMergeOf (seen_parts self.old) (seen_parts self.new) (address_at self.old.pool.pairs s.0) }
         ensures pool { IsMerge self.old.pool.pairs self.new.pool.pairs (address_at self.old.pool.pairs s.0) }
@@ -54,7 +55,7 @@ impl Parts {
     /// are its triangles, leaves now, this one last.
     fn merge_at(&mut self, s: Slot)
         requires ready { is_ready_at self.old.pool.pairs s.0 ≡ true }
-        requires count { self.old.pool.merges < 2 ^ 62 }
+        requires count { self.old.pool.merges < MOST_CHANGES }
         ensures { IsMergeAt self.old self.new s.0 }
     {
         self.leave_all_children(s);

@@ -1,6 +1,7 @@
 //! The mesh.
 
 ghost use Rattle.std.specs.Prelude.{◌≡◌, ℕ, ◌+◌, ◌-◌, ◌*◌, ◌^◌, ◌<◌, ◌≤◌, false, None, Some, [], MatchOption, cond, nat_eq, option_map, slice_index, ◌↔◌, All, IsNone, IfOk};
+ghost use Rattle.mesh_defs.specs.declared.counters.TheConstants.{LONGEST_WAY, CHANGES_AT_FRAME};
 ghost use Rattle.mesh_defs.specs.ClosedSet.{leaves_of, among};
 ghost use Rattle.mesh_defs.specs.Falling.{IsFalling};
 ghost use Rattle.mesh_defs.specs.declared.level.TheConstants.{GREATEST_LEVEL};
@@ -135,10 +136,10 @@ impl Mesh {
     pub fn advance<G: Gauge>(&mut self, gauge: &mut G, budget: u32, odometer: u64) -> Steps
         requires grid { (G.told gauge.old).n ≡ self.old.pool.n }
         requires budget { 2 ≤ budget }
-        requires far { odometer ≤ 2 ^ 62 }
-        requires counted { G.count gauge.old < 2 ^ 61 }
+        requires far { odometer ≤ LONGEST_WAY }
+        requires counted { G.count gauge.old < CHANGES_AT_FRAME }
         requires room { HasRoom self.old.pool.n self.old.pool.most budget }
-        requires counters { (self.old.pool.splits < 2 ^ 61) × (self.old.pool.merges < 2 ^ 61) }
+        requires counters { (self.old.pool.splits < CHANGES_AT_FRAME) × (self.old.pool.merges < CHANGES_AT_FRAME) }
         requires falls { IsFalling (G.told gauge.old).n (G.told gauge.old).of }
         requires readings { ReadingsHold (G.told gauge.old).n (G.told gauge.old).of
             odometer (G.readings gauge.old) }

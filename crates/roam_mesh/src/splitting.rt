@@ -1,6 +1,7 @@
 //! What a split does to the places of the entries.
 
-ghost use Rattle.std.specs.Prelude.{◌≡◌, ℕ, ◌+◌, ◌*◌, ◌<◌, ◌≤◌, ◌^◌, ◌/◌, ◌∷◌, [], true, false, IsNone, IfSome, length, slice_index};
+ghost use Rattle.std.specs.Prelude.{◌≡◌, ℕ, ◌+◌, ◌*◌, ◌<◌, ◌≤◌, ◌/◌, ◌∷◌, [], true, false, IsNone, IfSome, length, slice_index};
+ghost use Rattle.mesh_defs.specs.declared.counters.TheConstants.{MOST_CHANGES};
 ghost use Rattle.std.specs.List.{AllByRecursion, filter};
 ghost use Rattle.mesh_defs.specs.Triangle.{level_of};
 ghost use Rattle.edge_laws.specs.Edge.{mate_of};
@@ -30,7 +31,7 @@ impl Parts {
         requires leaf { is_leaf_at self.old.pool.pairs s.0 ≡ true }
         requires coarse { level_of (address_at self.old.pool.pairs s.0) < 2 * self.old.pool.n }
         requires room { (gain : ℕ) → IsGainOf self.old.pool.n self.old.pool.pairs (address_at self.old.pool.pairs s.0) gain → gain ≤ room_of self.old.pool.pairs }
-        requires count { self.old.pool.splits + 48 < 2 ^ 62 }
+        requires count { self.old.pool.splits + 48 < MOST_CHANGES }
         ensures parts { IsParts self.new }
         ensures split { IsSplitOf (seen_parts self.old) (seen_parts self.new) (address_at self.old.pool.pairs s.0) }
         ensures born { IsBornOfSplit self.old.pool self.new.pool result.items }
@@ -67,7 +68,7 @@ impl Parts {
         requires leaf { is_leaf_at self.old.pool.pairs s.0 ≡ true }
         requires coarse { level_of (address_at self.old.pool.pairs s.0) < 2 * self.old.pool.n }
         requires room { (gain : ℕ) → IsGainOf self.old.pool.n self.old.pool.pairs (address_at self.old.pool.pairs s.0) gain → gain ≤ room_of self.old.pool.pairs }
-        requires count { self.old.pool.splits + 48 < 2 ^ 62 }
+        requires count { self.old.pool.splits + 48 < MOST_CHANGES }
         ensures split { IsSplitAt self.old self.new s.0 }
         ensures born { IsBornOfSplit self.old.pool self.new.pool result.items }
     {
@@ -86,7 +87,7 @@ impl Parts {
         requires size { chain.now.gain ≡ chain_size self.old.pool.pairs (numbers chain.now.slots.items) }
         requires coarse { level_of (address_at self.old.pool.pairs (slice_index (numbers chain.now.slots.items) 0)) < 2 * self.old.pool.n }
         requires room { chain.now.gain ≤ room_of self.old.pool.pairs }
-        requires count { self.old.pool.splits + 48 < 2 ^ 62 }
+        requires count { self.old.pool.splits + 48 < MOST_CHANGES }
         ensures pool { IsChainSplit self.old.pool self.new.pool (numbers chain.now.slots.items) result.items }
         ensures rest { self.new ≡ record self.old { pool = self.new.pool } }
     {

@@ -22,8 +22,8 @@ use Rattle.run_laws.proofs.RunLemmas.{read-failed, memory-spent, opens-then, fai
 use Rattle.run_laws.proofs.RunLemmas.{tells-as}
 use Rattle.run_fit_check.specs.declared.verdict_report.Judgement.{Judgement}
 use Rattle.run_fit_check.specs.declared.verdict_report.Judgement.TheVariants.{Certified, Rejected, BadLine, MeshDiffers}
-use Rattle.run_fit_check.specs.FitJudging.{fit_judged_text, fit_judged_status, mesh_opens, fit_judged_outcome}
-use Rattle.run_fit_check.specs.FitJudging.{IsFitJudged, IsFaultlessFitFile, FitMeshHasRead, IsSoundFor, FailsBehind}
+use Rattle.run_fit_check.specs.FitJudging.{fit_judged_text, fit_judged_status, fit_mesh_opens, fit_judged_outcome}
+use Rattle.run_fit_check.specs.FitJudging.{IsFitJudged, IsFaultlessFitFile, FitMeshHasRead, IsSoundFor, FitFailsBehind}
 use Rattle.run_fit_check.specs.FitJudging.{FitJudgesNoMemory, FitJudgesFault}
 
 -- The triangles are those of a certificate without a fault, of so many that are off by so much.
@@ -64,7 +64,7 @@ module _ (c : FitChecking) (grid : HeightField) (cert : FitCertificate) (count d
   -- a read of the file failed
   pub fails-behind : (before now : Moment) →
       HasFailed before now 1 c.mesh (FitMeshHasRead (fit_text c.spacing grid triangles))
-      → FailsBehind c grid cert before now
+      → FitFailsBehind c grid cert before now
   fails-behind before now failed = (
     sound.0,
     sound.1,
@@ -163,7 +163,7 @@ module _ (before middle last now : Moment) (name : List ℕ) (c : FitChecking) (
     (text : List ℕ) (meant status : Status)
     (idle : before.under_way ≡ false) (read : ReadsGrid before middle name grid) where
   -- the line of a judgement ends a check
-  pub check-runs : (judgement : Judgement) → HasOpened middle last (1 + mesh_opens judgement)
+  pub check-runs : (judgement : Judgement) → HasOpened middle last (1 + fit_mesh_opens judgement)
       → (fit_judged_status judgement ≡ Done → HasEnded last.shelf)
       → ((files : List NamedFile) → middle.shelf.files ≡ Some files → IsFitJudged c grid files judgement)
       → text ≡ fit_judged_text grid.n judgement → meant ≡ fit_judged_status judgement →

@@ -1,6 +1,6 @@
 -- What a check of a fitted mesh by a certificate comes to, and where it stops.
--- Words: fit_judged_text, fit_judged_status, mesh_opens, fit_judged_outcome, IsFitJudged, IsFaultlessFitFile,
--- IsSoundFor, FitMeshHasRead, NoMemoryBehind, FailsBehind, FitJudgesNoMemory, FitJudgesFault.
+-- Words: fit_judged_text, fit_judged_status, fit_mesh_opens, fit_judged_outcome, IsFitJudged, IsFaultlessFitFile,
+-- IsSoundFor, FitMeshHasRead, FitNoMemoryBehind, FitFailsBehind, FitJudgesNoMemory, FitJudgesFault.
 use Rattle.std.specs.Prelude.{◌≡◌, ℕ, ◌+◌, ◌⊎◌, List, length, Some, Ok}
 use Rattle.mesh_defs.specs.HeightField.{HeightField}
 use Rattle.roam_edge.specs.Shelf.{NamedFile, bytes_of}
@@ -36,16 +36,16 @@ fit_judged_status (BadLine line) = ends.Rejected
 fit_judged_status (MeshDiffers place) = ends.Rejected
 
 -- how often the mesh was opened for it: only behind a certificate without a fault
-abbrev pub mesh_opens : Judgement → ℕ
-mesh_opens (Certified triangles deviation) = 1
-mesh_opens (Rejected why) = 0
-mesh_opens (BadLine line) = 0
-mesh_opens (MeshDiffers place) = 1
+abbrev pub fit_mesh_opens : Judgement → ℕ
+fit_mesh_opens (Certified triangles deviation) = 1
+fit_mesh_opens (Rejected why) = 0
+fit_mesh_opens (BadLine line) = 0
+fit_mesh_opens (MeshDiffers place) = 1
 
 -- the outcome of a run that tells it: the grid and the certificate were opened for it, and the mesh or not
 abbrev pub fit_judged_outcome : ℕ → Judgement → Outcome
 fit_judged_outcome n judgement =
-    text_outcome (fit_judged_text n judgement) (fit_judged_status judgement) (2 + mesh_opens judgement)
+    text_outcome (fit_judged_text n judgement) (fit_judged_status judgement) (2 + fit_mesh_opens judgement)
 
 -- the judgement is right for the files
 abbrev pub IsFitJudged : FitChecking → HeightField → List NamedFile → Judgement → Type 0
@@ -70,13 +70,13 @@ abbrev pub FitMeshHasRead : List ℕ → List ℕ → Type 0
 FitMeshHasRead text read = IsPrefix read text
 
 -- behind this certificate memory ran out: at once, or, if it has no fault, when the mesh was opened
-abbrev pub NoMemoryBehind : FitChecking → HeightField → FitCertificate → Moment → Moment → Type 0
-NoMemoryBehind c grid cert before now =
+abbrev pub FitNoMemoryBehind : FitChecking → HeightField → FitCertificate → Moment → Moment → Type 0
+FitNoMemoryBehind c grid cert before now =
     HasOpened before now 0 ⊎ (HasOpened before now 1 × ((triangles : List ℕ) × IsFitFaultless c grid cert triangles))
 
 -- behind this certificate, which has no fault, a read of the mesh failed
-abbrev pub FailsBehind : FitChecking → HeightField → FitCertificate → Moment → Moment → Type 0
-FailsBehind c grid cert before now =
+abbrev pub FitFailsBehind : FitChecking → HeightField → FitCertificate → Moment → Moment → Type 0
+FitFailsBehind c grid cert before now =
     (triangles : List ℕ) × IsFitFaultless c grid cert triangles
     × HasFailed before now 1 c.mesh (FitMeshHasRead (fit_text c.spacing grid triangles))
 

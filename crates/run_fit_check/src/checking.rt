@@ -10,7 +10,7 @@ ghost use Rattle.run_laws.specs.Outcome.{IsFitCheckOutcome};
 ghost use Rattle.run_laws.specs.Promise.{HasEnded};
 ghost use Rattle.run_laws.specs.Leaving.{Runs, HasOpened, HasFailed};
 ghost use Rattle.run_words.specs.FitView.{fit_checking_seen, AreFitBounds};
-ghost use Rattle.run_fit_check.specs.FitJudging.{fit_judged_status, mesh_opens, fit_judged_outcome, IsFitJudged, FitJudgesNoMemory, FitMeshHasRead, FitJudgesFault, IsSoundFor, NoMemoryBehind, FailsBehind};
+ghost use Rattle.run_fit_check.specs.FitJudging.{fit_judged_status, fit_mesh_opens, fit_judged_outcome, IsFitJudged, FitJudgesNoMemory, FitMeshHasRead, FitJudgesFault, IsSoundFor, FitNoMemoryBehind, FitFailsBehind};
 
 use crate::fit_cert_file::read_fit_cert;
 use crate::goal::goal_in;
@@ -79,7 +79,7 @@ fn judge<O: Outside>(
     ensures same { O.is_same outside.old outside.new }
     ensures ok { IfOk result (λ judgement. (files : List NamedFile) → (O.moment outside.old).shelf.files ≡ Some files →
         IsFitJudged (fit_checking_seen words.now) wedges.now files judgement) }
-    ensures opened { IfOk result (λ judgement. HasOpened (O.moment outside.old) (O.moment outside.new) (1 + mesh_opens judgement)) }
+    ensures opened { IfOk result (λ judgement. HasOpened (O.moment outside.old) (O.moment outside.new) (1 + fit_mesh_opens judgement)) }
     ensures ended { IfOk result (λ judgement. fit_judged_status judgement ≡ Status.Done → HasEnded (O.moment outside.new).shelf) }
     ensures no_memory { result ≡ Err CheckStop.NoMemory →
         FitJudgesNoMemory (fit_checking_seen words.now) wedges.now (O.moment outside.old) (O.moment outside.new) }
@@ -108,12 +108,12 @@ fn judge_cert<O: Outside>(
     ensures ok { IfOk result (λ judgement. (files : List NamedFile) → (O.moment outside.old).shelf.files ≡ Some files →
         IsFitCheckOutcome (fit_checking_seen words.now) wedges.now (Ok cert.now) (bytes_of files words.now.mesh.now)
         (fit_judged_outcome wedges.now.n judgement)) }
-    ensures opened { IfOk result (λ judgement. HasOpened (O.moment outside.old) (O.moment outside.new) (mesh_opens judgement)) }
+    ensures opened { IfOk result (λ judgement. HasOpened (O.moment outside.old) (O.moment outside.new) (fit_mesh_opens judgement)) }
     ensures ended { IfOk result (λ judgement. fit_judged_status judgement ≡ Status.Done → HasEnded (O.moment outside.new).shelf) }
     ensures no_memory { result ≡ Err CheckStop.NoMemory →
-        NoMemoryBehind (fit_checking_seen words.now) wedges.now cert.now (O.moment outside.old) (O.moment outside.new) }
+        FitNoMemoryBehind (fit_checking_seen words.now) wedges.now cert.now (O.moment outside.old) (O.moment outside.new) }
     ensures failed { result ≡ Err CheckStop.Failed →
-        FailsBehind (fit_checking_seen words.now) wedges.now cert.now (O.moment outside.old) (O.moment outside.new) }
+        FitFailsBehind (fit_checking_seen words.now) wedges.now cert.now (O.moment outside.old) (O.moment outside.new) }
 {
     let grid = wedges.grid();
     match check(alloc, grid, cert, goal_in(words.target, grid.n())) {
@@ -144,12 +144,12 @@ fn judge_mesh<O: Outside>(
     ensures ok { IfOk result (λ judgement. (files : List NamedFile) → (O.moment outside.old).shelf.files ≡ Some files →
         IsFitCheckOutcome (fit_checking_seen words.now) wedges.now (Ok cert.now) (bytes_of files words.now.mesh.now)
         (fit_judged_outcome wedges.now.n judgement)) }
-    ensures opened { IfOk result (λ judgement. HasOpened (O.moment outside.old) (O.moment outside.new) (mesh_opens judgement)) }
+    ensures opened { IfOk result (λ judgement. HasOpened (O.moment outside.old) (O.moment outside.new) (fit_mesh_opens judgement)) }
     ensures ended { IfOk result (λ judgement. fit_judged_status judgement ≡ Status.Done → HasEnded (O.moment outside.new).shelf) }
     ensures no_memory { result ≡ Err CheckStop.NoMemory →
-        NoMemoryBehind (fit_checking_seen words.now) wedges.now cert.now (O.moment outside.old) (O.moment outside.new) }
+        FitNoMemoryBehind (fit_checking_seen words.now) wedges.now cert.now (O.moment outside.old) (O.moment outside.new) }
     ensures failed { result ≡ Err CheckStop.Failed →
-        FailsBehind (fit_checking_seen words.now) wedges.now cert.now (O.moment outside.old) (O.moment outside.new) }
+        FitFailsBehind (fit_checking_seen words.now) wedges.now cert.now (O.moment outside.old) (O.moment outside.new) }
 {
     difference_laws();
     let _level = wedges.grid().n();

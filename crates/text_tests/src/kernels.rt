@@ -1,6 +1,7 @@
 //! Each kernel of `roam_lanes` beside its plain twin, at lengths around a block, and samples worked by hand.
 
-ghost use Rattle.std.specs.Prelude.{◌≤◌, ◌<◌, ◌≤ℤ◌, pos, negsuc};
+ghost use Rattle.std.specs.Prelude.{◌≤◌, ◌<◌, ◌≤ℤ◌};
+ghost use Rattle.roam_lanes.specs.Raising.{least_change, greatest_change};
 
 use roam_lanes::{
     be16, be16_plain, first_above, first_above_plain, raise_row, raise_row_plain, range,
@@ -110,8 +111,8 @@ fn the_range_is_found_at_every_length(rt: HostRuntime) {
 
 /// Raises a row by the lanes, and answers whether that could be asked.
 fn raise_by_lanes(row: &mut [u16], delta: i32, maxval: u16) -> bool
-    requires at_least { negsuc 65534 ≤ℤ delta }
-    requires at_most { delta ≤ℤ pos 65535 }
+    requires at_least { least_change ≤ℤ delta }
+    requires at_most { delta ≤ℤ greatest_change }
 {
     if first_above(row, maxval).is_some() {
         return false;
@@ -122,8 +123,8 @@ fn raise_by_lanes(row: &mut [u16], delta: i32, maxval: u16) -> bool
 
 /// Raises a row by the plain twin, and answers whether that could be asked.
 fn raise_plainly(row: &mut [u16], delta: i32, maxval: u16) -> bool
-    requires at_least { negsuc 65534 ≤ℤ delta }
-    requires at_most { delta ≤ℤ pos 65535 }
+    requires at_least { least_change ≤ℤ delta }
+    requires at_most { delta ≤ℤ greatest_change }
 {
     if first_above_plain(row, maxval).is_some() {
         return false;
@@ -135,8 +136,8 @@ fn raise_plainly(row: &mut [u16], delta: i32, maxval: u16) -> bool
 /// Whether the first samples of both rows could be raised, and the rows are then the same.
 fn stay_alike(lanes: &mut [u16; 40], plain: &mut [u16; 40], length: usize, delta: i32) -> bool
     requires length { length ≤ 40 }
-    requires at_least { negsuc 65534 ≤ℤ delta }
-    requires at_most { delta ≤ℤ pos 65535 }
+    requires at_least { least_change ≤ℤ delta }
+    requires at_most { delta ≤ℤ greatest_change }
 {
     raise_by_lanes(&mut lanes[..length], delta, 60_000)
         && raise_plainly(&mut plain[..length], delta, 60_000)
@@ -145,8 +146,8 @@ fn stay_alike(lanes: &mut [u16; 40], plain: &mut [u16; 40], length: usize, delta
 
 /// A row of nine samples after a raise within 100.
 fn nine_raised(row: [u16; 9], delta: i32) -> Option<[u16; 9]>
-    requires at_least { negsuc 65534 ≤ℤ delta }
-    requires at_most { delta ≤ℤ pos 65535 }
+    requires at_least { least_change ≤ℤ delta }
+    requires at_most { delta ≤ℤ greatest_change }
 {
     let mut row = row;
     if raise_by_lanes(&mut row, delta, 100) {

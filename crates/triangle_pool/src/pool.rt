@@ -1,6 +1,7 @@
 //! A mesh as linked triangles, in a pool of nodes that are all made at the start.
 
 ghost use Rattle.std.specs.Prelude.{◌≡◌, ◌≢◌, ◌↔◌, ℕ, ◌+◌, ◌-◌, ◌*◌, ◌/◌, ◌%◌, ◌^◌, ◌<◌, ◌≤◌, ◌++◌, IsTrue, OnOk, IfOk, IfSome, IsNone, false, true, List, [], length, map, slice_index, slice_set, ◌∷◌, replicate};
+ghost use Rattle.mesh_defs.specs.declared.counters.TheConstants.{MOST_CHANGES};
 ghost use Rattle.mesh_defs.specs.Triangle.{level_of, corners_of, OnOneSide};
 ghost use Rattle.mesh_defs.specs.ClosedSet.{IsClosed, leaves_of};
 ghost use Rattle.mesh_defs.specs.declared.level.TheConstants.{GREATEST_LEVEL};
@@ -154,7 +155,7 @@ impl Pool {
         requires level { IsMateLive self.old.pairs (triangle_at self.old s) }
         requires room_1 { 1 ≤ room_of self.old.pairs }
         requires room_2 { 1 ≤ mate_of (triangle_at self.old s) → 2 ≤ room_of self.old.pairs }
-        requires count { self.old.splits < 2 ^ 62 }
+        requires count { self.old.splits < MOST_CHANGES }
         ensures n { self.new.n ≡ self.old.n }
         ensures most { self.new.most ≡ self.old.most }
         ensures split { IsSplit self.old.pairs self.new.pairs (triangle_at self.old s) }
@@ -195,7 +196,7 @@ impl Pool {
     pub fn merge(&mut self, s: Slot) -> Gone
         requires live { IsLive self.old.pairs s.0 }
         requires ready { IsMergeReady self.old.pairs (triangle_at self.old s) }
-        requires count { self.old.merges < 2 ^ 62 }
+        requires count { self.old.merges < MOST_CHANGES }
         ensures n { self.new.n ≡ self.old.n }
         ensures most { self.new.most ≡ self.old.most }
         ensures merge { IsMerge self.old.pairs self.new.pairs (triangle_at self.old s) }

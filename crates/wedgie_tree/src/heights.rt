@@ -1,6 +1,7 @@
 //! Changes of the heights of a grid, a row at a time.
 
-ghost use Rattle.std.specs.Prelude.{◌≡◌, ℕ, ◌+◌, ◌<◌, ◌≤◌, ◌≤ℤ◌, ◌+ℤ◌, ◌^◌, pos, negsuc, true, length, slice_index, All};
+ghost use Rattle.std.specs.Prelude.{◌≡◌, ℕ, ◌+◌, ◌<◌, ◌≤◌, ◌≤ℤ◌, ◌+ℤ◌, ◌^◌, pos, true, length, slice_index, All};
+ghost use Rattle.roam_lanes.specs.Raising.{least_change, greatest_change};
 ghost use Rattle.mesh_defs.specs.HeightField.{height_at, IsHeightField};
 ghost use Rattle.mesh_defs.specs.State.{clamped, is_in_area, raised_heights};
 ghost use Rattle.wedgie_tree.specs.Edits.{with_row};
@@ -54,8 +55,8 @@ fn put_raised(grid: &mut Grid, x: u32, y: u32, row: &mut [u16], dz: i32)
     requires in_columns { x + length row.old ≤ 2 ^ grid.old.n + 1 }
     requires in_rows { y ≤ 2 ^ grid.old.n }
     requires bounded { All (λ h. h ≤ grid.old.maxval) row.old }
-    requires at_least { negsuc 65534 ≤ℤ dz }
-    requires at_most { dz ≤ℤ pos 65535 }
+    requires at_least { least_change ≤ℤ dz }
+    requires at_most { dz ≤ℤ greatest_change }
     ensures n { grid.new.n ≡ grid.old.n }
     ensures maxval { grid.new.maxval ≡ grid.old.maxval }
     ensures valid { IsHeightField grid.new }
@@ -73,8 +74,8 @@ fn raise_one_row(grid: &mut Grid, x0: u32, x1: u32, y: u32, dz: i32)
     requires order { x0 ≤ x1 }
     requires in_columns { x1 ≤ 2 ^ grid.old.n }
     requires in_rows { y ≤ 2 ^ grid.old.n }
-    requires at_least { negsuc 65534 ≤ℤ dz }
-    requires at_most { dz ≤ℤ pos 65535 }
+    requires at_least { least_change ≤ℤ dz }
+    requires at_most { dz ≤ℤ greatest_change }
     ensures n { grid.new.n ≡ grid.old.n }
     ensures maxval { grid.new.maxval ≡ grid.old.maxval }
     ensures valid { IsHeightField grid.new }
@@ -91,8 +92,8 @@ fn raise_one_row(grid: &mut Grid, x0: u32, x1: u32, y: u32, dz: i32)
 pub fn raise_heights(grid: &mut Grid, area: Area, dz: i32)
     requires in_columns { area.x1 ≤ 2 ^ grid.old.n }
     requires in_rows { area.y1 ≤ 2 ^ grid.old.n }
-    requires at_least { negsuc 65534 ≤ℤ dz }
-    requires at_most { dz ≤ℤ pos 65535 }
+    requires at_least { least_change ≤ℤ dz }
+    requires at_most { dz ≤ℤ greatest_change }
     ensures value { grid.new ≡ record grid.old { heights = raised_heights grid.old area dz } }
     ensures others { (i j : ℕ) → i ≤ 2 ^ grid.old.n → j ≤ 2 ^ grid.old.n → (is_in_area area i j ≡ true → ⊥)
         → height_at grid.old.n grid.new.heights i j ≡ height_at grid.old.n grid.old.heights i j }

@@ -1,6 +1,7 @@
 //! A grid with the thickness and the box of each of its triangles.
 
-ghost use Rattle.std.specs.Prelude.{◌≡◌, ℕ, ◌+◌, ◌*◌, ◌<◌, ◌≤◌, ◌^◌, IfOk, pos, negsuc, ◌≤ℤ◌, true, length, slice_index, slice_set, All};
+ghost use Rattle.std.specs.Prelude.{◌≡◌, ℕ, ◌+◌, ◌*◌, ◌<◌, ◌≤◌, ◌^◌, IfOk, pos, ◌≤ℤ◌, true, length, slice_index, slice_set, All};
+ghost use Rattle.roam_lanes.specs.Raising.{least_change, greatest_change};
 ghost use Rattle.mesh_defs.specs.HeightField.{IsHeightField, height_at, place_of};
 ghost use Rattle.mesh_defs.specs.State.{is_in_area, raised_heights};
 ghost use Rattle.mesh_defs.specs.Triangle.{level_of, corners_of};
@@ -127,8 +128,8 @@ impl Wedges {
     pub fn raise(&mut self, area: Area, dz: i32)
         requires in_columns { area.x1 ≤ 2 ^ self.old.n }
         requires in_rows { area.y1 ≤ 2 ^ self.old.n }
-        requires at_least { negsuc 65534 ≤ℤ dz }
-        requires at_most { dz ≤ℤ pos 65535 }
+        requires at_least { least_change ≤ℤ dz }
+        requires at_most { dz ≤ℤ greatest_change }
         ensures value { self.new ≡ record self.old { heights = raised_heights self.old area dz } }
         ensures others { (i j : ℕ) → i ≤ 2 ^ self.old.n → j ≤ 2 ^ self.old.n → (is_in_area area i j ≡ true → ⊥)
             → height_at self.old.n self.new.heights i j ≡ height_at self.old.n self.old.heights i j }
