@@ -129,4 +129,4 @@ fitted-runs before middle now name w grid f status idle read is ends =
       f.fit.leaves,
       is.fitted,
       ap (λ (acts : List Act). plain_outcome acts Done 1) (acts-fitted w f w.target grid is),
-    )) ends
+    )) (λ text_alone. cc) ends

@@ -7,12 +7,12 @@ use Rattle.roam_edge.specs.Sink.{Appends}
 use Rattle.obj_write.specs.Written.{mesh_with, Grows, IsPartOfMesh}
 use Rattle.run_laws.specs.declared.status.Status.{Status}
 use Rattle.run_laws.specs.declared.status.Status.TheVariants.{WriteFault}
-use Rattle.run_laws.specs.Act.{Act, WholeMesh, ReportText, Told, Stands, IsCutShort}
+use Rattle.run_laws.specs.Act.{Act, WholeMesh, ReportText, Told, Stands, IsCutShort, meshes_of}
 use Rattle.run_laws.specs.Cause.{NoFault, WriteFaults, WritesHaveCause}
 use Rattle.run_laws.specs.Promise.{is_complete}
-use Rattle.run_laws.specs.Moment.{Moment, OnlyWrites, Does}
+use Rattle.run_laws.specs.Moment.{Moment, OnlyWrites, Does, SameMeshes}
 use Rattle.run_laws.specs.Leaving.{EndsWith}
-use Rattle.run_laws.proofs.ActLemmas.{grows-nothing, stands-append, cut-append, cut-longer, cut-mesh, cut-only-line}
+use Rattle.run_laws.proofs.ActLemmas.{grows-nothing, stands-append, cut-append, cut-longer, cut-mesh, cut-only-line, meshes_of-append}
 use Rattle.run_laws.proofs.ActLemmas.{stands-text}
 use Rattle.run_laws.proofs.GridLemmas.{not-complete}
 
@@ -47,12 +47,14 @@ does-text before now text (Ok value) shelf meshes faults under_way late bytes ca
   };
   done = record {
     meshes_grow = λ all is. meshes ∙ grows-nothing before.sinks.meshes all is;
-    report_grows = (stands-text {k =
-        0} before.sinks.meshes before.sinks.report now.sinks.report text bytes.ok cause.ok).report_grows;
+    report_grows =
+        let one = stands-text {k = 0} before.sinks.meshes before.sinks.report now.sinks.report text bytes.ok cause.ok in
+        one.report_grows;
     mesh_same = faults;
     report_same = cause.ok;
   };
   cut_short = tt;
+  no_mesh = λ e. record { meshes = meshes; faults = faults; under_way = under_way; late = late };
 }
 does-text before now text (Err error) shelf meshes faults under_way late bytes cause in_time = record {
   only = record {
@@ -75,6 +77,7 @@ does-text before now text (Err error) shelf meshes faults under_way late bytes c
     in_order = refl;
     standing = ((λ all is. meshes ∙ grows-nothing before.sinks.meshes all is), bytes.failed, cause.failed, faults);
   };
+  no_mesh = λ e. record { meshes = meshes; faults = faults; under_way = under_way; late = late };
 }
 
 -- a mesh was written, or a part of it
@@ -108,6 +111,7 @@ does-mesh before now prefix number bytes (Ok value) shelf idle report faults lat
         report_same = faults;
       };
       cut_short = tt;
+      no_mesh = λ e. cc;
     }
 does-mesh before now prefix number bytes (Err error) shelf idle report faults late grown idle_now part cause in_time =
     record {
@@ -131,6 +135,7 @@ does-mesh before now prefix number bytes (Err error) shelf idle report faults la
         in_order = refl;
         standing = (part, (λ all is. report ∙ grows-nothing before.sinks.report all is), cause.failed, faults);
       };
+      no_mesh = λ e. cc;
     }
 
 -- faults of one call behind another that did not fail
@@ -162,6 +167,34 @@ only-then before middle now one answer did does = record {
     on-ok (Ok value) give one = give one
     on-ok (Err error) give one = tt
 
+-- where no mesh is among all acts, none is among the first ones or the others
+none-first : (first second : List WrittenMesh) → first ++ second ≡ [] → first ≡ []
+none-first [] second none = refl
+none-first (mesh ∷ first) second none = absurd cc
+
+none-second : (first second : List WrittenMesh) → first ++ second ≡ [] → second ≡ []
+none-second [] second none = none
+none-second (mesh ∷ first) second none = absurd cc
+
+module _ (first second : List Act) (none : meshes_of (first ++ second) ≡ []) where
+  joined : meshes_of first ++ meshes_of second ≡ []
+  joined = sym (meshes_of-append first second) ∙ none
+
+  no-first : meshes_of first ≡ []
+  no-first = none-first (meshes_of first) (meshes_of second) joined
+
+  no-second : meshes_of second ≡ []
+  no-second = none-second (meshes_of first) (meshes_of second) joined
+
+pub same-meshes-then : (before middle now : Moment) → SameMeshes before middle → SameMeshes middle now →
+    SameMeshes before now
+same-meshes-then before middle now one two = record {
+  meshes = two.meshes ∙ one.meshes;
+  faults = two.faults ∙ one.faults;
+  under_way = two.under_way ∙ one.under_way;
+  late = two.late ∙ one.late;
+}
+
 -- acts were done, and then others, or a part of them
 pub does-then : {T E U G : Type 0} (before middle now : Moment) (first second : List Act)
     (one : T) (answer : Result U G)
@@ -171,11 +204,15 @@ does-then before middle now first second one (Ok value) did does = record {
   only = only-then before middle now one (Ok value) did.only does.only;
   done = stands-append before.sinks middle.sinks now.sinks first second did.done does.done;
   cut_short = tt;
+  no_mesh = λ none. same-meshes-then before middle now
+      (did.no_mesh (no-first first second none)) (does.no_mesh (no-second first second none));
 }
 does-then before middle now first second one (Err error) did does = record {
   only = only-then before middle now one (Err error) did.only does.only;
   done = tt;
   cut_short = cut-append before.sinks middle.sinks now.sinks first second did.done does.cut_short;
+  no_mesh = λ none. same-meshes-then before middle now
+      (did.no_mesh (no-first first second none)) (does.no_mesh (no-second first second none));
 }
 
 -- acts were cut short, and no others followed
@@ -193,6 +230,7 @@ does-cut before now first second error did = record {
   };
   done = tt;
   cut_short = cut-longer before.sinks now.sinks first second did.cut_short;
+  no_mesh = λ none. did.no_mesh (no-first first second none);
 }
 
 -- what was done, in other words
@@ -220,6 +258,7 @@ ends-done before now acts meant one complete did = record {
   };
   meshes_in_time = did.only.meshes_in_time;
   report_in_time = did.only.report_in_time;
+  no_mesh = did.no_mesh;
 }
 
 -- or they were cut short
@@ -235,4 +274,5 @@ ends-cut before now acts meant error did = record {
   writes = record { write = λ e. did.only.faults.err; not_write = λ not. absurd (not refl) };
   meshes_in_time = did.only.meshes_in_time;
   report_in_time = did.only.report_in_time;
+  no_mesh = did.no_mesh;
 }

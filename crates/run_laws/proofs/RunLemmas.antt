@@ -13,7 +13,7 @@ use Rattle.word_laws.specs.Words.{Check, Fit, MakeFit, CheckFit, names_of, file_
 use Rattle.mesh_defs.specs.HeightField.{HeightField}
 use Rattle.pgm_grid.specs.declared.fault.PgmFault.{PgmFault}
 use Rattle.pgm_grid.specs.Progress.{grid_of}
-use Rattle.run_laws.specs.Act.{Act, ReportText, Told}
+use Rattle.run_laws.specs.Act.{Act, ReportText, Told, meshes_of}
 use Rattle.run_laws.specs.Cause.{StatusHasCause, StatusWritesHaveCause}
 use Rattle.run_laws.specs.ReportText.{grid_refusal}
 use Rattle.run_laws.specs.Picture.{Picture}
@@ -21,13 +21,14 @@ use Rattle.run_laws.specs.Walk.{Walk}
 use Rattle.run_laws.specs.Outcome.{Outcome, EngineEnd, plain_outcome, text_outcome, IsJobOutcome, IsGridOutcome}
 use Rattle.run_laws.specs.Outcome.{IsCommandOutcome}
 use Rattle.run_laws.specs.Promise.{Seen, HasEnded, HasReadHeader, IsUndecided, OpensForStatus, CommandReadFault}
-use Rattle.run_laws.specs.Promise.{CommandNoMemory, most_open_job, is_complete, ends_script, may_end, leaves_engine}
+use Rattle.run_laws.specs.Promise.{CommandNoMemory, most_open_job, is_complete, ends_script, may_end, leaves_engine, is_of_text}
 use Rattle.run_laws.specs.Maker.{DoesAs, IsScriptEnd, Leaves, EndsScript, ScriptHasCome}
 use Rattle.run_laws.specs.FileStop.{StopsReading}
-use Rattle.run_laws.specs.Moment.{Moment, OnlyReads}
+use Rattle.run_laws.specs.Moment.{Moment, OnlyReads, SameMeshes}
 use Rattle.run_laws.specs.Leaving.{CommandEnds, Runs, HasOpened, HasFailed, ReadsGrid, EndsWith, TellsLast}
 use Rattle.run_laws.specs.Leaving.{LeavesByScript}
 use Rattle.run_laws.proofs.ActLemmas.{stands-nothing}
+use Rattle.run_laws.proofs.DoesLemmas.{same-meshes-then}
 use Rattle.run_laws.proofs.GridLemmas.{next-one, not-complete, grid-fault, grid-memory, first_walk, script-ends}
 use Rattle.run_laws.proofs.GridLemmas.{script-fault}
 use Rattle.run_laws.proofs.StatementLemmas.{ends-by-status}
@@ -84,6 +85,18 @@ most-named name (Fit f) = omega arith
 most-named name (MakeFit m) = omega arith
 most-named name (CheckFit c) = omega arith
 
+-- reading calls no sink of meshes
+reads-no-mesh : (before now : Moment) → OnlyReads before now → SameMeshes before now
+reads-no-mesh before now only = record {
+  meshes = ap (λ (t : Told). t.meshes) only.sinks;
+  faults = ap (λ (t : Told). t.mesh_faults) only.sinks;
+  under_way = only.under_way;
+  late = only.mesh_late;
+}
+
+no-text : false ≡ true → ⊥
+no-text e = cc
+
 -- a read of one of a command's files failed, or its opening
 pub read-failed : (before now : Moment) (name : List ℕ) (job : Job) (files : ℕ) (last : List ℕ)
     (holds : List ℕ → Type 0)
@@ -100,12 +113,14 @@ read-failed before now name job files last holds idle read some within fault = r
   leaves = record {
     files = read.only.files;
     idle = λ not. read.only.under_way ∙ idle;
+    no_mesh = λ text. reads-no-mesh before now read.only;
     opens = record {
       done = λ e. cc;
       script_refused = λ e. cc;
       grid_refused = λ e. cc;
       usage = λ e. cc;
       read_fault = λ e. omega (arith, read.opens, some);
+      write_fault = λ e. cc;
       rejected = λ e. cc;
       least = omega (arith, read.opens);
       most = omega (arith, read.opens, within);
@@ -144,12 +159,14 @@ memory-spent before now name job files idle read spent = record {
   leaves = record {
     files = read.only.files;
     idle = λ not. read.only.under_way ∙ idle;
+    no_mesh = λ text. reads-no-mesh before now read.only;
     opens = record {
       done = λ e. cc;
       script_refused = λ e. cc;
       grid_refused = λ e. cc;
       usage = λ e. cc;
       read_fault = λ e. cc;
+      write_fault = λ e. cc;
       rejected = λ e. cc;
       least = omega (arith, spent.count);
       most = omega (arith, spent.count, spent.most, most-named name job);
@@ -200,7 +217,8 @@ module _ (before now : Moment) (name : List ℕ) (job : Job) (idle : before.unde
 module _ (before middle now : Moment) (name : List ℕ) (job : Job) (k : ℕ) (idle : before.under_way ≡ false)
     (read : HasOpened before middle k) (acts : List Act) (meant : Status)
     (outcome : (files : List NamedFile) → before.shelf.files ≡ Some files
-    → IsCommandOutcome (OnGrid name job) files (plain_outcome acts meant k)) where
+    → IsCommandOutcome (OnGrid name job) files (plain_outcome acts meant k))
+    (no_mesh : IsTrue (is_of_text (Some (OnGrid name job))) → meshes_of acts ≡ []) where
   abbrev named : Option Command
   named = Some (OnGrid name job)
 
@@ -235,6 +253,8 @@ module _ (before middle now : Moment) (name : List ℕ) (job : Job) (k : ℕ) (i
     leaves = record {
       files = ap (λ (s : Seen). s.files) tells.shelf ∙ read.only.files;
       idle = λ not. tells.idle not ∙ (read.only.under_way ∙ idle);
+      no_mesh = λ text. same-meshes-then before middle now (reads-no-mesh before middle read.only)
+          (tells.no_mesh (no_mesh text));
       opens = subst O (sym (opens-now status tells)) opens;
       read_out = λ done some. subst HasEnded (sym tells.shelf) (ended done);
       engine = none-left named status left;
@@ -297,6 +317,7 @@ module _ (before middle now : Moment) (name : List ℕ) (job : Job) (k : ℕ) (i
         grid_refused = λ e. cc;
         usage = λ e. cc;
         read_fault = λ e. cc;
+        write_fault = λ e any. omega (arith, read.opens, some);
         rejected = λ e. cc;
         least = omega (arith, read.opens);
         most = omega (arith, read.opens, within);
@@ -313,7 +334,7 @@ pub text-runs : (before middle now : Moment) (name : List ℕ) (job : Job) (k : 
     → OpensForStatus before.shelf.opens middle.shelf.opens (file_count (Some (OnGrid name job))) meant
     → (meant ≡ Done → HasEnded middle.shelf) → Runs before now (Some (OnGrid name job)) status None
 text-runs before middle now name job k idle read text meant outcome =
-    acts-run before middle now name job k idle read (ReportText text ∷ []) meant outcome
+    acts-run before middle now name job k idle read (ReportText text ∷ []) meant outcome (λ text_alone. refl)
 
 -- the refusal of its grid ended a command
 pub grid-refused : (before middle now : Moment) (name : List ℕ) (job : Job) (fault : PgmFault)
@@ -333,6 +354,7 @@ grid-refused before middle now name job fault text status idle read is refused t
       grid_refused = λ e. read.opens;
       usage = λ e. cc;
       read_fault = λ e. cc;
+      write_fault = λ e. cc;
       rejected = λ e. cc;
       least = omega (arith, read.opens);
       most = omega (arith, read.opens);
@@ -345,11 +367,12 @@ pub job-runs : (before middle now : Moment) (name : List ℕ) (job : Job) (grid 
     → before.under_way ≡ false → ReadsGrid before middle name grid → file_count (Some (OnGrid name job)) ≡ 1
     → leaves_engine (Some (OnGrid name job)) Done ≡ false
     → ((files : List NamedFile) → IsJobOutcome job grid files (plain_outcome acts Done 1))
+    → (IsTrue (is_of_text (Some (OnGrid name job))) → meshes_of acts ≡ [])
     → EndsWith middle now acts Done status → Runs before now (Some (OnGrid name job)) status None
-job-runs before middle now name job grid acts status idle read one left outcome ends =
+job-runs before middle now name job grid acts status idle read one left outcome no_mesh ends =
     acts-run before middle now name job 1 idle read.opened acts Done
     (λ files told. subst (λ (r : Result HeightField PgmFault). IsGridOutcome job r files (plain_outcome acts Done 1))
-    (sym (read.is_grid files told)) (outcome files))
+    (sym (read.is_grid files told)) (outcome files)) no_mesh
     status ends (omega arith) (omega arith) refl refl left
     (record {
       done = λ e. omega (arith, read.opened.opens, one);
@@ -357,6 +380,7 @@ job-runs before middle now name job grid acts status idle read one left outcome 
       grid_refused = λ e. cc;
       usage = λ e. cc;
       read_fault = λ e. cc;
+      write_fault = λ e. cc;
       rejected = λ e. cc;
       least = omega (arith, read.opened.opens);
       most = omega (arith, read.opened.opens, one);
@@ -370,7 +394,8 @@ pub line-runs : (before middle now : Moment) (name : List ℕ) (job : Job) (grid
     → leaves_engine (Some (OnGrid name job)) Done ≡ false
     → ((files : List NamedFile) → IsJobOutcome job grid files (text_outcome text Done 1))
     → TellsLast middle now text Done status → Runs before now (Some (OnGrid name job)) status None
-line-runs before middle now name job grid text = job-runs before middle now name job grid (ReportText text ∷ [])
+line-runs before middle now name job grid text status idle read one left outcome tells =
+    job-runs before middle now name job grid (ReportText text ∷ []) status idle read one left outcome (λ text_alone. refl) tells
 
 -- memory ran out behind a grid that was read
 pub spent-runs : (before now : Moment) (name : List ℕ) (job : Job) (grid : HeightField) → before.under_way ≡ false
@@ -409,6 +434,7 @@ module _ (before middle now : Moment) (name : List ℕ) (s : Scripted) (grid : H
     grid_refused = λ e. absurd (not-refused is e);
     usage = λ e. absurd (not-usage is e);
     read_fault = λ e. omega (arith, opened);
+    write_fault = λ e any. omega (arith, opened);
     rejected = λ e. omega (arith, opened);
     least = omega (arith, opened);
     most = omega (arith, opened);
@@ -460,6 +486,7 @@ module _ (before middle now : Moment) (name : List ℕ) (s : Scripted) (grid : H
         leaves = record {
           files = leaves.files ∙ read.opened.only.files;
           idle = λ not. leaves.idle not ∙ (read.opened.only.under_way ∙ idle);
+          no_mesh = λ text. absurd (no-text text);
           opens = script-opens status is opened;
           read_out = λ done some. leaves.read_out done;
           engine = engine;
@@ -498,12 +525,14 @@ usage-runs now said idle is = subst (λ (c : Option Command). Runs now now c Usa
   leaves = record {
     files = refl;
     idle = λ not. idle;
+    no_mesh = λ text. record { meshes = refl; faults = refl; under_way = refl; late = refl };
     opens = record {
       done = λ e. cc;
       script_refused = λ e. cc;
       grid_refused = λ e. cc;
       usage = λ e. refl;
       read_fault = λ e. cc;
+      write_fault = λ e. cc;
       rejected = λ e. cc;
       least = omega arith;
       most = omega arith;
@@ -613,6 +642,7 @@ module _ (before middle last now : Moment) (name : List ℕ) (job : Job) (grid :
         grid_refused = λ e. cc;
         usage = λ e. cc;
         read_fault = λ e. cc;
+        write_fault = λ e. cc;
         rejected = λ e. cc;
         least = omega (arith, all-opened.opens);
         most = omega (arith, all-opened.opens, two, three);
@@ -635,6 +665,7 @@ module _ (before middle last now : Moment) (name : List ℕ) (job : Job) (grid :
         grid_refused = λ e. cc;
         usage = λ e. cc;
         read_fault = λ e. cc;
+        write_fault = λ e. cc;
         rejected = λ e. omega (arith, all-opened.opens, some);
         least = omega (arith, all-opened.opens);
         most = omega (arith, all-opened.opens, most, three);

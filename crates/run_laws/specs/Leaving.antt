@@ -9,13 +9,13 @@ use Rattle.pgm_grid.specs.Progress.{grid_of}
 use Rattle.run_laws.specs.declared.status.Status.{Status}
 use Rattle.run_laws.specs.declared.status.Status.TheVariants.{Done, NoMemory, ReadFault, WriteFault}
 use Rattle.word_laws.specs.Words.{Command}
-use Rattle.run_laws.specs.Act.{Act, ReportText, Told}
+use Rattle.run_laws.specs.Act.{Act, ReportText, Told, meshes_of}
 use Rattle.run_laws.specs.Cause.{StatusHasCause, StatusWritesHaveCause}
 use Rattle.run_laws.specs.Outcome.{Outcome, EngineEnd, IsCommandOutcome, plain_outcome}
 use Rattle.run_laws.specs.Promise.{Seen, EndsAs, HasEnded, HasReadHeader, is_complete, may_end}
 use Rattle.run_laws.specs.FileStop.{StopsReading}
 use Rattle.run_laws.specs.Maker.{DoesAs}
-use Rattle.run_laws.specs.Moment.{Moment, OnlyReads}
+use Rattle.run_laws.specs.Moment.{Moment, OnlyReads, SameMeshes}
 use Rattle.run_laws.specs.Statement.{EndsByStatus, LeavesOutside}
 
 -- unless memory ran out or a read failed, the command ends as its outcome, and leaves its engine
@@ -73,6 +73,7 @@ pub record EndsWith (before now : Moment) (acts : List Act) (meant status : Stat
       before.sinks.report_faults now.sinks.report_faults status
   pub meshes_in_time : IsInTime before.mesh_late before.sinks.mesh_faults now.mesh_late
   pub report_in_time : IsInTime before.report_late before.sinks.report_faults now.report_late
+  pub no_mesh : meshes_of acts ≡ [] → SameMeshes before now
 
 -- the last of them is one text
 abbrev pub TellsLast : Moment → Moment → List ℕ → Status → Status → Type 0

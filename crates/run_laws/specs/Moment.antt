@@ -1,12 +1,12 @@
 -- The moment: what the outside of a run tells before it or behind it, and what calls do between two. This project's own
 -- words.
--- Words: Moment, moment, OnlyReads, OnlyWrites, Does.
-use Rattle.std.specs.Prelude.{◌≡◌, ℕ, Bool, List, Result, OnOk, OnErr}
+-- Words: Moment, moment, OnlyReads, SameMeshes, OnlyWrites, Does.
+use Rattle.std.specs.Prelude.{◌≡◌, ℕ, Bool, List, [], Result, OnOk, OnErr}
 use Rattle.roam_edge.specs.declared.shelf.Shelf as reading
 use Rattle.roam_edge.specs.declared.mesh_sink.MeshSink as showing
 use Rattle.roam_edge.specs.declared.sink.Sink as reporting
 use Rattle.roam_edge.specs.Fault.{IsInTime}
-use Rattle.run_laws.specs.Act.{Act, Told, sinks_tell, Stands, IsCutShort}
+use Rattle.run_laws.specs.Act.{Act, Told, sinks_tell, Stands, IsCutShort, meshes_of}
 use Rattle.run_laws.specs.Cause.{WritesHaveCause}
 use Rattle.run_laws.specs.Promise.{Seen, shelf_tells}
 
@@ -42,6 +42,13 @@ pub record OnlyReads (before now : Moment) : Type 0 where
   pub mesh_late : now.mesh_late ≡ before.mesh_late
   pub report_late : now.report_late ≡ before.report_late
 
+-- the sink of meshes was not called
+pub record SameMeshes (before now : Moment) : Type 0 where
+  pub meshes : now.sinks.meshes ≡ before.sinks.meshes
+  pub faults : now.sinks.mesh_faults ≡ before.sinks.mesh_faults
+  pub under_way : now.under_way ≡ before.under_way
+  pub late : now.mesh_late ≡ before.mesh_late
+
 -- The shelf was not called. The call fails exactly where a count of the sinks rose, and else no other mesh is under way
 -- than before.
 pub record OnlyWrites {T E : Type 0} (before now : Moment) (answer : Result T E) : Type 0 where
@@ -54,8 +61,9 @@ pub record OnlyWrites {T E : Type 0} (before now : Moment) (answer : Result T E)
   pub meshes_in_time : IsInTime before.mesh_late before.sinks.mesh_faults now.mesh_late
   pub report_in_time : IsInTime before.report_late before.sinks.report_faults now.report_late
 
--- these acts were done, or cut short where the call fails
+-- These acts were done, or cut short where the call fails. The sink of meshes is called only for a mesh.
 pub record Does {T E : Type 0} (before now : Moment) (acts : List Act) (answer : Result T E) : Type 0 where
   pub only : OnlyWrites before now answer
   pub done : OnOk answer (Stands before.sinks now.sinks acts)
   pub cut_short : OnErr answer (IsCutShort before.sinks now.sinks acts)
+  pub no_mesh : meshes_of acts ≡ [] → SameMeshes before now

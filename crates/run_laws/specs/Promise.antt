@@ -3,7 +3,7 @@
 -- OpensForStatus, IsUndecided, ScriptHasRead, CheckHasRead, FitCheckHasRead, JobHasRead, HasRead, FileReadFault,
 -- CommandReadFault, LeavesAtReadFault, least_open, most_open_job, most_open, HasReadHeader, CheckHasCome,
 -- FitCheckHasCome, CommandNoMemory, LeavesAtNoMemory, IsAcceptedCheck, IsAcceptedFitCheck, IsAcceptedJob,
--- IsAcceptedInput, IsAccepted, leaves_engine.
+-- IsAcceptedInput, IsAccepted, is_of_text, leaves_engine.
 use Rattle.std.specs.Prelude.{◌≡◌, ◌≢◌, ⊤, ℕ, zero, suc, ◌+◌, ◌<◌, ◌≤◌, Bool, true, false, ◌&&◌, nat_lt, IsTrue, List}
 use Rattle.std.specs.Prelude.{[], ◌++◌, length, Option, Some, None, Ok, Err, slice_get}
 use Rattle.mesh_defs.specs.HeightField.{HeightField, IsHeightField}
@@ -106,13 +106,14 @@ may_end (Some command) _ = true
 
 -- How often files were opened, of so many that the words name: each once where the run was done or its script refused,
 -- the grid alone where it is refused, none for words that are no command, and else at most each once: at least one
--- where a read failed, and at least two where a check rejects.
+-- where a read failed, or a write if any is named, and at least two where a check rejects.
 pub record OpensForStatus (before now files : ℕ) (status : Status) : Type 0 where
   pub done : status ≡ Done → now ≡ before + files
   pub script_refused : status ≡ ScriptRefused → now ≡ before + files
   pub grid_refused : status ≡ GridRefused → now ≡ before + 1
   pub usage : status ≡ Usage → now ≡ before
   pub read_fault : status ≡ ReadFault → before + 1 ≤ now
+  pub write_fault : status ≡ WriteFault → 0 < files → before + 1 ≤ now
   pub rejected : status ≡ Rejected → before + 2 ≤ now
   pub least : before ≤ now
   pub most : now ≤ before + files
@@ -289,6 +290,18 @@ IsAcceptedInput (Generated n seed) files = ⊤
 -- the words are a command, and what it reads is accepted
 abbrev pub IsAccepted : List (List ℕ) → List NamedFile → Type 0
 IsAccepted words files = (command : Command) × (command_of words ≡ Some command) × IsAcceptedInput command files
+
+-- they are no words that ask for frames or for a mesh: all that they write is one text
+abbrev pub is_of_text : Option Command → Bool
+is_of_text None = true
+is_of_text (Some (OnGrid name (Frames s))) = false
+is_of_text (Some (OnGrid name Facts)) = true
+is_of_text (Some (OnGrid name (Make m))) = true
+is_of_text (Some (OnGrid name (Check c))) = true
+is_of_text (Some (OnGrid name (Fit f))) = false
+is_of_text (Some (OnGrid name (MakeFit m))) = true
+is_of_text (Some (OnGrid name (CheckFit c))) = true
+is_of_text (Some (Generated n seed)) = true
 
 -- an engine is left where it made the frames and all lines were carried out
 abbrev pub leaves_engine : Option Command → Status → Bool

@@ -20,9 +20,9 @@ use Rattle.run_laws.specs.Act.{Stands, IsCutShort}
 use Rattle.run_laws.specs.Picture.{IsCertified}
 use Rattle.run_laws.specs.Outcome.{EngineEnd, Outcome, IsWordsOutcome, IsOutcome}
 use Rattle.run_laws.specs.Promise.{AreFiles, is_complete, HasEnded, may_end, OpensForStatus, CommandReadFault}
-use Rattle.run_laws.specs.Promise.{CommandNoMemory, leaves_engine}
+use Rattle.run_laws.specs.Promise.{CommandNoMemory, is_of_text, leaves_engine}
 use Rattle.run_laws.specs.Headline.{IsRunOf, KeepsGoodMeshes, IsCertifiedMesh, IsCertifiedFit, KeepsFitMesh}
-use Rattle.run_laws.specs.Moment.{Moment}
+use Rattle.run_laws.specs.Moment.{Moment, SameMeshes}
 
 -- The meshes.
 
@@ -92,13 +92,15 @@ pub record EndsByStatus (before now : Moment) (command : Option Command) (status
       × CommandNoMemory before.sinks now.sinks before.shelf now.shelf one
 
 -- How the outside and the engine are left, also where nothing is told. The shelf's files are as before. No mesh is
--- under way, except perhaps after WriteFault. Files were opened as often as the status allows, and with Done the last
--- one was read to its end. An engine is left with Done and ScriptRefused where one makes the frames. Of shelf, meshes
--- and report, each that had not failed before the run was not called again once a call of it had failed.
+-- under way, except perhaps after WriteFault, and words that ask for no mesh leave the sink of meshes alone. Files were
+-- opened as often as the status allows, and with Done the last one was read to its end. An engine is left with Done and
+-- ScriptRefused where one makes the frames. Of shelf, meshes and report, each that had not failed before the run was
+-- not called again once a call of it had failed.
 pub record LeavesOutside (before now : Moment) (command : Option Command) (status : Status)
     (left : Option EngineEnd) : Type 0 where
   pub files : now.shelf.files ≡ before.shelf.files
   pub idle : status ≢ WriteFault → now.under_way ≡ false
+  pub no_mesh : IsTrue (is_of_text command) → SameMeshes before now
   pub opens :
       OpensForStatus before.shelf.opens now.shelf.opens (file_count command) status
   pub read_out : status ≡ Done → 0 < file_count command → HasEnded now.shelf
