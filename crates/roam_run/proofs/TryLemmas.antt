@@ -171,7 +171,7 @@ unmade-runs now n seed idle = record {
       (λ e. record {
         opened = 0;
         count = omega arith;
-        least = omega arith;
+        least = λ some. absurd (omega (arith, some));
         most = omega arith;
         stands = stands-nothing now.sinks;
         header = λ name job files same. cc;

@@ -125,14 +125,14 @@ pub fn roam<F: Shelf, M: MeshSink, R: Sink>(
 
     // What words and files determine: laws, which say nothing of this run, and by which `ends` does.
     ensures some_outcome { (files : List NamedFile) →
-        (end : Outcome) × IsOutcome (map string_bytes words.now) files end }
+        (end : Outcome) × IsOutcome (command_of (map string_bytes words.now)) files end }
     ensures one_outcome { (files : List NamedFile) (end other : Outcome) →
         MakesNoCertificate (command_of (map string_bytes words.now)) →
-        IsOutcome (map string_bytes words.now) files end →
-        IsOutcome (map string_bytes words.now) files other → end ≡ other }
+        IsOutcome (command_of (map string_bytes words.now)) files end →
+        IsOutcome (command_of (map string_bytes words.now)) files other → end ≡ other }
     ensures accepted { (files : List NamedFile) (end : Outcome) →
-        IsAccepted (map string_bytes words.now) files →
-        IsOutcome (map string_bytes words.now) files end → end.status ≡ Status.Done }
+        IsAccepted (command_of (map string_bytes words.now)) files →
+        IsOutcome (command_of (map string_bytes words.now)) files end → end.status ≡ Status.Done }
 
     // The causes.
     ensures causes { IsCaused (moment F.Shelf M.MeshSink R.Sink shelf.old meshes.old report.old)

@@ -98,7 +98,7 @@ behind-memory : (before : Told) (old new : Seen) (name : List ℕ) (c : FitCheck
 behind-memory before old new name c grid count opens low high found faultless = record {
   opened = count;
   count = opens;
-  least = omega (arith, low);
+  least = λ some. omega (arith, low);
   most = high;
   stands = stands-nothing before;
   header = λ other job files e told one. absurd (omega (arith, one, low));

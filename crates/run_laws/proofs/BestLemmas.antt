@@ -17,12 +17,12 @@ use Rattle.run_laws.specs.declared.status.Status.{Status}
 use Rattle.run_laws.specs.declared.status.Status.TheVariants.{Done, NoMemory, Usage, GridRefused, ScriptRefused}
 use Rattle.run_laws.specs.declared.status.Status.TheVariants.{ReadFault, WriteFault, Rejected}
 use Rattle.run_laws.specs.Walk.{Walk, start_walk, walk_of}
-use Rattle.word_laws.specs.Words.{Scripted, Checking, Frames, Check, Command, OnGrid, prefix_of}
+use Rattle.word_laws.specs.Words.{Scripted, Checking, Frames, Check, Command, OnGrid, prefix_of, command_of}
 use Rattle.run_laws.specs.CertFile.{cert_in}
 use Rattle.run_laws.specs.Act.{Act, Told, Stands, report_of}
 use Rattle.run_laws.specs.Picture.{Picture, ArePictures}
 use Rattle.run_laws.specs.Outcome.{Outcome, shown_acts, script_walk, IsFramesOutcome, IsCheckOutcome, IsGridOutcome}
-use Rattle.run_laws.specs.Outcome.{IsWordsOutcome, IsOutcome}
+use Rattle.run_laws.specs.Outcome.{IsOutcome}
 use Rattle.run_laws.specs.Promise.{Seen, is_complete, ends_script, EndsRight, ScriptHasRead, FileReadFault}
 use Rattle.run_laws.specs.Promise.{LeavesAtReadFault, LeavesAtNoMemory}
 use Rattle.run_laws.specs.Headline.{IsRunOf, KeepsGoodMeshes, IsCertifiedMesh}
@@ -58,11 +58,10 @@ module _ (best : FramesAreBest) (two : BudgetsAreTwo) (read_texts : TextsAreRead
   low = command-budget words run.grid_name (Frames s) run.is_command
 
   -- the outcome of the words is that of the script
-  script-outcome : (end : Outcome) → IsOutcome words files end →
+  script-outcome : (end : Outcome) → IsOutcome (command_of words) files end →
       IsFramesOutcome s.show 2 (script_walk s grid script) end
-  unfolding IsOutcome
   script-outcome end is =
-      let P : Option Command → Type 0 = λ c. IsWordsOutcome c files end in
+      let P : Option Command → Type 0 = λ c. IsOutcome c files end in
       let Q : Result HeightField PgmFault → Type 0 = λ r. IsGridOutcome (Frames s) r files end in
       subst Q read-grid (subst P run.is_command is)
 
@@ -147,11 +146,10 @@ module _ (falling : (n : ℕ) (heights : List ℕ) (view : View) → IsFalling n
     (c : Checking) (grid : HeightField) (is : IsRunOf words files (Check c) grid)
     (before now : Told) (old new : Seen) where
   -- the outcome of the words is that of the check
-  check-outcome : (end : Outcome) → IsOutcome words files end →
+  check-outcome : (end : Outcome) → IsOutcome (command_of words) files end →
       IsCheckOutcome c grid (cert_in grid.n (bytes_of files c.certificate)) (bytes_of files c.mesh) end
-  unfolding IsOutcome
   check-outcome end of =
-      let P : Option Command → Type 0 = λ o. IsWordsOutcome o files end in
+      let P : Option Command → Type 0 = λ o. IsOutcome o files end in
       let Q : Result HeightField PgmFault → Type 0 = λ r. IsGridOutcome (Check c) r files end in
       subst Q (read_texts grid (bytes_of files is.grid_name) is.valid is.file_text) (subst P is.is_command of)
 

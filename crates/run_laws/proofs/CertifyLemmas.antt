@@ -2,6 +2,7 @@
 -- certified is optimal.
 use Rattle.std.proofs.Common.{◌≡◌, ℕ, ◌≤◌, List, [], Result, Ok, Err, length, refl, sym, ◌∙◌, ap, subst, inl, inr}
 use Rattle.std.proofs.Common.{arith}
+use Rattle.roam_edge.specs.Shelf.{NamedFile}
 use Rattle.mesh_defs.specs.HeightField.{HeightField}
 use Rattle.mesh_defs.specs.ClosedSet.{among, leaves_of}
 use Rattle.mesh_defs.specs.Priority.{priority_of}
@@ -19,10 +20,10 @@ use Rattle.cert_text.specs.Certificate.{Certificate}
 use Rattle.cert_text.specs.CertText.{cert_text}
 use Rattle.run_laws.specs.declared.status.Status.{Status}
 use Rattle.run_laws.specs.declared.status.Status.TheVariants.{Done, Rejected}
-use Rattle.word_laws.specs.Words.{Making, Checking}
+use Rattle.word_laws.specs.Words.{Making, Checking, Make}
 use Rattle.run_laws.specs.Certify.{makes_at, checks_at, IsMade, IsFaultless}
 use Rattle.run_laws.specs.ReportText.{certified_line, rejection}
-use Rattle.run_laws.specs.Outcome.{Outcome, text_outcome, IsMakeOutcome, IsCompared, IsVerdictOutcome, IsCheckOutcome}
+use Rattle.run_laws.specs.Outcome.{Outcome, text_outcome, IsJobOutcome, IsCompared, IsVerdictOutcome, IsCheckOutcome}
 use Rattle.run_laws.specs.Headline.{IsCertifiedMesh}
 use Rattle.run_laws.specs.Laws.{FramesExist}
 use Rattle.run_laws.proofs.DifferenceLemmas.{difference-unique, difference-same, same-or-different}
@@ -51,8 +52,9 @@ check-text c grid (Ok cert) mesh end is = verdict-text (checks_at c grid cert.ca
 check-text c grid (Err line) mesh end is = (rejection (BadLine line), Rejected, 2, is)
 
 -- what is made is one text
-pub make-text : (m : Making) (grid : HeightField) (end : Outcome) → IsMakeOutcome m grid end → IsOneText end
-make-text m grid end is = (cert_text is.0, Done, 1, is.2)
+pub make-text : (m : Making) (grid : HeightField) (files : List NamedFile) (end : Outcome) →
+    IsJobOutcome (Make m) grid files end → IsOneText end
+make-text m grid files end is = (cert_text is.0, Done, 1, is.2)
 
 -- a check has one outcome
 
@@ -122,9 +124,10 @@ certificates-exist falling best frames m grid range low =
       record { camera = refl; best = is; sound = of.1; few = omega (arith, of.2, low) },
     )
 
-pub make-exists : CertificatesExist → (m : Making) (grid : HeightField) → (1 ≤ grid.n) × (grid.n ≤ 11) → 2 ≤ m.budget →
-    (end : Outcome) × IsMakeOutcome m grid end
-make-exists made m grid range low =
+pub make-exists : CertificatesExist → (m : Making) (grid : HeightField) (files : List NamedFile) →
+    (1 ≤ grid.n) × (grid.n ≤ 11) → 2 ≤ m.budget →
+    (end : Outcome) × IsJobOutcome (Make m) grid files end
+make-exists made m grid files range low =
     let cert = made m grid range low in
     (text_outcome (cert_text cert.0) Done 1, (cert.0, cert.1, refl))
 

@@ -19,7 +19,7 @@ use Rattle.word_laws.specs.Words.{Criterion, TriangleOrder, Output, Meshes, Meas
 use Rattle.run_laws.specs.Act.{Act, WholeMesh, ReportText, Told, StandsInPart, IsCutShort, meshes_of, report_of}
 use Rattle.run_laws.specs.Picture.{Picture, shown_triangles}
 use Rattle.run_laws.specs.Outcome.{Outcome, picture_acts, shown_acts, sum_acts, stop_acts, script_walk, IsFramesOutcome}
-use Rattle.run_laws.specs.Outcome.{IsGridOutcome, IsWordsOutcome, IsOutcome}
+use Rattle.run_laws.specs.Outcome.{IsGridOutcome, IsOutcome}
 use Rattle.run_laws.specs.ReportText.{mesh_line, measure_line, line_refusal}
 use Rattle.run_laws.specs.CutShort.{is_by_frame, first_frames, StandsUnbegun, StandsInMesh, StandsInText, IsCutInMesh}
 use Rattle.run_laws.specs.CutShort.{IsCutInLine, StandsInRun, SinksDecide, CutRunsStand, CutTextsStand}
@@ -295,11 +295,10 @@ no-sums show pictures is = by_parts show.criterion show.order show.output is
         not_true e = cc
 
 pub write_faults : TextsAreRead → WriteFaultsStand
-unfolding IsOutcome
 write_faults read before now old new words files s grid status ends failed run by_frame =
     let e = ends.ends (write-fault-is status NoMemory failed (λ e. cc))
     (write-fault-is status ReadFault failed (λ e. cc)) in
-    let P : Option Command → Type 0 = λ c. IsWordsOutcome c files e.0 in
+    let P : Option Command → Type 0 = λ c. IsOutcome c files e.0 in
     let Q : Result HeightField PgmFault → Type 0 = λ r. IsGridOutcome (Frames s) r files e.0 in
     let script : List ℕ = bytes_of files s.script in
     let outcome : IsFramesOutcome s.show 2 (script_walk s grid script) e.0 =

@@ -19,14 +19,15 @@ use Rattle.fit_certificate_laws.proofs.FoundLemmas.{sound_found}
 use Rattle.fit_cert_text.specs.FitCertText.{fit_cert_text}
 use Rattle.run_laws.specs.declared.status.Status.{Status}
 use Rattle.run_laws.specs.declared.status.Status.TheVariants.{Done, NoMemory, ReadFault, Rejected}
-use Rattle.word_laws.specs.Words.{Target, AtError, InBudget, FitMaking, FitChecking, CheckFit, Command}
+use Rattle.word_laws.specs.Words.{Target, AtError, InBudget, FitMaking, FitChecking, CheckFit, Command, command_of}
+use Rattle.word_laws.specs.Words.{MakeFit}
 use Rattle.run_laws.specs.CertFile.{fit_cert_in}
 use Rattle.run_laws.specs.Certify.{IsFitFaultless}
 use Rattle.run_laws.specs.Fit.{goal_of, IsFitFor, fit_text}
 use Rattle.run_laws.specs.Act.{Told, Stands, report_of}
 use Rattle.run_laws.specs.ReportText.{certified_fit_line, fit_rejection, rejection}
-use Rattle.run_laws.specs.Outcome.{Outcome, text_outcome, IsFitMakeOutcome, IsCompared, IsFitVerdictOutcome}
-use Rattle.run_laws.specs.Outcome.{IsFitCheckOutcome, IsGridOutcome, IsWordsOutcome, IsOutcome}
+use Rattle.run_laws.specs.Outcome.{Outcome, text_outcome, IsJobOutcome, IsCompared, IsFitVerdictOutcome}
+use Rattle.run_laws.specs.Outcome.{IsFitCheckOutcome, IsGridOutcome, IsOutcome}
 use Rattle.run_laws.specs.Promise.{Seen, is_complete, EndsRight}
 use Rattle.run_laws.specs.Headline.{IsRunOf, IsCertifiedFit}
 use Rattle.run_laws.proofs.DifferenceLemmas.{difference-same}
@@ -49,8 +50,9 @@ fit_check-text c grid (Ok cert) mesh end is = verdict-text c grid is.1 mesh is.0
 fit_check-text c grid (Err line) mesh end is = (rejection (BadLine line), Rejected, 2, is)
 
 -- what is made is one text
-pub fit_make-text : (m : FitMaking) (grid : HeightField) (end : Outcome) → IsFitMakeOutcome m grid end → IsOneText end
-fit_make-text m grid end is = (fit_cert_text is.0, Done, 1, is.2)
+pub fit_make-text : (m : FitMaking) (grid : HeightField) (files : List NamedFile) (end : Outcome) →
+    IsJobOutcome (MakeFit m) grid files end → IsOneText end
+fit_make-text m grid files end is = (fit_cert_text is.0, Done, 1, is.2)
 
 -- a check has one outcome
 
@@ -101,9 +103,9 @@ possible : (n : ℕ) (target : Target) → TakesTwo target → IsPossible (goal_
 possible n (AtError thousandths) two = tt
 possible n (InBudget budget) two = two
 
-pub fit_make-exists : (m : FitMaking) (grid : HeightField) → TakesTwo m.target →
-    (end : Outcome) × IsFitMakeOutcome m grid end
-fit_make-exists m grid two =
+pub fit_make-exists : (m : FitMaking) (grid : HeightField) (files : List NamedFile) → TakesTwo m.target →
+    (end : Outcome) × IsJobOutcome (MakeFit m) grid files end
+fit_make-exists m grid files two =
     let found = sound_found grid.n grid.heights (goal_of grid.n m.target) (possible grid.n m.target two) in
     (text_outcome (fit_cert_text found.0) Done 1, (found.0, (found.1, found.2), refl))
 
@@ -178,11 +180,10 @@ module _ (read_texts : TextsAreRead) (words : List (List ℕ)) (files : List Nam
     (grid : HeightField) (is : IsRunOf words files (CheckFit c) grid)
     (before now : Told) (old new : Seen) where
   -- the outcome of the words is that of the check
-  check-outcome : (end : Outcome) → IsOutcome words files end →
+  check-outcome : (end : Outcome) → IsOutcome (command_of words) files end →
       IsFitCheckOutcome c grid (fit_cert_in grid.n (bytes_of files c.certificate)) (bytes_of files c.mesh) end
-  unfolding IsOutcome
   check-outcome end of =
-      let P : Option Command → Type 0 = λ o. IsWordsOutcome o files end in
+      let P : Option Command → Type 0 = λ o. IsOutcome o files end in
       let Q : Result HeightField PgmFault → Type 0 = λ r. IsGridOutcome (CheckFit c) r files end in
       subst Q (read_texts grid (bytes_of files is.grid_name) is.valid is.file_text) (subst P is.is_command of)
 

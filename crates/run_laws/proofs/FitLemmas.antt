@@ -1,6 +1,7 @@
 -- Meshes that are fitted: the tolerance is exact, there is one mesh for each target, and it is a best one.
 use Rattle.std.proofs.Common.{◌≡◌, ℕ, ◌≤◌, ◌*◌, ◌^◌, List, refl, sym, ◌∙◌, ap, subst, arith}
 use Rattle.std.proofs.Math.Nat.{le-div_iff_mul-le}
+use Rattle.roam_edge.specs.Shelf.{NamedFile}
 use Rattle.mesh_defs.specs.HeightField.{HeightField}
 use Rattle.mesh_defs.specs.ClosedSet.{leaves_of}
 use Rattle.deviation_laws.specs.PlaneHeight.{deviation_of}
@@ -12,9 +13,9 @@ use Rattle.fit_laws.proofs.BudgetLemmas.{budget_found}
 use Rattle.fit_laws.proofs.ErrorLemmas.{error-finest, worst-deviation}
 use Rattle.fit_laws.proofs.OrderLemmas.{leaves-order, least-one, budget-one}
 use Rattle.run_laws.specs.declared.status.Status.TheVariants.{Done}
-use Rattle.word_laws.specs.Words.{Target, AtError, InBudget, Fitting}
+use Rattle.word_laws.specs.Words.{Target, AtError, InBudget, Fitting, Fit}
 use Rattle.run_laws.specs.Fit.{tolerance_of, IsFitFor, IsFitted, IsFewestFor, IsClosestFor, IsBestFit}
-use Rattle.run_laws.specs.Outcome.{Outcome, plain_outcome, fit_acts, IsFitOutcome}
+use Rattle.run_laws.specs.Outcome.{Outcome, plain_outcome, fit_acts, IsJobOutcome}
 use Rattle.run_laws.specs.Laws.{TolerancesAreExact}
 
 -- the tolerance
@@ -60,14 +61,16 @@ fitted-exists (InBudget budget) grid two =
     (leaves_of n found.0, record { fit = found.2; in_order = leaves-order n found.0 found.1 })
 
 -- so a fit has one outcome
-pub fit-unique : (f : Fitting) (grid : HeightField) (end other : Outcome) → IsFitOutcome f grid end →
-    IsFitOutcome f grid other → end ≡ other
-fit-unique f grid end other p q =
+pub fit-unique : (f : Fitting) (grid : HeightField) (files : List NamedFile) (end other : Outcome) →
+    IsJobOutcome (Fit f) grid files end →
+    IsJobOutcome (Fit f) grid files other → end ≡ other
+fit-unique f grid files end other p q =
     p.2 ∙ ap (λ (triangles : List ℕ). plain_outcome (fit_acts f grid triangles) Done 1)
     (fitted-one f.target grid p.0 q.0 p.1 q.1) ∙ sym q.2
 
-pub fit-exists : (f : Fitting) (grid : HeightField) → TakesTwo f.target → (end : Outcome) × IsFitOutcome f grid end
-fit-exists f grid two =
+pub fit-exists : (f : Fitting) (grid : HeightField) (files : List NamedFile) → TakesTwo f.target →
+    (end : Outcome) × IsJobOutcome (Fit f) grid files end
+fit-exists f grid files two =
     let found = fitted-exists f.target grid two in
     (plain_outcome (fit_acts f grid found.0) Done 1, (found.0, found.1, refl))
 

@@ -12,12 +12,12 @@ use Rattle.obj_write.specs.Written.{mesh_with}
 use Rattle.run_laws.specs.declared.status.Status.{Status}
 use Rattle.run_laws.specs.declared.status.Status.TheVariants.{Done, NoMemory, Usage, GridRefused, ScriptRefused}
 use Rattle.run_laws.specs.declared.status.Status.TheVariants.{ReadFault, WriteFault, Rejected}
-use Rattle.word_laws.specs.Words.{Fitting, Fit, Command, OnGrid, has_script}
+use Rattle.word_laws.specs.Words.{Fitting, Fit, Command, OnGrid, has_script, command_of}
 use Rattle.run_laws.specs.Fit.{fit_text}
 use Rattle.run_laws.specs.ReportText.{fit_line}
 use Rattle.run_laws.specs.Act.{Told, Stands, IsCutShort}
 use Rattle.run_laws.specs.CutShort.{StandsInMesh}
-use Rattle.run_laws.specs.Outcome.{Outcome, IsFitOutcome, IsGridOutcome, IsWordsOutcome, IsOutcome}
+use Rattle.run_laws.specs.Outcome.{Outcome, IsJobOutcome, IsGridOutcome, IsOutcome}
 use Rattle.run_laws.specs.Promise.{Seen, is_complete, EndsRight, LeavesAtReadFault, LeavesAtNoMemory}
 use Rattle.run_laws.specs.Headline.{IsRunOf, IsFitMeshOf, KeepsFitMesh}
 use Rattle.run_laws.proofs.BestLemmas.{same-command}
@@ -42,10 +42,9 @@ module _ (read_texts : TextsAreRead) (words : List (List ℕ)) (files : List Nam
   one-fits mesh fits = All-cons Fits mesh [] fits (All-nil Fits)
 
   -- the outcome of the words is that of the fit
-  fit-outcome : (end : Outcome) → IsOutcome words files end → IsFitOutcome f grid end
-  unfolding IsOutcome
+  fit-outcome : (end : Outcome) → IsOutcome (command_of words) files end → IsJobOutcome (Fit f) grid files end
   fit-outcome end is =
-      let P : Option Command → Type 0 = λ c. IsWordsOutcome c files end in
+      let P : Option Command → Type 0 = λ c. IsOutcome c files end in
       let Q : Result HeightField PgmFault → Type 0 = λ r. IsGridOutcome (Fit f) r files end in
       subst Q (read_texts grid (bytes_of files run.grid_name) run.valid run.file_text) (subst P run.is_command is)
 
@@ -60,7 +59,8 @@ module _ (read_texts : TextsAreRead) (words : List (List ℕ)) (files : List Nam
   }
 
   -- all was done
-  whole : (status : Status) (end : Outcome) → IsFitOutcome f grid end → Stands before now end.acts → Keeps status
+  whole : (status : Status) (end : Outcome) → IsJobOutcome (Fit f) grid files end →
+      Stands before now end.acts → Keeps status
   whole status end is stands =
       let triangles : List ℕ = is.0 in
       let fit = fit-best f.target grid triangles is.1.fit in
@@ -93,7 +93,7 @@ module _ (read_texts : TextsAreRead) (words : List (List ℕ)) (files : List Nam
       }
 
   -- or its line
-  cut : (status : Status) → status ≢ Done → (end : Outcome) → IsFitOutcome f grid end →
+  cut : (status : Status) → status ≢ Done → (end : Outcome) → IsJobOutcome (Fit f) grid files end →
       IsCutShort before now end.acts → Keeps status
   cut status undone end is short =
       let triangles : List ℕ = is.0 in

@@ -22,7 +22,7 @@ use Rattle.run_laws.specs.Act.{Act, ReportText}
 use Rattle.run_laws.specs.Picture.{Picture, ArePictures, IsCertified}
 use Rattle.run_laws.specs.ReportText.{all_triangles, worst_in, count_blocked, sums_line, try_line}
 use Rattle.run_laws.specs.Outcome.{Outcome, shown_acts, stop_acts, stop_status, engine_end, made_budget, made_spacing}
-use Rattle.run_laws.specs.Outcome.{made_walk, IsFramesOutcome, IsWordsOutcome, IsOutcome}
+use Rattle.run_laws.specs.Outcome.{made_walk, IsFramesOutcome, IsOutcome}
 use Rattle.run_laws.specs.Laws.{PicturesAreCertified}
 use Rattle.run_laws.specs.GeneratedLaws.{HasRoomForAll, unblocked_end, LowLevelsAreUnblocked}
 use Rattle.run_laws.proofs.OutcomeLemmas.{made_grid-level}
@@ -189,9 +189,8 @@ room-for n low =
     omega (arith, p, e)
 
 pub low-unblocked : PicturesAreCertified → LowLevelsAreUnblocked
-unfolding IsOutcome
 low-unblocked certified words files n seed end is low outcome =
-    let P : Option Command → Type 0 = λ c. IsWordsOutcome c files end in
+    let P : Option Command → Type 0 = λ c. IsOutcome c files end in
     let shown : IsFramesOutcome (as_sums n seed) 0 (made_walk n seed) end = subst P is outcome in
     let ps : List Picture = shown.0 in
     let walk : Walk = made_walk n seed in

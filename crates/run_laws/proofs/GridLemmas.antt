@@ -19,7 +19,7 @@ use Rattle.run_laws.specs.Picture.{Picture}
 use Rattle.run_laws.specs.Act.{Act, Told, told, Stands}
 use Rattle.run_laws.specs.ReportText.{info_line, grid_refusal}
 use Rattle.run_laws.specs.Outcome.{Outcome, EngineEnd, text_outcome, shown_acts, IsGridOutcome}
-use Rattle.run_laws.specs.Promise.{Seen, HasRead, FileReadFault, CommandReadFault, HasReadHeader, most_open_job}
+use Rattle.run_laws.specs.Promise.{Seen, HasRead, FileReadFault, CommandReadFault, HasReadHeader, most_open}
 use Rattle.run_laws.specs.Promise.{CommandNoMemory, IsUndecided, is_complete}
 use Rattle.run_laws.proofs.ActLemmas.{stands-nothing, cut-only-line}
 use Rattle.run_laws.proofs.StepLemmas.{come-read}
@@ -129,14 +129,14 @@ pub same-name : (name other : List ℕ) (job job' : Job) → OnGrid name job ≡
 same-name name other job job' e = cc
 
 -- the grid is open where memory runs out
-one-open : (job : Job) → 1 ≤ most_open_job job
-one-open (Frames s) = omega arith
-one-open Facts = omega arith
-one-open (Make m) = omega arith
-one-open (Check c) = omega arith
-one-open (Fit f) = omega arith
-one-open (MakeFit m) = omega arith
-one-open (CheckFit c) = omega arith
+one-open : (name : List ℕ) (job : Job) → 1 ≤ most_open (OnGrid name job)
+one-open name (Frames s) = omega arith
+one-open name Facts = omega arith
+one-open name (Make m) = omega arith
+one-open name (Check c) = omega arith
+one-open name (Fit f) = omega arith
+one-open name (MakeFit m) = omega arith
+one-open name (CheckFit c) = omega arith
 
 -- memory ran out at the grid
 pub grid-memory : (before : Told) (old new : Seen) (name : List ℕ) (job : Job) → new.opens ≡ old.opens + 1
@@ -145,8 +145,8 @@ pub grid-memory : (before : Told) (old new : Seen) (name : List ℕ) (job : Job)
 grid-memory before old new name job opened header = record {
   opened = 1;
   count = opened;
-  least = omega arith;
-  most = one-open job;
+  least = λ some. omega arith;
+  most = one-open name job;
   stands = stands-nothing before;
   header = λ other job' files e told_files alone.
       let P : List ℕ → Type 0 = λ l. HasReadHeader (bytes_of files l) new.rest in

@@ -21,7 +21,7 @@ use Rattle.run_laws.specs.Act.{Act, WholeMesh, ReportText, meshes_of, Told, Stan
 use Rattle.run_laws.specs.Picture.{Picture, shown_triangles, IsLeastFrame, IsFrameFor, IsPicture, ArePictures}
 use Rattle.run_laws.specs.Outcome.{Outcome, picture_acts, shown_acts, sum_acts, stop_acts, script_walk, IsFramesOutcome}
 use Rattle.run_laws.specs.Promise.{ends_script}
-use Rattle.run_laws.specs.Headline.{IsGoodMesh, IsGoodText, AreGoodFrames, KeepsGoodMeshes}
+use Rattle.run_laws.specs.Headline.{IsGoodMesh, IsGoodOrder, AreGoodFrames, KeepsGoodMeshes}
 use Rattle.run_laws.specs.Laws.{AreStates, BudgetsAreTwo}
 use Rattle.run_laws.proofs.ActLemmas.{meshes_of-append}
 use Rattle.run_laws.proofs.PictureLemmas.{BudgetFramesAreBest, show_of}
@@ -56,8 +56,8 @@ frame-closed (OfTolerance tolerance) state members worst blocked frame = frame.c
 good-text : FramesAreBest →
     (criterion : Criterion) (order : TriangleOrder) (output : Output) (before : List ℕ) (state : State)
     (p : Picture) → 2 ≤ state.budget → IsPicture (show_of criterion order output) before state p
-    → IsGoodText (show_of criterion order output) state
-    (text_in p.state (shown_triangles (show_of criterion order output) p))
+    → (list : List ℕ) × IsGoodOrder order criterion state list
+    × (text_in p.state (shown_triangles (show_of criterion order output) p) ≡ text_in state list)
 good-text best criterion DepthFirst output before state p low f = (
   leaves_of state.grid.n (among p.members),
   good-mesh best criterion state p.members p.worst p.blocked low f.frame,

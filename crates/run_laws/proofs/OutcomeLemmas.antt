@@ -36,8 +36,8 @@ use Rattle.run_laws.specs.ReportText.{info_line, grid_refusal}
 use Rattle.run_laws.specs.Outcome.{Outcome, plain_outcome, text_outcome, stop_status, engine_end, engine_for}
 use Rattle.run_laws.specs.Outcome.{frames_outcome, script_walk, made_budget, made_spacing, made_walk}
 use Rattle.run_laws.specs.Outcome.{MakesNoCertificate, IsFramesOutcome, IsCheckOutcome, IsFitCheckOutcome, IsJobOutcome}
-use Rattle.run_laws.specs.Outcome.{IsGridOutcome, IsCommandOutcome, IsWordsOutcome, IsOutcome}
-use Rattle.run_laws.specs.Promise.{IsAcceptedJob, IsAcceptedInput, IsAccepted}
+use Rattle.run_laws.specs.Outcome.{IsGridOutcome, IsCommandOutcome, IsOutcome}
+use Rattle.run_laws.specs.Promise.{IsAcceptedJob, IsAccepted}
 use Rattle.run_laws.specs.Laws.{FramesExist, RunsAreUnique, LevelsAreInRange, AreStates, BudgetsAreTwo}
 use Rattle.run_laws.proofs.PictureLemmas.{FramesAreUnique, SetsAreLists, ArePictures-unique, pictures_of, no-members}
 use Rattle.run_laws.proofs.CertifyLemmas.{IsOneText, make-text, check-text, check-unique, check-exists, check-done}
@@ -66,21 +66,19 @@ job-done (CheckFit c) grid files end good is =
     let P : Result FitCertificate ℕ → Type 0 = λ r. IsFitCheckOutcome c grid r (bytes_of files c.mesh) end in
     fit_check-done c grid good.0 good.1 (bytes_of files c.mesh) end good.3 good.4 (subst P good.2 is)
 
-command-done : TextsAreRead → (command : Command) (files : List NamedFile) (end : Outcome) →
-    IsAcceptedInput command files → IsCommandOutcome command files end → end.status ≡ Done
-command-done read (OnGrid name job) files end good is =
+said-done : TextsAreRead → (said : Option Command) (files : List NamedFile) (end : Outcome) →
+    IsAccepted said files → IsOutcome said files end → end.status ≡ Done
+said-done read None files end good is = absurd good
+said-done read (Some (OnGrid name job)) files end good is =
     let P : Result HeightField PgmFault → Type 0 = λ r. IsGridOutcome job r files end in
     job-done job good.0 files end good.3 (subst P (read good.0 (bytes_of files name) good.1 good.2) is)
-command-done read (Generated n seed) files end good is =
+said-done read (Some (Generated n seed)) files end good is =
     status-of end _ is.2 ∙ ap stop_status (along-stop
     (start_walk made_budget (start_state (made_grid n seed) made_spacing made_budget)) (made_lines n seed))
 
 pub outcome-done : TextsAreRead → (words : List (List ℕ)) (files : List NamedFile) (end : Outcome) →
-    IsAccepted words files → IsOutcome words files end → end.status ≡ Done
-unfolding IsOutcome
-outcome-done read words files end good is =
-    let P : Option Command → Type 0 = λ c. IsWordsOutcome c files end in
-    command-done read good.0 files end good.2 (subst P good.1 is)
+    IsAccepted (command_of words) files → IsOutcome (command_of words) files end → end.status ≡ Done
+outcome-done read words = said-done read (command_of words)
 
 -- there is one outcome
 
@@ -103,7 +101,7 @@ job-unique one lists runs Facts (Ok grid) files end other free f g = f ∙ sym g
 job-unique one lists runs (Make m) (Ok grid) files end other free f g = absurd free
 job-unique one lists runs (Check c) (Ok grid) files end other free f g =
     check-unique c grid (cert_in grid.n (bytes_of files c.certificate)) (bytes_of files c.mesh) end other f g
-job-unique one lists runs (Fit job) (Ok grid) files end other free f g = fit-unique job grid end other f g
+job-unique one lists runs (Fit job) (Ok grid) files end other free f g = fit-unique job grid files end other f g
 job-unique one lists runs (MakeFit m) (Ok grid) files end other free f g = absurd free
 job-unique one lists runs (CheckFit c) (Ok grid) files end other free f g =
     fit_check-unique c grid (fit_cert_in grid.n (bytes_of files c.certificate)) (bytes_of files c.mesh) end other f g
@@ -117,7 +115,7 @@ job-unique one lists runs (CheckFit c) (Err fault) files end other free f g = f 
 
 words-unique : FramesAreUnique → SetsAreLists → RunsAreUnique →
     (command : Option Command) (files : List NamedFile) (end other : Outcome)
-    → MakesNoCertificate command → IsWordsOutcome command files end → IsWordsOutcome command files other → end ≡ other
+    → MakesNoCertificate command → IsOutcome command files end → IsOutcome command files other → end ≡ other
 words-unique one lists runs None files end other free f g = f ∙ sym g
 words-unique one lists runs (Some (OnGrid name job)) files end other free f g =
     job-unique one lists runs job (grid_of (bytes_of files name)) files end other free f g
@@ -126,8 +124,7 @@ words-unique one lists runs (Some (Generated n seed)) files end other free f g =
 
 pub outcome-unique : FramesAreUnique → SetsAreLists → RunsAreUnique →
     (words : List (List ℕ)) (files : List NamedFile) (end other : Outcome) → MakesNoCertificate (command_of words)
-    → IsOutcome words files end → IsOutcome words files other → end ≡ other
-unfolding IsOutcome
+    → IsOutcome (command_of words) files end → IsOutcome (command_of words) files other → end ≡ other
 outcome-unique one lists runs words files end other free f g =
     words-unique one lists runs (command_of words) files end other free f g
 
@@ -156,7 +153,7 @@ job-engine one lists runs (CheckFit c) r files end other f g =
 
 words-engine : FramesAreUnique → SetsAreLists → RunsAreUnique →
     (command : Option Command) (files : List NamedFile) (end other : Outcome)
-    → IsWordsOutcome command files end → IsWordsOutcome command files other → end.engine ≡ other.engine
+    → IsOutcome command files end → IsOutcome command files other → end.engine ≡ other.engine
 words-engine one lists runs None files end other f g = engine-of end other (f ∙ sym g)
 words-engine one lists runs (Some (OnGrid name job)) files end other f g =
     job-engine one lists runs job (grid_of (bytes_of files name)) files end other f g
@@ -165,8 +162,7 @@ words-engine one lists runs (Some (Generated n seed)) files end other f g =
 
 pub outcome-engine : FramesAreUnique → SetsAreLists → RunsAreUnique →
     (words : List (List ℕ)) (files : List NamedFile) (end other : Outcome)
-    → IsOutcome words files end → IsOutcome words files other → end.engine ≡ other.engine
-unfolding IsOutcome
+    → IsOutcome (command_of words) files end → IsOutcome (command_of words) files other → end.engine ≡ other.engine
 outcome-engine one lists runs words files end other f g =
     words-engine one lists runs (command_of words) files end other f g
 
@@ -508,11 +504,11 @@ job-exists : BudgetsAreTwo → FramesExist → CertificatesExist →
 job-exists two frames made (Frames s) (Ok grid) files low range =
     script_outcome-exists two frames s grid (bytes_of files s.script) low (range grid refl)
 job-exists two frames made Facts (Ok grid) files low range = (text_outcome (info_line grid) Done 1, refl)
-job-exists two frames made (Make m) (Ok grid) files low range = make-exists made m grid (range grid refl) low.low
+job-exists two frames made (Make m) (Ok grid) files low range = make-exists made m grid files (range grid refl) low.low
 job-exists two frames made (Check c) (Ok grid) files low range =
     check-exists c grid (cert_in grid.n (bytes_of files c.certificate)) (bytes_of files c.mesh)
-job-exists two frames made (Fit f) (Ok grid) files low range = fit-exists f grid low
-job-exists two frames made (MakeFit m) (Ok grid) files low range = fit_make-exists m grid low
+job-exists two frames made (Fit f) (Ok grid) files low range = fit-exists f grid files low
+job-exists two frames made (MakeFit m) (Ok grid) files low range = fit_make-exists m grid files low
 job-exists two frames made (CheckFit c) (Ok grid) files low range =
     fit_check-exists c grid (fit_cert_in grid.n (bytes_of files c.certificate)) (bytes_of files c.mesh)
 job-exists two frames made (Frames s) (Err fault) files low range =
@@ -530,7 +526,7 @@ job-exists two frames made (CheckFit c) (Err fault) files low range =
 
 words-exist : BudgetsAreTwo → FramesExist → CertificatesExist → LevelsAreInRange →
     (command : Option Command) (files : List NamedFile)
-    → ((c : Command) → command ≡ Some c → CommandHasBudget c) → (end : Outcome) × IsWordsOutcome command files end
+    → ((c : Command) → command ≡ Some c → CommandHasBudget c) → (end : Outcome) × IsOutcome command files end
 words-exist two frames made levels None files low = (plain_outcome [] Usage 0, refl)
 words-exist two frames made levels (Some (OnGrid name job)) files low =
     job-exists two frames made job (grid_of (bytes_of files name)) files (low (OnGrid name job) refl)
@@ -539,8 +535,7 @@ words-exist two frames made levels (Some (Generated n seed)) files low =
     made_outcome-exists frames n seed (low (Generated n seed) refl)
 
 pub outcome-exists : BudgetsAreTwo → FramesExist → CertificatesExist → LevelsAreInRange →
-    (words : List (List ℕ)) (files : List NamedFile) → (end : Outcome) × IsOutcome words files end
-unfolding IsOutcome
+    (words : List (List ℕ)) (files : List NamedFile) → (end : Outcome) × IsOutcome (command_of words) files end
 outcome-exists two frames made levels words files =
     words-exist two frames made levels (command_of words) files (λ c is. words-budget words c is)
 
@@ -585,7 +580,7 @@ job-certified two one (Frames s) (Ok grid) files end low some is =
     shown-certified one s.show grid.n 2 (script_walk s grid (bytes_of files s.script)) end
     (script-states two s grid (bytes_of files s.script) low) some is
 job-certified two one Facts (Ok grid) files end low some is = text-certified end (info_line grid, Done, 1, is)
-job-certified two one (Make m) (Ok grid) files end low some is = text-certified end (make-text m grid end is)
+job-certified two one (Make m) (Ok grid) files end low some is = text-certified end (make-text m grid files end is)
 job-certified two one (Check c) (Ok grid) files end low some is =
     text-certified end
     (check-text c grid (cert_in grid.n (bytes_of files c.certificate)) (bytes_of files c.mesh) end is)
@@ -594,7 +589,8 @@ job-certified two one (Fit f) (Ok grid) files end low some is =
     subst P (sym is.2) tt
 job-certified two one (Frames s) (Err fault) files end low some is = text-certified end (refused-text fault end is)
 job-certified two one Facts (Err fault) files end low some is = text-certified end (refused-text fault end is)
-job-certified two one (MakeFit m) (Ok grid) files end low some is = text-certified end (fit_make-text m grid end is)
+job-certified two one (MakeFit m) (Ok grid) files end low some is =
+    text-certified end (fit_make-text m grid files end is)
 job-certified two one (CheckFit c) (Ok grid) files end low some is =
     text-certified end
     (fit_check-text c grid (fit_cert_in grid.n (bytes_of files c.certificate)) (bytes_of files c.mesh) end is)
@@ -607,7 +603,7 @@ job-certified two one (CheckFit c) (Err fault) files end low some is = text-cert
 words-certified : BudgetsAreTwo → MeshesAreCertified →
     (command : Option Command) (files : List NamedFile) (end : Outcome) →
     ((c : Command) → command ≡ Some c → CommandHasBudget c)
-    → IsTrue (is_some end.engine) → IsWordsOutcome command files end → AllByRecursion IsCertified end.pictures
+    → IsTrue (is_some end.engine) → IsOutcome command files end → AllByRecursion IsCertified end.pictures
 words-certified two one None files end low some is =
     let P : Outcome → Type 0 = λ o. AllByRecursion IsCertified o.pictures in subst P (sym is) tt
 words-certified two one (Some (OnGrid name job)) files end low some is =
@@ -617,8 +613,7 @@ words-certified two one (Some (Generated n seed)) files end low some is =
 
 pub outcome-certified : BudgetsAreTwo → MeshesAreCertified →
     (words : List (List ℕ)) (files : List NamedFile) (end : Outcome)
-    → IsTrue (is_some end.engine) → IsOutcome words files end → All IsCertified end.pictures
-unfolding IsOutcome
+    → IsTrue (is_some end.engine) → IsOutcome (command_of words) files end → All IsCertified end.pictures
 outcome-certified two one words files end some is =
     All-from_recursion IsCertified end.pictures
     (words-certified two one (command_of words) files end (λ c e. words-budget words c e) some is)

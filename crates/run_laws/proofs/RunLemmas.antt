@@ -21,7 +21,8 @@ use Rattle.run_laws.specs.Walk.{Walk}
 use Rattle.run_laws.specs.Outcome.{Outcome, EngineEnd, plain_outcome, text_outcome, IsJobOutcome, IsGridOutcome}
 use Rattle.run_laws.specs.Outcome.{IsCommandOutcome}
 use Rattle.run_laws.specs.Promise.{Seen, HasEnded, HasReadHeader, IsUndecided, OpensForStatus, CommandReadFault}
-use Rattle.run_laws.specs.Promise.{CommandNoMemory, most_open_job, is_complete, ends_script, may_end, leaves_engine, is_of_text}
+use Rattle.run_laws.specs.Promise.{CommandNoMemory, most_open, is_complete, ends_script, may_end, leaves_engine}
+use Rattle.run_laws.specs.Promise.{is_of_text}
 use Rattle.run_laws.specs.Maker.{DoesAs, IsScriptEnd, Leaves, EndsScript, ScriptHasCome}
 use Rattle.run_laws.specs.FileStop.{StopsReading}
 use Rattle.run_laws.specs.Moment.{Moment, OnlyReads, SameMeshes}
@@ -76,7 +77,7 @@ same-in-time : (late last : Bool) (faults : ℕ) → last ≡ late → IsInTime 
 same-in-time late last faults same not_late none = same ∙ not_late
 
 -- where memory runs out, no more files were opened than the command names
-most-named : (name : List ℕ) (job : Job) → most_open_job job ≤ file_count (Some (OnGrid name job))
+most-named : (name : List ℕ) (job : Job) → most_open (OnGrid name job) ≤ file_count (Some (OnGrid name job))
 most-named name (Frames s) = omega arith
 most-named name Facts = omega arith
 most-named name (Make m) = omega arith
@@ -395,7 +396,8 @@ pub line-runs : (before middle now : Moment) (name : List ℕ) (job : Job) (grid
     → ((files : List NamedFile) → IsJobOutcome job grid files (text_outcome text Done 1))
     → TellsLast middle now text Done status → Runs before now (Some (OnGrid name job)) status None
 line-runs before middle now name job grid text status idle read one left outcome tells =
-    job-runs before middle now name job grid (ReportText text ∷ []) status idle read one left outcome (λ text_alone. refl) tells
+    job-runs before middle now name job grid (ReportText text ∷ []) status idle read one left outcome
+    (λ text_alone. refl) tells
 
 -- memory ran out behind a grid that was read
 pub spent-runs : (before now : Moment) (name : List ℕ) (job : Job) (grid : HeightField) → before.under_way ≡ false

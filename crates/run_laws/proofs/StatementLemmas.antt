@@ -10,7 +10,7 @@ use Rattle.run_laws.specs.declared.status.Status.TheVariants.{ReadFault, WriteFa
 use Rattle.word_laws.specs.Words.{Command, command_of}
 use Rattle.run_laws.specs.Act.{Act, ReportText, IsCutShort}
 use Rattle.run_laws.specs.Cause.{StatusHasCause}
-use Rattle.run_laws.specs.Outcome.{EngineEnd, Outcome, IsWordsOutcome, IsOutcome}
+use Rattle.run_laws.specs.Outcome.{EngineEnd, Outcome, IsOutcome}
 use Rattle.run_laws.specs.Promise.{AreFiles, EndsRight, is_complete, may_end, CommandReadFault, CommandNoMemory}
 use Rattle.run_laws.specs.Promise.{LeavesAtReadFault, LeavesAtNoMemory}
 use Rattle.run_laws.specs.CutShort.{CutTextsStand, WriteFaultsStand}
@@ -149,12 +149,6 @@ is-caused before now command status allows cause shelf meshes report = record {
 
 -- What follows.
 
--- an outcome of a command is one of the words that are it
-of-words : (words : List (List ℕ)) (files : List NamedFile) (end : Outcome) →
-    IsWordsOutcome (command_of words) files end → IsOutcome words files end
-unfolding IsOutcome
-of-words words files end is = is
-
 module _ (before now : Moment) (words : List (List ℕ)) (left : Option EngineEnd) (files : List NamedFile)
     (are : AreFiles before.shelf.files (command_of words) files) where
   abbrev Right : Status → Type 0
@@ -167,7 +161,7 @@ module _ (before now : Moment) (words : List (List ℕ)) (left : Option EngineEn
       record {
         ends = λ m r. (
           d.end,
-          (of-words words files d.end d.is_outcome),
+          d.is_outcome,
           record {
             opened = d.opened;
             complete = λ whole. (d.stands, d.ends_so);
@@ -182,7 +176,7 @@ module _ (before now : Moment) (words : List (List ℕ)) (left : Option EngineEn
       record {
         ends = λ m r. (
           d.end,
-          (of-words words files d.end d.is_outcome),
+          d.is_outcome,
           record {
             opened = d.opened;
             complete = λ whole. absurd (not-true whole);
@@ -207,7 +201,7 @@ outcome-follows before now words status left files ends are = right before now w
 pub engine-follows : EnginesAreUnique → EngineFollows
 engine-follows unique before now words status left files ends are end is complete =
     let d = ends.complete complete files are in
-    d.engine ∙ unique words files d.end end (of-words words files d.end d.is_outcome) is
+    d.engine ∙ unique words files d.end end d.is_outcome is
 
 pub run-fault-follows : WriteFaultsStand → RunFaultFollows
 run-fault-follows stand before now words status left files s grid ends told failed run by_frame =
@@ -218,7 +212,7 @@ pub text-fault-follows : CutTextsStand → OutcomesAreUnique → TextFaultFollow
 text-fault-follows stand unique before now words status left files ends are failed one end text is acts =
     let d = ends.write_fault failed files are in
     let same : d.end.acts ≡ ReportText text ∷ [] =
-    ap (λ (o : Outcome). o.acts) (unique words files d.end end one (of-words words files d.end d.is_outcome) is)
+    ap (λ (o : Outcome). o.acts) (unique words files d.end end one d.is_outcome is)
     ∙ acts in
     stand before.sinks now.sinks text
     (subst (λ (a : List Act). IsCutShort before.sinks now.sinks a) same d.cut_short)
@@ -236,16 +230,16 @@ module _ (done : AcceptedIsDone) where
       ]
   complete-follows before now words Usage left files ends cause are accepted shelf meshes report =
       let d = ends.complete refl files are in
-      inl (d.ends_so ∙ done words files d.end accepted (of-words words files d.end d.is_outcome))
+      inl (d.ends_so ∙ done words files d.end accepted d.is_outcome)
   complete-follows before now words GridRefused left files ends cause are accepted shelf meshes report =
       let d = ends.complete refl files are in
-      inl (d.ends_so ∙ done words files d.end accepted (of-words words files d.end d.is_outcome))
+      inl (d.ends_so ∙ done words files d.end accepted d.is_outcome)
   complete-follows before now words ScriptRefused left files ends cause are accepted shelf meshes report =
       let d = ends.complete refl files are in
-      inl (d.ends_so ∙ done words files d.end accepted (of-words words files d.end d.is_outcome))
+      inl (d.ends_so ∙ done words files d.end accepted d.is_outcome)
   complete-follows before now words Rejected left files ends cause are accepted shelf meshes report =
       let d = ends.complete refl files are in
-      inl (d.ends_so ∙ done words files d.end accepted (of-words words files d.end d.is_outcome))
+      inl (d.ends_so ∙ done words files d.end accepted d.is_outcome)
 
 unmoved : (a b : ℕ) → a ≤ b → ((a < b) → ⊥) → b ≡ a
 unmoved a b later not = omega (arith, later, not)

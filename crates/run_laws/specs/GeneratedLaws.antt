@@ -20,5 +20,5 @@ unblocked_end = codes " worst 0 blocked 0\n"
 -- with Done, its one act is the line of its sums, and the line ends so.
 abbrev pub LowLevelsAreUnblocked : Type 0
 LowLevelsAreUnblocked = (words : List (List ℕ)) (files : List NamedFile) (n seed : ℕ) (end : Outcome)
-    → command_of words ≡ Some (Generated n seed) → n ≤ 6 → IsOutcome words files end
+    → command_of words ≡ Some (Generated n seed) → n ≤ 6 → IsOutcome (command_of words) files end
     → (end.status ≡ Done) × (begun : List ℕ) × (end.acts ≡ ReportText (begun ++ unblocked_end) ∷ [])

@@ -1,6 +1,6 @@
 -- The headline: each frame's mesh is a best mesh within the budget in force, whatever the mesh before; or the least
 -- mesh of a tolerance. A mesh that is fitted is a best one for its error or its budget.
--- Words: IsGoodMesh, IsGoodStrip, IsGoodOrder, IsGoodText, IsGoodFrame, AreGoodFrames, IsRunOf, KeepsGoodMeshes,
+-- Words: IsGoodMesh, IsGoodStrip, IsGoodOrder, IsGoodFrame, AreGoodFrames, IsRunOf, KeepsGoodMeshes,
 -- IsCertifiedMesh, IsCertifiedFit, IsFitMeshOf, KeepsFitMesh.
 use Rattle.std.specs.Prelude.{◌≡◌, ⊤, ℕ, ◌+◌, ◌≤◌, Bool, true, IsTrue, List, [], ◌∷◌, ◌++◌, length, count_by, nat_eq}
 use Rattle.std.specs.Prelude.{All, Contains, Option, Some}
@@ -51,16 +51,12 @@ abbrev pub IsGoodOrder : TriangleOrder → Criterion → State → List ℕ → 
 IsGoodOrder DepthFirst criterion state order = IsGoodMesh criterion state order
 IsGoodOrder AlongStrip criterion state order = IsGoodStrip criterion state order
 
--- The bytes are the text of what is shown of a state: of the mesh of the criterion, its triangles in the order.
-abbrev pub IsGoodText : Show → State → List ℕ → Type 0
-IsGoodText show state bytes =
-    (order : List ℕ) × IsGoodOrder show.order show.criterion state order × (bytes ≡ text_in state order)
-
--- The mesh has this number and the prefix of the words, and its bytes are right for this state.
+-- The mesh has this number and the prefix of the words, and its bytes are the text of what is shown of this state: of
+-- the mesh of the criterion, its triangles in the order.
 pub record IsGoodFrame (show : Show) (number : ℕ) (state : State) (mesh : WrittenMesh) : Type 0 where
   pub named : prefix_of show ≡ Some mesh.prefix
   pub numbered : mesh.number ≡ number
-  pub text : IsGoodText show state mesh.bytes
+  pub text : (order : List ℕ) × IsGoodOrder show.order show.criterion state order × (mesh.bytes ≡ text_in state order)
 
 -- The meshes are those of the first of the states, in order, numbered from this number on, and each that is
 -- finished is good. There is no mesh without a state.

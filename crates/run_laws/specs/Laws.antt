@@ -101,29 +101,30 @@ pub record KeepsStates (n : ℕ) (walk : Walk) : Type 0 where
 abbrev pub OutcomesAreUnique : Type 0
 OutcomesAreUnique =
     (words : List (List ℕ)) (files : List NamedFile) (end other : Outcome) → MakesNoCertificate (command_of words)
-    → IsOutcome words files end → IsOutcome words files other → end ≡ other
+    → IsOutcome (command_of words) files end → IsOutcome (command_of words) files other → end ≡ other
 
 -- words and files have an outcome
 abbrev pub OutcomesExist : Type 0
-OutcomesExist = (words : List (List ℕ)) (files : List NamedFile) → (end : Outcome) × IsOutcome words files end
+OutcomesExist =
+    (words : List (List ℕ)) (files : List NamedFile) → (end : Outcome) × IsOutcome (command_of words) files end
 
 -- what is accepted ends with Done
 abbrev pub AcceptedIsDone : Type 0
 AcceptedIsDone =
-    (words : List (List ℕ)) (files : List NamedFile) (end : Outcome) → IsAccepted words files →
-    IsOutcome words files end → end.status ≡ Done
+    (words : List (List ℕ)) (files : List NamedFile) (end : Outcome) → IsAccepted (command_of words) files →
+    IsOutcome (command_of words) files end → end.status ≡ Done
 
 -- the outcomes of words and files leave one engine, where there are several too
 abbrev pub EnginesAreUnique : Type 0
 EnginesAreUnique =
-    (words : List (List ℕ)) (files : List NamedFile) (end other : Outcome) → IsOutcome words files end →
-    IsOutcome words files other
+    (words : List (List ℕ)) (files : List NamedFile) (end other : Outcome) → IsOutcome (command_of words) files end →
+    IsOutcome (command_of words) files other
     → end.engine ≡ other.engine
 
 -- what an engine's frames tell of blocking is a certificate
 abbrev pub PicturesAreCertified : Type 0
 PicturesAreCertified = (words : List (List ℕ)) (files : List NamedFile) (end : Outcome) → IsTrue (is_some end.engine)
-    → IsOutcome words files end → All IsCertified end.pictures
+    → IsOutcome (command_of words) files end → All IsCertified end.pictures
 
 -- the turns of a strip are as many as the tests of turns count
 abbrev pub TurnsAreCounted : Type 0

@@ -1,8 +1,8 @@
 -- The outcome of a run: what its words and the files that they name determine. This project's own.
 -- Words: EngineEnd, Outcome, plain_outcome, text_outcome, picture_acts, shown_acts, sum_acts, stop_acts, stop_status,
 -- engine_end, frames_outcome, IsFramesOutcome, script_walk, made_budget, made_spacing, made_walk, IsMakeOutcome,
--- fit_acts, IsFitOutcome, IsCompared, IsVerdictOutcome, IsCheckOutcome, IsJobOutcome, IsGridOutcome, IsCommandOutcome,
--- IsWordsOutcome, IsOutcome, MakesNoCertificate.
+-- fit_acts, IsCompared, IsVerdictOutcome, IsCheckOutcome, IsJobOutcome, IsGridOutcome, IsCommandOutcome,
+-- IsOutcome, MakesNoCertificate.
 use Rattle.std.specs.Prelude.{◌≡◌, ⊤, ℕ, ◌+◌, ◌⊎◌, if◌then◌else◌, List, [], ◌∷◌, ◌++◌, length, sum_by, Option, Some}
 use Rattle.std.specs.Prelude.{None, Result, Ok, Err}
 use Rattle.mesh_defs.specs.HeightField.{HeightField}
@@ -139,19 +139,10 @@ abbrev pub made_walk : ℕ → ℕ → Walk
 made_walk n seed =
     walk_along (start_walk made_budget (start_state (made_grid n seed) made_spacing made_budget)) (made_lines n seed)
 
--- a certificate is written: any that may be made
-abbrev pub IsMakeOutcome : Making → HeightField → Outcome → Type 0
-IsMakeOutcome m grid end = (cert : Certificate) × IsMade m grid cert × (end ≡ text_outcome (cert_text cert) Done 1)
-
 -- the acts of a mesh that is fitted: the mesh, which has number 1, and then its line
 abbrev pub fit_acts : Fitting → HeightField → List ℕ → List Act
 fit_acts f grid triangles =
     WholeMesh f.prefix 1 (fit_text f.spacing grid triangles) ∷ (ReportText (fit_line grid triangles) ∷ [])
-
--- a mesh is fitted to the grid
-abbrev pub IsFitOutcome : Fitting → HeightField → Outcome → Type 0
-IsFitOutcome f grid end =
-    (triangles : List ℕ) × IsFitted f.target grid triangles × (end ≡ plain_outcome (fit_acts f grid triangles) Done 1)
 
 -- The file of a mesh is compared with the text of the triangles of a certificate: they are the same, or there is a
 -- first place at which they differ.
@@ -174,11 +165,6 @@ IsCheckOutcome c grid (Ok cert) mesh end =
     × IsVerdictOutcome state cert mesh is end
 IsCheckOutcome c grid (Err line) mesh end = end ≡ text_outcome (rejection (BadLine line)) Rejected 2
 
--- a certificate of a fitted mesh is written: any that may be made
-abbrev pub IsFitMakeOutcome : FitMaking → HeightField → Outcome → Type 0
-IsFitMakeOutcome m grid end =
-    (cert : FitCertificate) × IsFitMade m grid cert × (end ≡ text_outcome (fit_cert_text cert) Done 1)
-
 -- what the verdict on a certificate of a fitted mesh leads to, of which these are the triangles: only behind one
 -- without a fault the file of the mesh is opened
 abbrev pub IsFitVerdictOutcome : FitChecking → HeightField → List ℕ → List ℕ → fit_verdict.Verdict → Outcome → Type 0
@@ -195,15 +181,18 @@ IsFitCheckOutcome c grid (Ok cert) mesh end =
     × IsFitVerdictOutcome c grid triangles mesh is end
 IsFitCheckOutcome c grid (Err line) mesh end = end ≡ text_outcome (rejection (BadLine line)) Rejected 2
 
--- what a job does with an accepted grid
+-- What a job does with an accepted grid. A certificate that is made is any that may be.
 abbrev pub IsJobOutcome : Job → HeightField → List NamedFile → Outcome → Type 0
 IsJobOutcome (Frames s) grid files end = IsFramesOutcome s.show 2 (script_walk s grid (bytes_of files s.script)) end
 IsJobOutcome Facts grid files end = end ≡ text_outcome (info_line grid) Done 1
-IsJobOutcome (Make m) grid files end = IsMakeOutcome m grid end
+IsJobOutcome (Make m) grid files end =
+    (cert : Certificate) × IsMade m grid cert × (end ≡ text_outcome (cert_text cert) Done 1)
 IsJobOutcome (Check c) grid files end =
     IsCheckOutcome c grid (cert_in grid.n (bytes_of files c.certificate)) (bytes_of files c.mesh) end
-IsJobOutcome (Fit f) grid files end = IsFitOutcome f grid end
-IsJobOutcome (MakeFit m) grid files end = IsFitMakeOutcome m grid end
+IsJobOutcome (Fit f) grid files end =
+    (triangles : List ℕ) × IsFitted f.target grid triangles × (end ≡ plain_outcome (fit_acts f grid triangles) Done 1)
+IsJobOutcome (MakeFit m) grid files end =
+    (cert : FitCertificate) × IsFitMade m grid cert × (end ≡ text_outcome (fit_cert_text cert) Done 1)
 IsJobOutcome (CheckFit c) grid files end =
     IsFitCheckOutcome c grid (fit_cert_in grid.n (bytes_of files c.certificate)) (bytes_of files c.mesh) end
 
@@ -217,14 +206,10 @@ abbrev pub IsCommandOutcome : Command → List NamedFile → Outcome → Type 0
 IsCommandOutcome (OnGrid grid job) files end = IsGridOutcome job (grid_of (bytes_of files grid)) files end
 IsCommandOutcome (Generated n seed) files end = IsFramesOutcome (as_sums n seed) 0 (made_walk n seed) end
 
--- what words do, whether they are a command or none
-abbrev pub IsWordsOutcome : Option Command → List NamedFile → Outcome → Type 0
-IsWordsOutcome None files end = end ≡ plain_outcome [] Usage 0
-IsWordsOutcome (Some command) files end = IsCommandOutcome command files end
-
--- The outcome of words over named files.
-unfoldable pub IsOutcome : List (List ℕ) → List NamedFile → Outcome → Type 0
-IsOutcome words files end = IsWordsOutcome (command_of words) files end
+-- what words do over named files, whether they are a command or none
+abbrev pub IsOutcome : Option Command → List NamedFile → Outcome → Type 0
+IsOutcome None files end = end ≡ plain_outcome [] Usage 0
+IsOutcome (Some command) files end = IsCommandOutcome command files end
 
 -- The words are none of `certify make` and `certify make-fit`: of the certificates that may be made any is right, and
 -- every other command, and words that are none, have one outcome alone.

@@ -1,9 +1,9 @@
 -- What a run of `roam` promises, by its status.
 -- Words: Seen, seen, shelf_tells, AreFiles, is_complete, ends_script, EndsAs, EndsRight, HasEnded, may_end,
 -- OpensForStatus, IsUndecided, ScriptHasRead, CheckHasRead, FitCheckHasRead, JobHasRead, HasRead, FileReadFault,
--- CommandReadFault, LeavesAtReadFault, least_open, most_open_job, most_open, HasReadHeader, CheckHasCome,
+-- CommandReadFault, LeavesAtReadFault, most_open, HasReadHeader, CheckHasCome,
 -- FitCheckHasCome, CommandNoMemory, LeavesAtNoMemory, IsAcceptedCheck, IsAcceptedFitCheck, IsAcceptedJob,
--- IsAcceptedInput, IsAccepted, is_of_text, leaves_engine.
+-- IsAccepted, is_of_text, leaves_engine.
 use Rattle.std.specs.Prelude.{◌≡◌, ◌≢◌, ⊤, ℕ, zero, suc, ◌+◌, ◌<◌, ◌≤◌, Bool, true, false, ◌&&◌, nat_lt, IsTrue, List}
 use Rattle.std.specs.Prelude.{[], ◌++◌, length, Option, Some, None, Ok, Err, slice_get}
 use Rattle.mesh_defs.specs.HeightField.{HeightField, IsHeightField}
@@ -83,7 +83,7 @@ pub record EndsAs (before now : Told) (old new : Seen) (end : Outcome) (status :
 pub record EndsRight (before now : Told) (old new : Seen) (words : List (List ℕ)) (files : List NamedFile)
     (status : Status) : Type 0 where
   pub ends : status ≢ NoMemory → status ≢ ReadFault →
-      (end : Outcome) × IsOutcome words files end × EndsAs before now old new end status
+      (end : Outcome) × IsOutcome (command_of words) files end × EndsAs before now old new end status
 
 -- the end of the file was read: nothing is unread where the shelf tells its files, and nothing where it tells what is
 -- unread
@@ -197,23 +197,16 @@ pub record LeavesAtReadFault (before now : Told) (old new : Seen) (words : List 
   pub is_command : command_of words ≡ Some command
   pub leaves : CommandReadFault before now old new command
 
--- how many files are open at least when memory runs out: the grid, if the command names one
-abbrev pub least_open : Command → ℕ
-least_open (OnGrid name job) = 1
-least_open (Generated n seed) = 0
-
--- and at most: the grid alone, but for a check, which takes memory for its certificate and its mesh too
-abbrev pub most_open_job : Job → ℕ
-most_open_job (Frames s) = 1
-most_open_job Facts = 1
-most_open_job (Make m) = 1
-most_open_job (Check c) = 3
-most_open_job (Fit f) = 1
-most_open_job (MakeFit m) = 1
-most_open_job (CheckFit c) = 3
-
+-- how many files are open at most when memory runs out: the grid alone, but for a check, which takes memory for its
+-- certificate and its mesh too
 abbrev pub most_open : Command → ℕ
-most_open (OnGrid name job) = most_open_job job
+most_open (OnGrid name (Frames s)) = 1
+most_open (OnGrid name Facts) = 1
+most_open (OnGrid name (Make m)) = 1
+most_open (OnGrid name (Check c)) = 3
+most_open (OnGrid name (Fit f)) = 1
+most_open (OnGrid name (MakeFit m)) = 1
+most_open (OnGrid name (CheckFit c)) = 3
 most_open (Generated n seed) = 0
 
 -- the bytes have a whole accepted header, which was read
@@ -241,7 +234,7 @@ FitCheckHasCome name c files opened = 2 ≤ opened → (grid : HeightField) × (
 pub record CommandNoMemory (before now : Told) (old new : Seen) (command : Command) : Type 0 where
   pub opened : ℕ
   pub count : new.opens ≡ old.opens + opened
-  pub least : least_open command ≤ opened
+  pub least : 0 < file_count (Some command) → 1 ≤ opened
   pub most : opened ≤ most_open command
   pub stands : Stands before now []
   pub header : (name : List ℕ) (job : Job) (files : List NamedFile) → command ≡ OnGrid name job → old.files ≡ Some files
@@ -281,15 +274,13 @@ IsAcceptedJob (Fit f) grid files = ⊤
 IsAcceptedJob (MakeFit m) grid files = ⊤
 IsAcceptedJob (CheckFit c) grid files = IsAcceptedFitCheck c grid files
 
--- its grid is a file text, and what its job reads is accepted; a generated run reads nothing
-abbrev pub IsAcceptedInput : Command → List NamedFile → Type 0
-IsAcceptedInput (OnGrid name job) files =
+-- the words are a command, and what it reads is accepted: the file of its grid is a text of one, and what its job reads
+-- is accepted; a generated run reads nothing
+abbrev pub IsAccepted : Option Command → List NamedFile → Type 0
+IsAccepted None files = ⊥
+IsAccepted (Some (OnGrid name job)) files =
     (grid : HeightField) × IsHeightField grid × IsFileText grid (bytes_of files name) × IsAcceptedJob job grid files
-IsAcceptedInput (Generated n seed) files = ⊤
-
--- the words are a command, and what it reads is accepted
-abbrev pub IsAccepted : List (List ℕ) → List NamedFile → Type 0
-IsAccepted words files = (command : Command) × (command_of words ≡ Some command) × IsAcceptedInput command files
+IsAccepted (Some (Generated n seed)) files = ⊤
 
 -- they are no words that ask for frames or for a mesh: all that they write is one text
 abbrev pub is_of_text : Option Command → Bool

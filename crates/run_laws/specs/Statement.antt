@@ -15,10 +15,11 @@ use Rattle.obj_write.specs.Written.{Grows}
 use Rattle.run_laws.specs.declared.status.Status.{Status}
 use Rattle.run_laws.specs.declared.status.Status.TheVariants.{Done, NoMemory, Usage, ReadFault, WriteFault}
 use Rattle.word_laws.specs.Words.{Scripted, Checking, Fitting, FitChecking, Frames, Check, Fit, CheckFit, Command}
+use Rattle.word_laws.specs.Words.{command_of}
 use Rattle.word_laws.specs.Words.{prefix_of, file_count}
 use Rattle.run_laws.specs.Act.{Stands, IsCutShort}
 use Rattle.run_laws.specs.Picture.{IsCertified}
-use Rattle.run_laws.specs.Outcome.{EngineEnd, Outcome, IsWordsOutcome, IsOutcome}
+use Rattle.run_laws.specs.Outcome.{EngineEnd, Outcome, IsOutcome}
 use Rattle.run_laws.specs.Promise.{AreFiles, is_complete, HasEnded, may_end, OpensForStatus, CommandReadFault}
 use Rattle.run_laws.specs.Promise.{CommandNoMemory, is_of_text, leaves_engine}
 use Rattle.run_laws.specs.Headline.{IsRunOf, KeepsGoodMeshes, IsCertifiedMesh, IsCertifiedFit, KeepsFitMesh}
@@ -52,7 +53,7 @@ pub record CertifiesMesh (before now : Moment) (words : List (List ℕ)) (status
 -- with it split has more triangles than the budget; where nothing blocks, its worst priority is 0
 abbrev pub TellsCertificates : List (List ℕ) → Type 0
 TellsCertificates words = (files : List NamedFile) (end : Outcome) → IsTrue (is_some end.engine)
-    → IsOutcome words files end → All IsCertified end.pictures
+    → IsOutcome (command_of words) files end → All IsCertified end.pictures
 
 -- What stands.
 
@@ -61,7 +62,7 @@ TellsCertificates words = (files : List NamedFile) (end : Outcome) → IsTrue (i
 pub record DoesAll (before now : Moment) (command : Option Command) (files : List NamedFile) (status : Status)
     (left : Option EngineEnd) : Type 0 where
   pub end : Outcome
-  pub is_outcome : IsWordsOutcome command files end
+  pub is_outcome : IsOutcome command files end
   pub ends_so : status ≡ end.status
   pub stands : Stands before.sinks now.sinks end.acts
   pub opened : now.shelf.opens ≡ before.shelf.opens + end.opened
@@ -71,7 +72,7 @@ pub record DoesAll (before now : Moment) (command : Option Command) (files : Lis
 -- opened.
 pub record IsCutOff (before now : Moment) (command : Option Command) (files : List NamedFile) : Type 0 where
   pub end : Outcome
-  pub is_outcome : IsWordsOutcome command files end
+  pub is_outcome : IsOutcome command files end
   pub cut_short : IsCutShort before.sinks now.sinks end.acts
   pub opened : now.shelf.opens ≡ before.shelf.opens + end.opened
 

@@ -29,7 +29,7 @@ EngineFollows =
     (before now : Moment) (words : List (List ℕ)) (status : Status) (left : Option EngineEnd)
     (files : List NamedFile)
     → EndsByStatus before now (command_of words) status left → AreFiles before.shelf.files (command_of words) files
-    → (end : Outcome) → IsOutcome words files end → IsTrue (is_complete status) → left ≡ end.engine
+    → (end : Outcome) → IsOutcome (command_of words) files end → IsTrue (is_complete status) → left ≡ end.engine
 
 -- where a write failed in a run that shows its frames one by one, one of four cases stands
 abbrev pub RunFaultFollows : Type 0
@@ -48,7 +48,7 @@ TextFaultFollows =
     (files : List NamedFile)
     → EndsByStatus before now (command_of words) status left → AreFiles before.shelf.files (command_of words) files
     → status ≡ WriteFault → MakesNoCertificate (command_of words) → (end : Outcome) (text : List ℕ)
-    → IsOutcome words files end → end.acts ≡ ReportText text ∷ []
+    → IsOutcome (command_of words) files end → end.acts ≡ ReportText text ∷ []
     → StandsInText before.sinks now.sinks [] text
 
 -- words and files that are accepted, and no count that rose: Done, or memory ran out
@@ -57,7 +57,7 @@ CompleteFollows =
     (before now : Moment) (words : List (List ℕ)) (status : Status) (left : Option EngineEnd)
     (files : List NamedFile)
     → EndsByStatus before now (command_of words) status left → IsCaused before now (command_of words) status
-    → AreFiles before.shelf.files (command_of words) files → IsAccepted words files
+    → AreFiles before.shelf.files (command_of words) files → IsAccepted (command_of words) files
     → now.shelf_faults ≡ before.shelf_faults → now.sinks.mesh_faults ≡ before.sinks.mesh_faults
     → now.sinks.report_faults ≡ before.sinks.report_faults → (status ≡ Done) ⊎ (status ≡ NoMemory)
 

@@ -1,6 +1,7 @@
 //! A run over objects that never fail, but for the room of the report.
 
 ghost use Rattle.std.specs.Prelude.{◌≡◌, ◌≢◌, ◌-◌, ◌^◌, ◌<◌, ◌≤◌, ◌⊎◌, ◌↔◌, false, map, string_bytes};
+ghost use Rattle.word_laws.specs.Words.{command_of};
 ghost use Rattle.run_laws.specs.Promise.{IsAccepted};
 
 use edge_doubles::CountMeshes;
@@ -23,7 +24,7 @@ pub fn calm_run(
     requires idle { meshes.old.under_way ≡ false }
     requires faults { report.old.faults < 2 ^ 64 - 1 }
     requires opens { shelf.old.opens ≤ 2 ^ 63 }
-    ensures complete { IsAccepted (map string_bytes words.now) shelf.old.files →
+    ensures complete { IsAccepted (command_of (map string_bytes words.now)) shelf.old.files →
         (result ≡ Status.Done) ⊎ (result ≡ Status.NoMemory) ⊎ (result ≡ Status.WriteFault) }
     ensures read { result ≢ Status.ReadFault }
     ensures write_cause { (result ≡ Status.WriteFault) ↔ (report.old.faults < report.new.faults) }
