@@ -1,22 +1,9 @@
 -- Acts that stand, one after another, and acts that were cut short.
-use Rattle.std.proofs.Common.{◌≡◌, ℕ, true, List, [], ◌∷◌, ◌++◌, Option, Some, Result, Ok, Err, OnOk, OnErr, refl, sym}
+use Rattle.std.proofs.Common.{◌≡◌, ℕ, true, List, [], ◌∷◌, ◌++◌, Option, Some, refl, sym}
 use Rattle.std.proofs.Common.{◌∙◌, ap, subst, append_assoc, append-nil}
-use Rattle.roam_edge.specs.MeshSink.{WrittenMesh}
-use Rattle.roam_edge.specs.Told.{IsPrefix}
 use Rattle.roam_edge.specs.Fault.{Rose}
-use Rattle.obj_write.specs.Written.{mesh_with, Grows, IsPartOfMesh}
+use Rattle.obj_write.specs.Written.{mesh_with, Grows}
 use Rattle.run_laws.specs.Act.{Act, WholeMesh, ReportText, Told, Stands, IsCutShort, StandsInPart, meshes_of, report_of}
-use Rattle.run_laws.specs.Act.{told}
-
--- what two facts about an answer give
-pub both-ok : {T E P Q R : Type 0} (answer : Result T E) → (P → Q → R) → OnOk answer P → OnOk answer Q → OnOk answer R
-both-ok (Ok value) give one two = give one two
-both-ok (Err error) give one two = tt
-
-pub both-err : {T E P Q R : Type 0} (answer : Result T E) → (P → Q → R) → OnErr answer P →
-    OnErr answer Q → OnErr answer R
-both-err (Ok value) give one two = tt
-both-err (Err error) give one two = give one two
 
 -- a count that rose from a later moment on rose from the first one on, if it was the same
 rose-since : (before middle now : ℕ) → middle ≡ before → Rose middle now → Rose before now
@@ -120,59 +107,4 @@ cut-longer before now acts more cut = record {
   owed = cut.owed ++ more;
   in_order = ap (λ m. m ++ more) cut.in_order ∙ append_assoc cut.done (cut.next ∷ cut.owed) more;
   standing = cut.standing;
-}
-
--- a mesh was cut short, and nothing else was done
-pub cut-mesh : {k k' i : ℕ} (meshes meshes' : Option (List WrittenMesh)) (report : Option (List ℕ))
-    (prefix : List ℕ) (number : ℕ)
-    (bytes : List ℕ) (owed : List Act)
-    → ((all : List WrittenMesh) → meshes ≡ Some all →
-    (part : List WrittenMesh) × IsPartOfMesh prefix number bytes part × (meshes' ≡ Some (all ++ part)))
-    → Rose k k' → IsCutShort (told meshes report k i) (told meshes' report k' i) (WholeMesh prefix number bytes ∷ owed)
-cut-mesh meshes meshes' report prefix number bytes owed part rose = record {
-  done = [];
-  next = WholeMesh prefix number bytes;
-  owed = owed;
-  in_order = refl;
-  standing = (part, grows-nothing report, rose, refl);
-}
-
--- a mesh was written whole, and then a line was cut short
-pub cut-line : {k k' i i' : ℕ} (meshes meshes' : Option (List WrittenMesh))
-    (report report' : Option (List ℕ)) (prefix : List ℕ)
-    (number : ℕ) (bytes line : List ℕ)
-    → Grows meshes meshes' (mesh_with prefix number bytes true ∷ []) → k' ≡ k
-    → ((all : List ℕ) → report ≡ Some all → (front : List ℕ) × IsPrefix front line × (report' ≡ Some (all ++ front)))
-    → Rose i i' → IsCutShort (told meshes report k i) (told meshes' report' k' i')
-    (WholeMesh prefix number bytes ∷ (ReportText line ∷ []))
-cut-line meshes meshes' report report' prefix number bytes line whole same part rose = record {
-  done = WholeMesh prefix number bytes ∷ [];
-  next = ReportText line;
-  owed = [];
-  in_order = refl;
-  standing = (whole, part, rose, same);
-}
-
--- a line was cut short, and nothing else was done
-pub cut-only-line : {k i i' : ℕ} (meshes : Option (List WrittenMesh)) (report report' : Option (List ℕ))
-    (line : List ℕ) (owed : List Act)
-    → ((all : List ℕ) → report ≡ Some all → (front : List ℕ) × IsPrefix front line × (report' ≡ Some (all ++ front)))
-    → Rose i i' → IsCutShort (told meshes report k i) (told meshes report' k i') (ReportText line ∷ owed)
-cut-only-line meshes report report' line owed part rose = record {
-  done = [];
-  next = ReportText line;
-  owed = owed;
-  in_order = refl;
-  standing = (grows-nothing meshes, part, rose, refl);
-}
-
--- a text was written
-pub stands-text : {k i i' : ℕ} (meshes : Option (List WrittenMesh)) (report report' : Option (List ℕ)) (text : List ℕ)
-    → ((all : List ℕ) → report ≡ Some all → report' ≡ Some (all ++ text))
-    → i' ≡ i → Stands (told meshes report k i) (told meshes report' k i') (ReportText text ∷ [])
-stands-text meshes report report' text came same = record {
-  meshes_grow = grows-nothing meshes;
-  report_grows = λ all is. came all is ∙ ap (λ m. Some (all ++ m)) (sym (append-nil text));
-  mesh_same = refl;
-  report_same = same;
 }

@@ -1,19 +1,18 @@
 -- What calls do to the outside of a run, and one call after another.
-use Rattle.std.proofs.Common.{◌≡◌, ℕ, Bool, true, false, ◌||◌, nat_lt, IsTrue, List, [], ◌∷◌, ◌++◌, Option, Some}
-use Rattle.std.proofs.Common.{Result, Ok, Err, OnOk, OnErr, refl, sym, ◌∙◌, ap, subst, inl, inr, arith}
-use Rattle.roam_edge.specs.Fault.{HasCause, Rose, IsInTime, late_after}
+use Rattle.std.proofs.Common.{◌≡◌, ℕ, Bool, true, false, ◌||◌, nat_lt, IsTrue, List, [], ◌∷◌, ◌++◌, Some}
+use Rattle.std.proofs.Common.{Result, Ok, Err, OnOk, OnErr, refl, sym, ◌∙◌, ap, append-nil, subst, inl, inr, arith}
+use Rattle.roam_edge.specs.Fault.{HasCause, IsInTime, late_after}
 use Rattle.roam_edge.specs.MeshSink.{WrittenMesh}
 use Rattle.roam_edge.specs.Sink.{Appends}
 use Rattle.obj_write.specs.Written.{mesh_with, Grows, IsPartOfMesh}
 use Rattle.run_laws.specs.declared.status.Status.{Status}
 use Rattle.run_laws.specs.declared.status.Status.TheVariants.{WriteFault}
-use Rattle.run_laws.specs.Act.{Act, WholeMesh, ReportText, Told, Stands, IsCutShort, meshes_of}
-use Rattle.run_laws.specs.Cause.{NoFault, WriteFaults, WritesHaveCause}
+use Rattle.run_laws.specs.Act.{Act, WholeMesh, ReportText, Told, meshes_of}
+use Rattle.run_laws.specs.Cause.{NoFault, WritesHaveCause}
 use Rattle.run_laws.specs.Promise.{is_complete}
 use Rattle.run_laws.specs.Moment.{Moment, OnlyWrites, Does, SameMeshes}
 use Rattle.run_laws.specs.Leaving.{EndsWith}
-use Rattle.run_laws.proofs.ActLemmas.{grows-nothing, stands-append, cut-append, cut-longer, cut-mesh, cut-only-line, meshes_of-append}
-use Rattle.run_laws.proofs.ActLemmas.{stands-text}
+use Rattle.run_laws.proofs.ActLemmas.{grows-nothing, stands-append, cut-append, cut-longer, meshes_of-append}
 use Rattle.run_laws.proofs.GridLemmas.{not-complete}
 
 -- a call of an object that had not failed comes in time
@@ -47,9 +46,7 @@ does-text before now text (Ok value) shelf meshes faults under_way late bytes ca
   };
   done = record {
     meshes_grow = λ all is. meshes ∙ grows-nothing before.sinks.meshes all is;
-    report_grows =
-        let one = stands-text {k = 0} before.sinks.meshes before.sinks.report now.sinks.report text bytes.ok cause.ok in
-        one.report_grows;
+    report_grows = λ all is. bytes.ok all is ∙ ap (λ m. Some (all ++ m)) (sym (append-nil text));
     mesh_same = faults;
     report_same = cause.ok;
   };

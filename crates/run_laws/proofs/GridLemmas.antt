@@ -1,13 +1,11 @@
 -- How a command on a grid ends: at its grid, at its line of facts, and at its script.
-use Rattle.std.proofs.Common.{◌≡◌, ◌≢◌, ℕ, ◌+◌, ◌^◌, ◌≤◌, false, true, IsTrue, List, [], ◌++◌, slice_get, Option, None}
-use Rattle.std.proofs.Common.{Some, Result, Ok, Err, refl, sym, ◌∙◌, ap, subst, arith}
+use Rattle.std.proofs.Common.{◌≡◌, ◌≢◌, ℕ, ◌+◌, ◌^◌, ◌≤◌, false, true, IsTrue, List, [], slice_get, Option}
+use Rattle.std.proofs.Common.{Some, Result, Ok, refl, sym, ◌∙◌, ap, subst, arith}
 use Rattle.std.proofs.Math.Nat.{min-eq_left}
 use Rattle.mesh_defs.specs.HeightField.{HeightField}
 use Rattle.mesh_defs.specs.State.{start_state}
-use Rattle.roam_edge.specs.Fault.{next_count, Rose}
-use Rattle.roam_edge.specs.MeshSink.{WrittenMesh}
+use Rattle.roam_edge.specs.Fault.{next_count}
 use Rattle.roam_edge.specs.Shelf.{NamedFile, bytes_of}
-use Rattle.roam_edge.specs.Told.{IsPrefix}
 use Rattle.pgm_grid.specs.declared.fault.PgmFault.{PgmFault}
 use Rattle.pgm_grid.specs.Progress.{grid_of}
 use Rattle.run_laws.specs.declared.status.Status.{Status}
@@ -16,12 +14,11 @@ use Rattle.run_laws.specs.Walk.{Walk, start_walk}
 use Rattle.word_laws.specs.Words.{Show, Scripted, Job, Frames, Facts, Command, OnGrid, Make, Check, Fit, MakeFit}
 use Rattle.word_laws.specs.Words.{CheckFit, names_of}
 use Rattle.run_laws.specs.Picture.{Picture}
-use Rattle.run_laws.specs.Act.{Act, Told, told, Stands}
-use Rattle.run_laws.specs.ReportText.{info_line, grid_refusal}
-use Rattle.run_laws.specs.Outcome.{Outcome, EngineEnd, text_outcome, shown_acts, IsGridOutcome}
+use Rattle.run_laws.specs.Act.{Act, Told, Stands}
+use Rattle.run_laws.specs.Outcome.{Outcome, EngineEnd, shown_acts, IsGridOutcome}
 use Rattle.run_laws.specs.Promise.{Seen, HasRead, FileReadFault, CommandReadFault, HasReadHeader, most_open}
 use Rattle.run_laws.specs.Promise.{CommandNoMemory, IsUndecided, is_complete}
-use Rattle.run_laws.proofs.ActLemmas.{stands-nothing, cut-only-line}
+use Rattle.run_laws.proofs.ActLemmas.{stands-nothing}
 use Rattle.run_laws.proofs.StepLemmas.{come-read}
 use Rattle.run_laws.specs.Maker.{TellsFrames, Begins, DoesAs, Leaves, EndsScript, ScriptHasCome}
 use Rattle.run_laws.specs.FileStop.{StopsReading}
@@ -33,23 +30,6 @@ next-one before now low is = is ∙ min-eq_left (omega (arith, low))
 
 pub next_count-one : (before now : ℕ) → before ≤ 2 ^ 63 → now ≡ next_count before → now ≡ before + 1
 next_count-one before now low is = next-one before now (omega (arith, low)) is
-
--- and by two where one more follows
-pub next_count-two : (before middle now : ℕ) → before ≤ 2 ^ 63 → middle ≡ next_count before →
-    now ≡ next_count middle → now ≡ before + 2
-next_count-two before middle now low is more =
-    let one = next_count-one before middle low is in
-    let two : now ≡ middle + 1 = more ∙ min-eq_left (omega (arith, low, one)) in
-    omega (arith, one, two)
-
--- the last text of a run was cut short
-pub text-cut : {k i i' : ℕ} (meshes : Option (List WrittenMesh)) (report report' : Option (List ℕ)) (text : List ℕ)
-    (status : Status) (files : ℕ)
-    → ((all : List ℕ) → report ≡ Some all → (front : List ℕ) × IsPrefix front text × (report' ≡ Some (all ++ front)))
-    → Rose i i' →
-    DoesAs (told meshes report k i) (told meshes report' k i') (text_outcome text status files) ends.WriteFault
-text-cut meshes report report' text status files part rose =
-    record { complete = λ e. cc; cut_short = λ e. cut-only-line meshes report report' text [] part rose }
 
 -- a command ends as the outcome says that what its grid is read as leads to
 pub ends-as : (before now : Told) (old new : Seen) (name : List ℕ) (job : Job) (files : List NamedFile)
@@ -67,28 +47,6 @@ ends-as before now old new name job files answer end status found is opened does
         left,
       );
     }
-
--- the refusal of its grid ends a command
-pub refused-ends : (before now : Told) (old new : Seen) (name : List ℕ) (job : Job) (files : List NamedFile)
-    (fault : PgmFault) (text : List ℕ) (status : Status)
-    → grid_of (bytes_of files name) ≡ Err fault → text ≡ grid_refusal fault → new.opens ≡ old.opens + 1
-    → DoesAs before now (text_outcome text ends.GridRefused 1) status →
-    CommandEnds before now old new (OnGrid name job) files status None
-refused-ends before now old new name job files fault text status found is opened does =
-    let P : List ℕ → Type 0 = λ t. DoesAs before now (text_outcome t ends.GridRefused 1) status in
-    ends-as before now old new name job files (Err fault) (text_outcome (grid_refusal fault) ends.GridRefused 1) status
-    found refl opened (subst P is does) None (λ e. refl)
-
--- the line of facts ends a command
-pub facts-end : (before now : Told) (old new : Seen) (name : List ℕ) (files : List NamedFile) (grid : HeightField)
-    (text : List ℕ) (status : Status)
-    → grid_of (bytes_of files name) ≡ Ok grid → text ≡ info_line grid → new.opens ≡ old.opens + 1
-    → DoesAs before now (text_outcome text ends.Done 1) status →
-    CommandEnds before now old new (OnGrid name Facts) files status None
-facts-end before now old new name files grid text status found is opened does =
-    let P : List ℕ → Type 0 = λ t. DoesAs before now (text_outcome t ends.Done 1) status in
-    ends-as before now old new name Facts files (Ok grid)
-    (text_outcome (info_line grid) ends.Done 1) status found refl opened (subst P is does) None (λ e. refl)
 
 -- a read of a command's file failed
 pub file-fault : (before now : Told) (new : Seen) (command : Command) (files : List NamedFile) (k : ℕ) (name : List ℕ)

@@ -36,7 +36,7 @@ use Rattle.run_laws.specs.ReportText.{info_line, grid_refusal}
 use Rattle.run_laws.specs.Outcome.{Outcome, plain_outcome, text_outcome, stop_status, engine_end, engine_for}
 use Rattle.run_laws.specs.Outcome.{frames_outcome, script_walk, made_budget, made_spacing, made_walk}
 use Rattle.run_laws.specs.Outcome.{MakesNoCertificate, IsFramesOutcome, IsCheckOutcome, IsFitCheckOutcome, IsJobOutcome}
-use Rattle.run_laws.specs.Outcome.{IsGridOutcome, IsCommandOutcome, IsOutcome}
+use Rattle.run_laws.specs.Outcome.{IsGridOutcome, IsOutcome}
 use Rattle.run_laws.specs.Promise.{IsAcceptedJob, IsAccepted}
 use Rattle.run_laws.specs.Laws.{FramesExist, RunsAreUnique, LevelsAreInRange, AreStates, BudgetsAreTwo}
 use Rattle.run_laws.proofs.PictureLemmas.{FramesAreUnique, SetsAreLists, ArePictures-unique, pictures_of, no-members}

@@ -1,6 +1,6 @@
 -- What a run promises: how it follows from what its commands promise, and what follows from it.
 use Rattle.std.proofs.Math.Nat.{min-eq_left}
-use Rattle.std.proofs.Common.{◌≡◌, ◌≢◌, ◌⊎◌, ◌↔◌, ℕ, ◌+◌, ◌-◌, ◌^◌, ◌<◌, ◌≤◌, false, true, IsTrue, List, [], ◌∷◌}
+use Rattle.std.proofs.Common.{◌≡◌, ◌≢◌, ◌↔◌, ℕ, ◌+◌, ◌-◌, ◌^◌, ◌<◌, ◌≤◌, false, true, IsTrue, List, [], ◌∷◌}
 use Rattle.std.proofs.Common.{Option, None, Some, refl, sym, ◌∙◌, ap, subst, inl, inr, arith}
 use Rattle.roam_edge.specs.Fault.{Rose, next_count}
 use Rattle.roam_edge.specs.Shelf.{NamedFile}
@@ -10,7 +10,7 @@ use Rattle.run_laws.specs.declared.status.Status.TheVariants.{ReadFault, WriteFa
 use Rattle.word_laws.specs.Words.{Command, command_of}
 use Rattle.run_laws.specs.Act.{Act, ReportText, IsCutShort}
 use Rattle.run_laws.specs.Cause.{StatusHasCause}
-use Rattle.run_laws.specs.Outcome.{EngineEnd, Outcome, IsOutcome}
+use Rattle.run_laws.specs.Outcome.{EngineEnd, Outcome}
 use Rattle.run_laws.specs.Promise.{AreFiles, EndsRight, is_complete, may_end, CommandReadFault, CommandNoMemory}
 use Rattle.run_laws.specs.Promise.{LeavesAtReadFault, LeavesAtNoMemory}
 use Rattle.run_laws.specs.CutShort.{CutTextsStand, WriteFaultsStand}

@@ -1,6 +1,6 @@
 -- What a run does to the outside: a list of acts, each a whole mesh or a text at the end of the report.
 -- This project's own words.
--- Words: Act, meshes_of, report_of, Told, told, sinks_tell, report_tells, Stands, StandsInPart, IsCutShort.
+-- Words: Act, meshes_of, report_of, Told, sinks_tell, Stands, StandsInPart, IsCutShort.
 use Rattle.std.specs.Prelude.{◌≡◌, ℕ, true, List, [], ◌∷◌, ◌++◌, Option, Some}
 use Rattle.roam_edge.specs.MeshSink.{WrittenMesh}
 use Rattle.roam_edge.specs.Told.{IsPrefix}
@@ -33,10 +33,6 @@ pub record Told : Type 0 where
   pub mesh_faults : ℕ
   pub report_faults : ℕ
 
-abbrev pub told : Option (List WrittenMesh) → Option (List ℕ) → ℕ → ℕ → Told
-told all_meshes all_bytes meshes_failed report_failed =
-    record { meshes = all_meshes; report = all_bytes; mesh_faults = meshes_failed; report_faults = report_failed }
-
 -- what a sink of meshes and a report tell
 abbrev pub sinks_tell : {M R : Type 0} → showing.Ghosts M → reporting.Ghosts R → M → R → Told
 sinks_tell m r shown written = record {
@@ -45,10 +41,6 @@ sinks_tell m r shown written = record {
   mesh_faults = m.faults shown;
   report_faults = r.faults written;
 }
-
--- what a report tells, beside any meshes that have failed so often
-abbrev pub report_tells : {R : Type 0} → reporting.Ghosts R → Option (List WrittenMesh) → ℕ → R → Told
-report_tells r meshes count report = told meshes (r.contents report) count (r.faults report)
 
 -- These acts were added to meshes and report, in order in each of the two, and nothing else; and neither has failed.
 pub record Stands (before now : Told) (acts : List Act) : Type 0 where

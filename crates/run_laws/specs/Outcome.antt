@@ -24,9 +24,9 @@ use Rattle.roam_gen.specs.Generated.{made_grid, made_lines}
 use Rattle.run_laws.specs.declared.status.Status.{Status}
 use Rattle.run_laws.specs.declared.status.Status.TheVariants.{Done, Usage, GridRefused, ScriptRefused, Rejected}
 use Rattle.run_laws.specs.Walk.{Refusal, Walk, start_walk, walk_along, walk_of}
-use Rattle.word_laws.specs.Words.{Meshes, Measures, Sums, Show, as_sums, is_of_engine, Scripted, Making, Checking}
-use Rattle.word_laws.specs.Words.{Fitting, Job, Frames, Facts, Make, Check, Fit, FitMaking, FitChecking, MakeFit}
-use Rattle.word_laws.specs.Words.{CheckFit, Command, OnGrid, Generated, command_of}
+use Rattle.word_laws.specs.Words.{Meshes, Measures, Sums, Show, as_sums, is_of_engine, Scripted, Checking}
+use Rattle.word_laws.specs.Words.{Fitting, Job, Frames, Facts, Make, Check, Fit, FitChecking, MakeFit}
+use Rattle.word_laws.specs.Words.{CheckFit, Command, OnGrid, Generated}
 use Rattle.run_laws.specs.CertFile.{cert_in, fit_cert_in}
 use Rattle.run_laws.specs.Certify.{checks_at, IsMade, IsFitMade, IsFirstDifference}
 use Rattle.run_laws.specs.Fit.{goal_of, IsFitted, fit_text}
