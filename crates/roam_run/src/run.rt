@@ -81,13 +81,15 @@ impl Run {
 /// - `info` reads a grid, and writes a line on it. `try` reads nothing: it makes a grid and a script from a level and a seed, and writes
 ///   a line with the sums of their frames.
 ///
-/// Files are read and meshes written in pieces, a mesh is finished before its line is written, and the first call that fails ends the
-/// run. Proved is that an object that had not failed before is not called again once a call of it has failed (`leaves`).
-/// Over objects that tell what they hold, as those in memory do, all clauses speak of the bytes. Real files tell nothing: over them
-/// `leaves`, `causes` and `untouched` hold, and of `ends` what NoMemory leaves, and a fault before the script.
+/// Files are read and meshes written in pieces. A mesh is finished before its line is written, which is proved where the write of
+/// either fails (`ends`). The first call that fails ends the run: proved is that an object that had not failed before the run is not
+/// called again once a call of it has failed (`leaves`).
+/// Where shelf and sinks tell what they hold, as those in memory do, the clauses speak of the bytes. Real files tell nothing. Over them
+/// `causes` and `untouched` hold, and of `leaves` and `ends` what they say of counts: how many files were opened, that the last one
+/// was read to its end, and which sink has failed.
+/// All memory is taken before a script is opened: a run without memory has opened none (`ends`).
 /// Cost (not proved): a few steps a byte of the files; for each frame that of `Engine::frame`, which is what has changed since the
-/// frame before, or of `Least::frame`, two passes over the grid; for every frame of `mesh` the writing of its mesh. Memory is taken
-/// for the heights and for what makes the frames, all of it before a script is opened.
+/// frame before, or of `Least::frame`, two passes over the grid; for every frame of `mesh` the writing of its mesh.
 pub fn roam<F: Shelf, M: MeshSink, R: Sink>(
     alloc: Global,
     words: &[String],
@@ -104,16 +106,14 @@ pub fn roam<F: Shelf, M: MeshSink, R: Sink>(
     // (Counts stand still at 2 ^ 64 - 1, so a rise could not be seen there. The first moment is before the run, the second after it;
     // F.Shelf is what F tells as a Shelf.)
     //
-    // The meshes: each finished one is the right one for its command, whatever the status; one that `certify check` accepts is
-    // optimal, and one that `certify check-fit` accepts the best for its error or budget; and what is told of blocking in a frame's
-    // line proves that its mesh is optimal.
+    // The meshes, where shelf and sink tell them: each finished one is the right one for its command, whatever the status; one that
+    // `certify check` accepts is optimal, and one that `certify check-fit` accepts the best for its error or budget.
     ensures best { KeepsBestMeshes (moment F.Shelf M.MeshSink R.Sink shelf.old meshes.old report.old)
         (moment F.Shelf M.MeshSink R.Sink shelf.new meshes.new report.new)
         (map string_bytes words.now) result.status }
     ensures certified { CertifiesMesh (moment F.Shelf M.MeshSink R.Sink shelf.old meshes.old report.old)
         (moment F.Shelf M.MeshSink R.Sink shelf.new meshes.new report.new)
         (map string_bytes words.now) result.status }
-    ensures certificate { TellsCertificates (map string_bytes words.now) }
 
     // What stands after each status, and how the outside and the engine are left.
     ensures ends { EndsByStatus (moment F.Shelf M.MeshSink R.Sink shelf.old meshes.old report.old)
@@ -123,7 +123,9 @@ pub fn roam<F: Shelf, M: MeshSink, R: Sink>(
         (moment F.Shelf M.MeshSink R.Sink shelf.new meshes.new report.new)
         (command_of (map string_bytes words.now)) result.status (option_map engine_seen result.engine) }
 
-    // What words and files determine: laws, which say nothing of this run, and by which `ends` does.
+    // What words and files determine. These are laws of outcomes and not of this run, which has one by `ends`: there is one, and but
+    // for certificates one alone; where what is read is accepted its status is Done; and what the line of an engine's frame tells of
+    // blocking is a certificate that its mesh is optimal.
     ensures some_outcome { (files : List NamedFile) →
         (end : Outcome) × IsOutcome (command_of (map string_bytes words.now)) files end }
     ensures one_outcome { (files : List NamedFile) (end other : Outcome) →
@@ -133,6 +135,7 @@ pub fn roam<F: Shelf, M: MeshSink, R: Sink>(
     ensures accepted { (files : List NamedFile) (end : Outcome) →
         IsAccepted (command_of (map string_bytes words.now)) files →
         IsOutcome (command_of (map string_bytes words.now)) files end → end.status ≡ Status.Done }
+    ensures certificate { TellsCertificates (map string_bytes words.now) }
 
     // The causes.
     ensures causes { IsCaused (moment F.Shelf M.MeshSink R.Sink shelf.old meshes.old report.old)

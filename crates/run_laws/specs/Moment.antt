@@ -42,7 +42,7 @@ pub record OnlyReads (before now : Moment) : Type 0 where
   pub mesh_late : now.mesh_late ≡ before.mesh_late
   pub report_late : now.report_late ≡ before.report_late
 
--- the sink of meshes was not called
+-- the sink of meshes tells what it told: its meshes, its faults, and whether one is under way
 pub record SameMeshes (before now : Moment) : Type 0 where
   pub meshes : now.sinks.meshes ≡ before.sinks.meshes
   pub faults : now.sinks.mesh_faults ≡ before.sinks.mesh_faults
@@ -61,7 +61,7 @@ pub record OnlyWrites {T E : Type 0} (before now : Moment) (answer : Result T E)
   pub meshes_in_time : IsInTime before.mesh_late before.sinks.mesh_faults now.mesh_late
   pub report_in_time : IsInTime before.report_late before.sinks.report_faults now.report_late
 
--- These acts were done, or cut short where the call fails. The sink of meshes is called only for a mesh.
+-- These acts were done, or cut short where the call fails. Where none is a mesh the sink of meshes is as it was.
 pub record Does {T E : Type 0} (before now : Moment) (acts : List Act) (answer : Result T E) : Type 0 where
   pub only : OnlyWrites before now answer
   pub done : OnOk answer (Stands before.sinks now.sinks acts)

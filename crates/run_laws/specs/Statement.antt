@@ -2,8 +2,8 @@
 -- (`now`), of the words of its command line or of the command that they are, of its status, and of the engine that it
 -- leaves. This project's own.
 -- Three words from elsewhere: `Grows old new more` says that what was told before is told with just `more` at its end,
--- and nothing of what is not told; `IsInTime` that what had not failed before was not called again once a call of it
--- had failed; and a count of faults is how often an object has failed, from its beginning on.
+-- and nothing of what is not told; `IsInTime` that an object which had not failed, and so was not called after a failure,
+-- is not called after one now; and a count of faults is how often an object has failed, from its beginning on.
 -- Words: KeepsBestMeshes, CertifiesMesh, TellsCertificates, DoesAll, IsCutOff, EndsByStatus, LeavesOutside, IsCaused.
 use Rattle.std.specs.Prelude.{◌≡◌, ◌≢◌, ◌⊎◌, ◌↔◌, ℕ, ◌+◌, ◌<◌, ◌≤◌, false, IsTrue, IsSome, is_some, List, All, Option}
 use Rattle.std.specs.Prelude.{Some, None}
@@ -78,7 +78,8 @@ pub record IsCutOff (before now : Moment) (command : Option Command) (files : Li
 
 -- With Done, Usage, the two refusals and Rejected all of an outcome was done, and with WriteFault it was cut off: where
 -- the shelf tells its files, or no file is named. With ReadFault what the run had done by then stands (at a script,
--- where the shelf tells its files), and with NoMemory nothing was written.
+-- where the shelf tells its files), and with NoMemory nothing was written. (Where a sink tells nothing, of all this only
+-- its count of faults is left.)
 pub record EndsByStatus (before now : Moment) (command : Option Command) (status : Status)
     (left : Option EngineEnd) : Type 0 where
   pub complete : IsTrue (is_complete status) → (files : List NamedFile)
@@ -93,10 +94,10 @@ pub record EndsByStatus (before now : Moment) (command : Option Command) (status
       × CommandNoMemory before.sinks now.sinks before.shelf now.shelf one
 
 -- How the outside and the engine are left, also where nothing is told. The shelf's files are as before. No mesh is
--- under way, except perhaps after WriteFault, and words that ask for no mesh leave the sink of meshes alone. Files were
--- opened as often as the status allows, and with Done the last one was read to its end. An engine is left with Done and
--- ScriptRefused where one makes the frames. Of shelf, meshes and report, each that had not failed before the run was
--- not called again once a call of it had failed.
+-- under way, except perhaps after WriteFault; and words that ask for neither frames nor a mesh leave the sink of meshes
+-- as it was, as far as it tells. So many files were opened as `OpensForStatus` has for the status, and with Done the
+-- last one was read to its end. An engine is left with Done and ScriptRefused where one makes the frames. Of shelf,
+-- meshes and report, each that had not failed before the run was not called again once a call of it had failed.
 pub record LeavesOutside (before now : Moment) (command : Option Command) (status : Status)
     (left : Option EngineEnd) : Type 0 where
   pub files : now.shelf.files ≡ before.shelf.files
@@ -112,7 +113,7 @@ pub record LeavesOutside (before now : Moment) (command : Option Command) (statu
 
 -- The causes.
 
--- The command allows the status, and it is Usage exactly where there is none. It is ReadFault exactly where the shelf's
+-- The command may end so (`may_end`), and the status is Usage exactly where there is no command. It is ReadFault exactly where the shelf's
 -- count of faults rose, and WriteFault exactly where that of the meshes or of the report rose. No count falls.
 pub record IsCaused (before now : Moment) (command : Option Command) (status : Status) : Type 0 where
   pub allowed : IsTrue (may_end command status)

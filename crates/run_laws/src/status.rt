@@ -6,10 +6,11 @@ ghost use Rattle.run_laws.specs.Status.{exit_status};
 /// How a run ended. Its number is the exit status of the program.
 #[derive(Clone, Copy, Debug, PartialEq, Eq)]
 pub enum Status {
-    /// The command was carried out, and its script, where it has one, was read to its end.
+    /// The command was carried out, and the last of its files, if it has any, was read to its end.
     Done = 0,
     /// Out of memory. Nothing was written, and no script was opened. The words are a command, and where they name a grid, its header
-    /// was read and accepted. A check may also end so at its later files. Nothing else is said against this answer.
+    /// was read and accepted. A check may also end so at its later files. A program that always ends so behind the header of the
+    /// grid is not ruled out: how much memory there is no clause can know.
     NoMemory = 1,
     /// The words are no command. Nothing was opened or written.
     Usage = 2,
