@@ -61,9 +61,11 @@ value_of-above_near p box x y z within =
       above_near p.c z box.z0 box.z1 within.z_low within.z_high,
     )
 
+-- a value that is at most one below 0 is below 0 too
 pub lower_is_outside : (v w : ℤ) → v ≤ℤ w → int_lt w (pos 0) ≡ true → int_lt v (pos 0) ≡ true
 lower_is_outside v w le e = grind (arith, ints)
 
+-- a value that is at least one not below 0 is not below 0 either
 pub higher_is_not : (v w : ℤ) → v ≤ℤ w → int_lt v (pos 0) ≡ false → int_lt w (pos 0) ≡ false
 higher_is_not v w le e = grind (arith, ints)
 

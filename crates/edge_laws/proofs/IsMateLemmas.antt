@@ -85,11 +85,13 @@ mate_at-pair (suc (suc level)) e at some =
       | inr (inr (inr h)) ↦ let g = step.last h in (omega arith, inl (inner_3 (e % 4) h, omega arith))
     ]
 
+-- where mate_of e is not 0, it is the mate of e by their corners
 pub IsMate-mate_of : (n e : ℕ) → 2 ≤ e → level_of e ≤ 2 * n → 1 ≤ mate_of e → IsMate n e (mate_of e)
 unfolding mate_of
 IsMate-mate_of n e low fits some =
     IsMate-pair n e (mate_of e) low fits (mate_at-pair (level_of e) e (IsAtLevel-level_of e low) some)
 
+-- and each triangle that is the mate of e by their corners is mate_of e
 pub mate_of-IsMate : (n e f : ℕ) → 2 ≤ e → level_of e ≤ 2 * n → IsMate n e f → mate_of e ≡ f
 unfolding mate_of
 mate_of-IsMate n e f low fits mate =

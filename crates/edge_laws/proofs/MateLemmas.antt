@@ -7,14 +7,17 @@ use Rattle.edge_laws.specs.Edge.{grandchild_mate, mate_of}
 
 -- ---- the laws by which the pool knows `mate_of`
 
+-- the two base triangles, 2 and 3, are each other's mates
 pub mate_of-root : (e : ℕ) → 2 ≤ e → e < 4 → mate_of e ≡ 5 - e
 unfolding mate_of
 mate_of-root e low high = rw (level_of-root e low high) refl
 
+-- the triangles of level 1 have no mate
 pub mate_of-first : (e : ℕ) → 4 ≤ e → e < 8 → mate_of e ≡ 0
 unfolding mate_of
 mate_of-first e low high = rw (level_of-first e low high) refl
 
+-- from level 2 on the mate is told by the remainder by 4 and the mate of the grandparent
 pub mate_of-deep : (e : ℕ) → 8 ≤ e → mate_of e ≡ grandchild_mate (e % 4) e (mate_of (e / 4))
 unfolding mate_of
 mate_of-deep e low = rw (level_of-deep e low) refl
@@ -28,6 +31,7 @@ pub record IsStep (e f above : ℕ) : Type 0 where
   pub third : e % 4 ≡ 2 → 1 ≤ above → f ≡ 4 * above + 1
   pub last : e % 4 ≡ 3 → f + 3 ≡ e
 
+-- grandchild_mate, by the remainder of e by 4, is such a step
 pub IsStep-grandchild : (r e above : ℕ) → r ≡ e % 4 → IsStep e (grandchild_mate r e above) above
 IsStep-grandchild zero e above is = record {
   first = λ h. refl;
@@ -78,6 +82,7 @@ IsStep-grandchild (suc (suc (suc _))) e above is = record {
   last = λ h. omega arith;
 }
 
+-- from level 2 on the mate is such a step from that of the grandparent
 pub IsStep-mate_of : (e : ℕ) → 8 ≤ e → IsStep e (mate_of e) (mate_of (e / 4))
 IsStep-mate_of e low = rw (mate_of-deep e low) (IsStep-grandchild (e % 4) e (mate_of (e / 4)) refl)
 
@@ -118,6 +123,7 @@ matched_outer e f low deep above sum step outer =
       level = same_quarter_level e f low deep above.level;
     }
 
+-- a number divided by 4 leaves 0, 1, 2 or 3
 pub four_cases : (e : ℕ) → (e % 4 ≡ 0) ⊎ ((e % 4 ≡ 1) ⊎ ((e % 4 ≡ 2) ⊎ (e % 4 ≡ 3)))
 four_cases e = elim (cases_eq (e % 4) 0) [
   | inl h ↦ inl h
@@ -167,12 +173,15 @@ matched e low = matched_by e e (omega arith) low
 
 -- ---- laws that callers use
 
+-- the mate of a triangle's mate is the triangle
 pub mate_of-back : (e : ℕ) → 2 ≤ e → 1 ≤ mate_of e → mate_of (mate_of e) ≡ e
 mate_of-back e low some = ⊎_elim (λ none. absurd (omega arith)) (λ m. m.back) (matched e low)
 
+-- the address of a mate is at least 2, as that of each triangle
 pub mate_of-low : (e : ℕ) → 2 ≤ e → 1 ≤ mate_of e → 2 ≤ mate_of e
 mate_of-low e low some = ⊎_elim (λ none. absurd (omega arith)) (λ m. m.low) (matched e low)
 
+-- a mate has the level of its triangle
 pub mate_of-level : (e : ℕ) → 2 ≤ e → 1 ≤ mate_of e → level_of (mate_of e) ≡ level_of e
 mate_of-level e low some = ⊎_elim (λ none. absurd (omega arith)) (λ m. m.level) (matched e low)
 
@@ -207,10 +216,12 @@ mate_of-parity e low some = ⊎_elim (λ root. let f = mate_of-root e low root i
 pub mate_of-0 : (a : ℕ) → 2 ≤ a → mate_of (4 * a) ≡ 4 * a + 3
 mate_of-0 a low = let s = IsStep-mate_of (4 * a) (omega arith) in s.first (omega arith)
 
+-- the right child of the right child has the left child of the left child as its mate
 pub mate_of-3 : (a : ℕ) → 2 ≤ a → mate_of (4 * a + 3) ≡ 4 * a
 mate_of-3 a low = let s = IsStep-mate_of (4 * a + 3) (omega arith) in
     let l = s.last (omega arith) in omega arith
 
+-- the left child's right child has as its mate the left child of the mate's right child, or none where a has none
 pub mate_of-1 : (a : ℕ) → 2 ≤ a →
     (mate_of a ≡ 0 → mate_of (4 * a + 1) ≡ 0) × (1 ≤ mate_of a → mate_of (4 * a + 1) ≡ 4 * mate_of a + 2)
 mate_of-1 a low =
@@ -218,6 +229,7 @@ mate_of-1 a low =
     let s : IsStep (4 * a + 1) (mate_of (4 * a + 1)) (mate_of a) = rw q at (IsStep-mate_of (4 * a + 1) (omega arith)) in
     (s.second_none (omega arith), s.second (omega arith))
 
+-- the right child's left child has as its mate the right child of the mate's left child, or none where a has none
 pub mate_of-2 : (a : ℕ) → 2 ≤ a →
     (mate_of a ≡ 0 → mate_of (4 * a + 2) ≡ 0) × (1 ≤ mate_of a → mate_of (4 * a + 2) ≡ 4 * mate_of a + 1)
 mate_of-2 a low =
@@ -225,6 +237,7 @@ mate_of-2 a low =
     let s : IsStep (4 * a + 2) (mate_of (4 * a + 2)) (mate_of a) = rw q at (IsStep-mate_of (4 * a + 2) (omega arith)) in
     (s.third_none (omega arith), s.third (omega arith))
 
+-- no triangle is its own mate
 pub mate_of-other : (e : ℕ) → 2 ≤ e → 1 ≤ mate_of e → mate_of e ≢ e
 mate_of-other e low some = ⊎_elim (λ none. absurd (omega arith)) (λ m. m.other) (matched e low)
 

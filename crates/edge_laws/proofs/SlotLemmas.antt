@@ -43,9 +43,11 @@ pair_of pairs p h =
     let found = place_from_any (λ t. nat_eq t p) pairs (and_parts (nat_lt 0 p) (among pairs p) h).1 in
     (found.0, found.1, eqb-true (get_or pairs found.0 0) p found.2)
 
+-- an address that has children is at least 1
 pub has_children_low : (pairs : List ℕ) (p : ℕ) → has_children pairs p ≡ true → 1 ≤ p
 has_children_low pairs p h = let x = ltb-true 0 p (and_parts (nat_lt 0 p) (among pairs p) h).0 in omega arith
 
+-- an address of at least 1 that stands among the pairs has children
 pub has_children_by : (pairs : List ℕ) (i p : ℕ) → 1 ≤ p → get_or pairs i 0 ≡ p → has_children pairs p ≡ true
 has_children_by pairs i p low is =
     and_from (nat_lt 0 p) (among pairs p) (lt-ltb 0 p (omega arith))
@@ -57,6 +59,7 @@ has_children_by pairs i p low is =
 pub has_children-added : (pairs : List ℕ) (k a : ℕ) → k < length pairs → 1 ≤ a → has_children (set pairs k a) a ≡ true
 has_children-added pairs k a within low = has_children_by (set pairs k a) k a low (get_or-set_same pairs k a 0 within)
 
+-- when a free pair is given to a, every other address has children exactly if it had them
 pub has_children-kept : (pairs : List ℕ) (k a p : ℕ) → k < length pairs → get_or pairs k 0 ≡ 0 → p ≢ a →
     has_children (set pairs k a) p ≡ has_children pairs p
 has_children-kept pairs k a p within free other = same_tests (has_children (set pairs k a) p) (has_children pairs p)
@@ -84,6 +87,7 @@ has_children-removed pairs k a within is low once = ⊎_elim
       | inr apart ↦ apart (once found.0 (sym (get_or-set_other pairs k found.0 0 0 apart) ∙ found.2))
     ])) (λ no. no) (cases_Bool (has_children (set pairs k 0) a))
 
+-- when the pair of a is freed, every other address has children exactly if it had them
 pub has_children-left : (pairs : List ℕ) (k a p : ℕ) → k < length pairs → get_or pairs k 0 ≡ a → p ≢ a →
     has_children (set pairs k 0) p ≡ has_children pairs p
 has_children-left pairs k a p within is other = same_tests (has_children (set pairs k 0) p) (has_children pairs p)
@@ -310,6 +314,7 @@ among-members pairs p =
 pub counted_cons : (p : ℕ → Bool) (x : ℕ) (xs : List ℕ) → count_by p (x ∷ xs) ≡ cond (p x) 1 0 + count_by p xs
 counted_cons p x xs = sum_by-cons (λ t. cond (p t) 1 0) x xs
 
+-- where no entry passes a test, none is counted
 pub none_counted : (p : ℕ → Bool) (xs : List ℕ) → list_any p xs ≡ false → count_by p xs ≡ 0
 none_counted p [] h = refl
 none_counted p (x ∷ xs) h = elim (cases_Bool (p x)) [
@@ -355,6 +360,7 @@ once_counted n pairs a pool is_split =
     none_counted (λ t. nat_eq t a) (set pairs k 0) none in
     omega arith
 
+-- each member of a pool's set stands once in the list of members
 pub members_once : (n : ℕ) (pairs : List ℕ) (a : ℕ) → IsPool n pairs → among (members_of pairs) a ≡ true →
     count_by (λ t. nat_eq t a) (members_of pairs) ≡ 1
 members_once n pairs a pool member =

@@ -121,6 +121,7 @@ in-pair (suc (suc level)) a b at i =
 abbrev pub diamond_at : ℕ → List ℕ
 diamond_at a = a ∷ mates_at (level_of a) a
 
+-- each triangle of the diamond of a stands in the list
 pub diamond-in : (n a b : ℕ) → IsAddress n a → IsInDiamond n a b → IsIn b (diamond_at a)
 diamond-in n a b address (inl same) = inl (sym same)
 diamond-in n a b address (inr mate) =
@@ -145,6 +146,7 @@ fits n xs a =
 abbrev pub is_grid_set : ℕ → List ℕ → Bool
 is_grid_set n xs = (nat_le 1 n && nat_le n 11) && (rises xs && list_all (fits n xs) xs)
 
+-- a list that passes the test is a closed set of the grid
 pub grid_set : (n : ℕ) (xs : List ℕ) → is_grid_set n xs ≡ true → IsGridSet n xs
 grid_set n xs h =
     let both = and_parts (nat_le 1 n && nat_le n 11) (rises xs && list_all (fits n xs) xs) h in
@@ -187,9 +189,11 @@ grid_set n xs h =
 
 -- the order of rank
 
+-- a ranks before b: by a greater priority, or by a lesser address where the priorities are the same
 abbrev pub is_before : (ℕ → ℕ) → ℕ → ℕ → Bool
 is_before priority a b = nat_lt (priority b) (priority a) || (nat_eq (priority a) (priority b) && nat_lt a b)
 
+-- what passes the test ranks before
 pub before-is : (priority : ℕ → ℕ) (a b : ℕ) → is_before priority a b ≡ true → RanksBefore priority a b
 before-is priority a b h = ⊎_elim
     (λ more. inl (ltb-true (priority b) (priority a) more))
@@ -212,11 +216,13 @@ is-before priority a b (inr tie) =
 abbrev is_childless : List ℕ → ℕ → Bool
 is_childless members a = not (among members (2 * a)) && not (among members (2 * a + 1))
 
+-- a is a member, no triangle of its diamond has a child among the members, and a ranks before its mate
 abbrev pub is_lead : (ℕ → ℕ) → List ℕ → ℕ → Bool
 is_lead priority members a =
     among members a && (list_all (is_childless members) (diamond_at a) && list_all
     (λ b. nat_eq b a || is_before priority a b) (diamond_at a))
 
+-- a triangle that passes the test leads its diamond
 pub lead-is : (n : ℕ) (priority : ℕ → ℕ) (members : List ℕ) (a : ℕ) → IsAddress n a →
     is_lead priority members a ≡ true → IsLead n priority (among members) a
 lead-is n priority members a address h =
@@ -240,6 +246,7 @@ lead-is n priority members a address h =
           (diamond-in n a b address (inr mate))));
     }
 
+-- and a triangle that leads its diamond passes the test
 pub is-lead : (n : ℕ) (priority : ℕ → ℕ) (members : List ℕ) (a : ℕ) → IsAddress n a →
     IsLead n priority (among members) a → is_lead priority members a ≡ true
 is-lead n priority members a address lead =
@@ -274,10 +281,12 @@ each_lead-is n priority members p closed h a lead =
     (or_cases (not (is_lead priority members a)) (p a)
     (every-in (λ b. not (is_lead priority members b) || p b) members h a (IsIn-among a members member)))
 
+-- d leads its diamond, and each other lead ranks before d
 abbrev pub is_last_lead : (ℕ → ℕ) → List ℕ → ℕ → Bool
 is_last_lead priority members d =
     is_lead priority members d && each_lead priority members (λ a. nat_eq a d || is_before priority a d)
 
+-- a triangle that passes the test leads the last diamond in rank
 pub last_lead : (n : ℕ) (priority : ℕ → ℕ) (members : List ℕ) (d : ℕ) → IsClosed n (among members) →
     is_last_lead priority members d ≡ true →
     IsLastLead n priority (among members) d
@@ -311,12 +320,14 @@ leads_positive n priority members closed h d lead =
 
 -- leaves
 
+-- f is a leaf of positive priority, and ranks before each other leaf of positive priority
 abbrev pub is_first_leaf : ℕ → (ℕ → ℕ) → List ℕ → ℕ → Bool
 is_first_leaf n priority members f =
     among (leaves_of n (among members)) f && (nat_lt 0 (priority f)
     && list_all (λ a. nat_eq a f || (not (nat_lt 0 (priority a)) || is_before priority f a))
     (leaves_of n (among members)))
 
+-- a triangle that passes the test is the first leaf in rank
 pub first_leaf : (n : ℕ) (priority : ℕ → ℕ) (members : List ℕ) (f : ℕ) → is_first_leaf n priority members f ≡ true →
     IsFirstLeaf n priority (among members) f
 first_leaf n priority members f h =
@@ -345,6 +356,7 @@ pub same_at_each : (f g : ℕ → ℕ) (xs : List ℕ) → list_all (λ a. nat_e
 same_at_each f g xs h =
     All-in (λ a. f a ≡ g a) xs (λ a i. eqb-true (f a) (g a) (every-in (λ a. nat_eq (f a) (g a)) xs h a i))
 
+-- a list of leaves that passes the test at each entry has priority 0 throughout
 pub zero_leaves : (priority : ℕ → ℕ) (leaves : List ℕ) → list_all (λ a. nat_eq (priority a) 0) leaves ≡ true →
     All (λ a. priority a ≡ 0) leaves
 zero_leaves priority leaves h = same_at_each priority (λ a. 0) leaves h
@@ -382,11 +394,13 @@ linked-held n other known (x ∷ xs) shut held h a i =
     r.1 a rest)
     i
 
+-- after is a closed set with before and t, and else only links, each a parent or mate of t or of an earlier one
 abbrev pub is_forced : ℕ → List ℕ → ℕ → List ℕ → List ℕ → Bool
 is_forced n before t links after =
     (is_grid_set n after && list_all (among after) (t ∷ before))
     && (list_all (λ a. among (t ∷ before) a || among links a) after && are_linked (t ∷ []) links)
 
+-- a set that passes the test is what a split of t forces
 pub forced : (n : ℕ) (before : List ℕ) (t : ℕ) (links after : List ℕ) → is_forced n before t links after ≡ true →
     IsForced n before t after
 forced n before t links after h =
@@ -421,9 +435,11 @@ forced n before t links after h =
 
 -- merges
 
+-- the entries that are not in the diamond of d
 abbrev pub without : ℕ → List ℕ → List ℕ
 without d before = filter (λ b. not (among (diamond_at d) b)) before
 
+-- they are the set from which the diamond of d was merged
 pub without_is : (n : ℕ) (before : List ℕ) (d : ℕ) → IsAscending before → IsAddress n d →
     IsWithoutDiamond n before d (without d before)
 without_is n before d ascending address = record {
@@ -442,9 +458,11 @@ without_is n before d ascending address = record {
 
 -- loose members
 
+-- the members whose diamond has no entry of chosen
 abbrev pub loose_of_list : List ℕ → List ℕ → List ℕ
 loose_of_list chosen members = filter (λ a. not (list_any (among chosen) (diamond_at a))) members
 
+-- they are the members whose diamond holds no chosen triangle
 pub loose_is : (n : ℕ) (ranking : List ℕ) (chosen : ℕ) (members : List ℕ) → IsGridSet n members →
     AreLoose n ranking chosen members (loose_of_list (take chosen ranking) members)
 loose_is n ranking chosen members set = record {

@@ -44,6 +44,7 @@ module _ (n budget : ℕ) (priority : ℕ → ℕ) (start last : List ℕ) (adde
   pub frame_set : IsGridSet n last
   frame_set = run_set n budget priority start last added removed set frame.run
 
+  -- the number of members changes by those added less those removed
   pub frame_size : length start + added ≡ length last + removed
   frame_size = run_size n budget priority start last added removed set frame.run
 
@@ -60,6 +61,7 @@ module _ (n budget : ℕ) (priority : ℕ → ℕ) (start last : List ℕ) (adde
       (run_inside n budget priority (ranking_of n priority) aim.0 (among last)
       (IsRanking-of n priority) falling aim.1 start last added removed set sub frame.run).1
 
+  -- a frame that ends within its start adds nothing
   pub frame_no_split : IsFalling n priority → IsSubset (among last) (among start) → added ≡ 0
   frame_no_split falling sub =
       let aim = frame_closure (ranking_of n priority) (IsRanking-of n priority) falling in
@@ -92,10 +94,12 @@ module _ (n budget : ℕ) (priority : ℕ → ℕ) (start last : List ℕ) (adde
 module _ (n budget : ℕ) (priority : ℕ → ℕ) (ranking : List ℕ) (chosen : ℕ) (best : ℕ → Bool) (before after : List ℕ)
     (ranked : IsRanking n priority ranking) (falling : IsFalling n priority)
     (closure : IsRankClosure n budget ranking chosen best) (set : IsGridSet n before) where
+  -- a merged diamond holds no chosen triangle
   pub merge_spares : (step : IsMergeStep n budget priority before after) → HoldsChosen n ranking chosen step.diamond → ⊥
   merge_spares step = merge_spares_chosen n budget priority ranking chosen best ranked falling closure before after
       set.ascending set.closed step
 
+  -- the leaf that is split is a chosen triangle
   pub split_chosen : (step : IsSplitStep n budget priority before after) →
       IsTrue (among (take chosen ranking) step.leaf)
   split_chosen step =

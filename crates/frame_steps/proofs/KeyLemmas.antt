@@ -26,18 +26,22 @@ IsAddress-leaf n members a h =
 module _ (w : DeferredFrame) (is : IsDeferredFrame w) where
   -- keys
 
+  -- the split queue's key is the priority where that is known
   pub upper_key-known : (known : ℕ → Bool) (a : ℕ) → known a ≡ true → upper_key w known a ≡ w.priority a
   unfolding upper_key
   upper_key-known known a is_known = cond-true (known a) (w.priority a) (w.upper a) is_known
 
+  -- and else the upper bound
   pub upper_key-unknown : (known : ℕ → Bool) (a : ℕ) → known a ≡ false → upper_key w known a ≡ w.upper a
   unfolding upper_key
   upper_key-unknown known a not_known = cond-false (known a) (w.priority a) (w.upper a) not_known
 
+  -- the merge queue's key is the priority where that is known
   pub lower_key-known : (known : ℕ → Bool) (a : ℕ) → known a ≡ true → lower_key w known a ≡ w.priority a
   unfolding lower_key
   lower_key-known known a is_known = cond-true (known a) (w.priority a) (w.lower a) is_known
 
+  -- and else the lower bound
   pub lower_key-unknown : (known : ℕ → Bool) (a : ℕ) → known a ≡ false → lower_key w known a ≡ w.lower a
   unfolding lower_key
   lower_key-unknown known a not_known = cond-false (known a) (w.priority a) (w.lower a) not_known

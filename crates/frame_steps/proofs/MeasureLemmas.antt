@@ -33,6 +33,7 @@ closure_of_chosen n budget priority low =
     )
 
 module _ (n budget : ℕ) (priority : ℕ → ℕ) (falling : IsFalling n priority) (low : 2 ≤ budget) where
+  -- a split step lowers the number that bounds the steps left
   pub split_steps_left : (before after : List ℕ) → IsGridSet n before → IsSplitStep n budget priority before after →
       steps_left n budget priority after < steps_left n budget priority before
   unfolding steps_left
@@ -43,6 +44,7 @@ module _ (n budget : ℕ) (priority : ℕ → ℕ) (falling : IsFalling n priori
       let short = length-members n after (split_set n budget priority before after set step) in
       omega arith
 
+  -- and so does a merge step
   pub merge_steps_left : (before after : List ℕ) → IsGridSet n before → IsMergeStep n budget priority before after →
       steps_left n budget priority after < steps_left n budget priority before
   unfolding steps_left

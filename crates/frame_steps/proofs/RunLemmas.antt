@@ -22,6 +22,7 @@ use Rattle.frame_steps.proofs.ChosenLemmas.{split_adds}
 module _ (n budget : ℕ) (priority : ℕ → ℕ) where
   -- what a step keeps
 
+  -- a split step goes from a closed set to a closed set
   pub split_set : (before after : List ℕ) → IsGridSet n before →
       IsSplitStep n budget priority before after → IsGridSet n after
   split_set before after set step =
@@ -32,6 +33,7 @@ module _ (n budget : ℕ) (priority : ℕ → ℕ) where
         closed = step.forced.least.closed;
       }
 
+  -- and so does a merge step
   pub merge_set : (before after : List ℕ) → IsGridSet n before →
       IsMergeStep n budget priority before after → IsGridSet n after
   merge_set before after set step = record {
@@ -62,11 +64,13 @@ module _ (n budget : ℕ) (priority : ℕ → ℕ) where
       IsSubset (among after) (among before)
   merge_keeps before after step a h = ((step.merged.members a).0 h).0
 
+  -- a split step leaves no fewer members
   pub split_longer : (before after : List ℕ) → IsGridSet n before → IsSplitStep n budget priority before after →
       length before ≤ length after
   split_longer before after set step =
       length-subset before after set.ascending step.forced.ascending (split_keeps before after step)
 
+  -- a merge step leaves fewer members
   pub merge_shorter : (before after : List ℕ) → IsGridSet n before → IsMergeStep n budget priority before after →
       length after < length before
   merge_shorter before after set step =

@@ -20,10 +20,12 @@ module _ (n : ℕ) (priority : ℕ → ℕ) where
       (cases_eq d e)
 
 module _ (n budget : ℕ) (priority : ℕ → ℕ) where
+  -- all split steps from a set lead to one set
   pub one_split : (s t u : List ℕ) → IsSplitStep n budget priority s t → IsSplitStep n budget priority s u → t ≡ u
   one_split s t u h k =
       one_forced n s h.leaf k.leaf t u (one_first n priority (among s) h.leaf k.leaf h.first k.first) h.forced k.forced
 
+  -- and so do all merge steps
   pub one_merge : (s t u : List ℕ) → IsMergeStep n budget priority s t → IsMergeStep n budget priority s u → t ≡ u
   one_merge s t u h k = one_without_diamond n s h.diamond k.diamond t u
       (one_last n priority (among s) h.diamond k.diamond h.last k.last) h.merged k.merged
@@ -50,6 +52,7 @@ module _ (n budget : ℕ) (priority : ℕ → ℕ) where
   split_not_finished s t h (blocked f within no_room leads) = fits_or_not s t f h no_room
   split_not_finished s t h (all_split within zeros leads) = first_not_zero n priority (among s) h.leaf h.first zeros
 
+  -- nor is one that has a merge step
   pub merge_not_finished : (s t : List ℕ) → IsMergeStep n budget priority s t → IsFinished n budget priority s → ⊥
   merge_not_finished s t k finished = by_case k.must finished
     where

@@ -21,12 +21,14 @@ pub grows-append : {A : Type 0} (before middle now : Option (List A)) (first sec
 grows-append before middle now first second one two all is =
     two (all ++ first) (one all is) ∙ ap Some (append_assoc all first second)
 
+-- acts and then more acts add the meshes of the first and then those of the second
 pub meshes_of-append : (first second : List Act) → meshes_of (first ++ second) ≡ meshes_of first ++ meshes_of second
 meshes_of-append [] second = refl
 meshes_of-append (WholeMesh prefix number bytes ∷ first) second =
     ap (λ m. mesh_with prefix number bytes true ∷ m) (meshes_of-append first second)
 meshes_of-append (ReportText bytes ∷ first) second = meshes_of-append first second
 
+-- and so it is with the bytes of the report
 pub report_of-append : (first second : List Act) → report_of (first ++ second) ≡ report_of first ++ report_of second
 report_of-append [] second = refl
 report_of-append (WholeMesh prefix number bytes ∷ first) second = report_of-append first second

@@ -172,6 +172,7 @@ module _ (falling : (n : ℕ) (heights : List ℕ) (view : View) → IsFalling n
       line-stands e.0 stands.0 (check-certifies falling c grid (bytes_of files c.mesh) e.0 (sym stands.1 ∙ done)
       (cert_in grid.n (bytes_of files c.certificate)) (check-outcome e.0 e.1))
 
+  -- where a check is done, the report got one line, by which its mesh is certified
   pub mesh-certified : (status : Status) → EndsRight before now old new words files status → status ≡ Done
       → (line : List ℕ) × Grows before.report now.report line × IsCertifiedMesh c grid (bytes_of files c.mesh) line
   mesh-certified status ends done =

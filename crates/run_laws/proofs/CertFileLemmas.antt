@@ -69,6 +69,7 @@ pub record IsFormat {S C : Type 0} (step : S → List ℕ → Option S) (start :
 abbrev pub file_of : {S C : Type 0} → (S → Result C ℕ) → Result S ℕ → Result C ℕ
 file_of {C = C} finish answer = elim answer as (λ _. Result C ℕ) [ Err line ↦ Err line | Ok said ↦ finish said ]
 
+-- the file is what is made of all that its lines said, or the number of the line that is refused
 pub file-said : {S C : Type 0} (step : S → List ℕ → Option S) (start : S) (finish : S → Result C ℕ) (file : List ℕ →
     Result C ℕ) → IsFormat step start finish file
     → (bytes : List ℕ) (answer : Result S ℕ) → lines_in step start bytes ≡ answer → file bytes ≡ file_of finish answer
@@ -91,6 +92,7 @@ cert-whole : (n : ℕ) (bytes : List ℕ) → cert_in n bytes ≡ file_in (cert_
 unfolding cert_in
 cert-whole n bytes = refl
 
+-- the files of certificates of meshes over a grid with this n have a format
 pub cert-format : (n : ℕ) → IsFormat (cert_line_in n) nothing_read cert_of (cert_in n)
 cert-format n = record { long = cert-long n; whole = cert-whole n }
 
@@ -110,11 +112,13 @@ fit-whole : (n : ℕ) (bytes : List ℕ) →
 unfolding fit_cert_in
 fit-whole n bytes = refl
 
+-- and so have those of certificates of fitted meshes
 pub fit-format : (n : ℕ) → IsFormat (fit_line_in n) fit.nothing_fit_read fit_cert_of (fit_cert_in n)
 fit-format n = record { long = fit-long n; whole = fit-whole n }
 
 -- the place that was reached
 
+-- the place behind so many whole lines, by what they said and the bytes of the line that has begun
 abbrev pub place : {S : Type 0} → S → ℕ → List ℕ → FilePlace S
 place all count part = record { said = all; lines = count; begun = part }
 
@@ -229,10 +233,12 @@ module _ {S C : Type 0} (step : S → List ℕ → Option S) (start : S) (finish
       last [] one there = absurd (there refl)
       last (b ∷ part) one there = lines_of-last b part one
 
+  -- where the last line has no LF and may stand, the file is what is said behind it
   pub file-last : (next : S) → here.begun ≢ [] → step here.said here.begun ≡ Some next → file read ≡ finish next
   file-last next some is = file-said step start finish file format read (Ok next)
       (said-last some ∙ ap (lines_next step (here.lines + 1) []) is)
 
+  -- and where it may not stand, the file is refused at its number
   pub refused-last : here.begun ≢ [] → step here.said here.begun ≡ None → file read ≡ Err (here.lines + 1)
   refused-last some is = file-said step start finish file format read (Err (here.lines + 1))
       (said-last some ∙ ap (lines_next step (here.lines + 1) []) is)

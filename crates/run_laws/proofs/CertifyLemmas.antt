@@ -35,6 +35,7 @@ use Rattle.run_laws.proofs.PictureLemmas.{no-members, BudgetFramesAreBest}
 abbrev pub IsOneText : Outcome → Type 0
 IsOneText end = (bytes : List ℕ) × (status : Status) × (files : ℕ) × (end ≡ text_outcome bytes status files)
 
+-- comparing the file of a mesh with a text comes to one text of the report
 pub compared-text : (mesh text line : List ℕ) (end : Outcome) → IsCompared mesh text line end → IsOneText end
 compared-text mesh text line end (inl same) = (line, Done, 3, same.1)
 compared-text mesh text line end (inr differs) = (rejection (MeshDiffers differs.0), Rejected, 3, differs.2)
@@ -58,6 +59,7 @@ make-text m grid files end is = (cert_text is.0, Done, 1, is.2)
 
 -- a check has one outcome
 
+-- comparing the file of a mesh with a text has one outcome alone
 pub compared-unique : (mesh text line : List ℕ) (end other : Outcome) → IsCompared mesh text line end →
     IsCompared mesh text line other → end ≡ other
 compared-unique mesh text line end other (inl f) (inl g) = f.1 ∙ sym g.1
@@ -73,6 +75,7 @@ verdict-unique state cert mesh (verdict.Certified triangles worst) end other f g
     compared-unique mesh (text_in state cert.leaves) (certified_line cert.camera triangles worst) end other f g
 verdict-unique state cert mesh (verdict.Rejected why) end other f g = f ∙ sym g
 
+-- a check of a certificate has one outcome alone
 pub check-unique : (c : Checking) (grid : HeightField) (r : Result Certificate ℕ) (mesh : List ℕ) (end other : Outcome)
     → IsCheckOutcome c grid r mesh end → IsCheckOutcome c grid r mesh other → end ≡ other
 check-unique c grid (Ok cert) mesh end other f g =
@@ -84,6 +87,7 @@ check-unique c grid (Err line) mesh end other f g = f ∙ sym g
 
 -- and it has one
 
+-- comparing the file of a mesh with a text has an outcome
 pub compared-exists : (mesh text line : List ℕ) → (end : Outcome) × IsCompared mesh text line end
 compared-exists mesh text line = elim (same-or-different mesh text) [
   | inl same ↦ (text_outcome line Done 3, inl (same, refl))
@@ -96,6 +100,7 @@ verdict-exists state cert mesh (verdict.Certified triangles worst) =
     compared-exists mesh (text_in state cert.leaves) (certified_line cert.camera triangles worst)
 verdict-exists state cert mesh (verdict.Rejected why) = (text_outcome (rejection why) Rejected 2, refl)
 
+-- a check of a certificate has an outcome
 pub check-exists : (c : Checking) (grid : HeightField) (r : Result Certificate ℕ) (mesh : List ℕ) →
     (end : Outcome) × IsCheckOutcome c grid r mesh end
 check-exists c grid (Ok cert) mesh =
@@ -111,6 +116,7 @@ CertificatesExist =
     (m : Making) (grid : HeightField) → (1 ≤ grid.n) × (grid.n ≤ 11) → 2 ≤ m.budget →
     (cert : Certificate) × IsMade m grid cert
 
+-- where priorities fall and each state has a frame, which is best, a certificate can be made
 pub certificates-exist : ((n : ℕ) (heights : List ℕ) (view : View) → IsFalling n (priority_of n heights view)) →
     BudgetFramesAreBest → FramesExist → CertificatesExist
 certificates-exist falling best frames m grid range low =
@@ -124,6 +130,7 @@ certificates-exist falling best frames m grid range low =
       record { camera = refl; best = is; sound = of.1; few = omega (arith, of.2, low) },
     )
 
+-- then making a certificate has an outcome
 pub make-exists : CertificatesExist → (m : Making) (grid : HeightField) (files : List NamedFile) →
     (1 ≤ grid.n) × (grid.n ≤ 11) → 2 ≤ m.budget →
     (end : Outcome) × IsJobOutcome (Make m) grid files end
@@ -150,12 +157,14 @@ module _ (c : Checking) (grid : HeightField) (cert : Certificate) (mesh : List �
       differ : {triangles worst : ℕ} → verdict.Rejected why ≡ verdict.Certified triangles worst → ⊥
       differ e = cc
 
+  -- a check of a certificate without a fault and of the text of its triangles ends with Done
   pub check-done : (end : Outcome) → IsFaultless c grid cert → mesh ≡ text_in state cert.leaves →
       IsCheckOutcome c grid (Ok cert) mesh end → end.status ≡ Done
   check-done end sound same is = sound-verdict is.0 end sound same is.1 is.2
 
 -- the mesh of a check that is done
 
+-- what ends with Rejected does not end with Done
 pub not-done : (end : Outcome) (bytes : List ℕ) (files : ℕ) →
     end ≡ text_outcome bytes Rejected files → end.status ≡ Done → ⊥
 not-done end bytes files is done = differ (sym (ap (λ (o : Outcome). o.status) is) ∙ done)
@@ -198,6 +207,7 @@ module _ (falling : (n : ℕ) (heights : List ℕ) (view : View) → IsFalling n
       }) of
   verdict-certifies cert (verdict.Rejected why) v of = absurd (not-done end (rejection why) 2 of done)
 
+  -- a check that ends with Done comes to one line, which certifies its mesh
   pub check-certifies : (r : Result Certificate ℕ) → IsCheckOutcome c grid r mesh end → Certifies c grid mesh end
   check-certifies (Ok cert) is = verdict-certifies cert is.0 is.1 is.2
   check-certifies (Err line) is = absurd (not-done end (rejection (BadLine line)) 2 is done)

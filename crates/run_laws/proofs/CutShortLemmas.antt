@@ -237,6 +237,7 @@ frame_cut before now acts show number picture mine next owed same part =
         inr (subst P (sym (append-nil acts)) line)
     by_parts criterion order (Sums n seed) same = absurd (not-empty mine next owed same)
 
+-- where frames and a refusal were cut short, one of the four cases stands
 pub cut_runs : CutRunsStand
 cut_runs before now show pictures stop cut =
     elim (cut_at show 1 pictures (stop_acts stop) cut.done cut.next cut.owed cut.in_order) [
@@ -272,6 +273,7 @@ cut_runs before now show pictures stop cut =
           (subst (λ (a : List Act). StandsInPart before now a cut.next) last.before cut.standing),
     )
 
+-- where one text was cut short, a prefix of it stands
 pub cut_texts : CutTextsStand
 cut_texts before now bytes cut = text_cut before now [] bytes cut.done cut.next cut.owed cut.in_order cut.standing
 
@@ -294,6 +296,7 @@ no-sums show pictures is = by_parts show.criterion show.order show.output is
         not_true : false ≡ true → ⊥
         not_true e = cc
 
+-- where a write failed in a run that shows its frames one by one, one of the four cases stands
 pub write_faults : TextsAreRead → WriteFaultsStand
 write_faults read before now old new words files s grid status ends failed run by_frame =
     let e = ends.ends (write-fault-is status NoMemory failed (λ e. cc))
@@ -328,6 +331,7 @@ module _ (before now : Told) (show : Show) (acts : List Act) (number : ℕ) (pic
     | inr some ↦ not-rose before.mesh_faults now.mesh_faults low same some.failed
   ]
 
+-- where the count of the meshes did not move a line was cut short, and where that of the report did not, a mesh
 pub sinks-decide : SinksDecide
 sinks-decide before now show pictures stop (inl m) = (
   λ low same. absurd (mesh-failed before now show (first_frames show pictures m.0) (m.0 + 1) m.1 low same m.3),

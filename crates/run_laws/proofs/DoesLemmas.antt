@@ -183,6 +183,7 @@ module _ (first second : List Act) (none : meshes_of (first ++ second) ≡ []) w
   no-second : meshes_of second ≡ []
   no-second = none-second (meshes_of first) (meshes_of second) joined
 
+-- the sink of meshes was not called, and then it was not again
 pub same-meshes-then : (before middle now : Moment) → SameMeshes before middle → SameMeshes middle now →
     SameMeshes before now
 same-meshes-then before middle now one two = record {

@@ -68,6 +68,7 @@ verdict-unique c grid cert triangles others mesh (verdict.Certified count deviat
     (subst (λ (l : List ℕ). IsCompared mesh (fit_text c.spacing grid l) line other) same g)
 verdict-unique c grid cert triangles others mesh (verdict.Rejected why) end other v w f g = f ∙ sym g
 
+-- a check of a certificate of a fitted mesh has one outcome alone
 pub fit_check-unique : (c : FitChecking) (grid : HeightField) (r : Result FitCertificate ℕ)
     (mesh : List ℕ) (end other : Outcome)
     → IsFitCheckOutcome c grid r mesh end → IsFitCheckOutcome c grid r mesh other → end ≡ other
@@ -89,6 +90,7 @@ verdict-exists c grid triangles mesh (verdict.Certified count deviation) =
     compared-exists mesh (fit_text c.spacing grid triangles) (certified_fit_line grid.n count deviation)
 verdict-exists c grid triangles mesh (verdict.Rejected why) = (text_outcome (fit_rejection why) Rejected 2, refl)
 
+-- a check of a certificate of a fitted mesh has an outcome
 pub fit_check-exists : (c : FitChecking) (grid : HeightField) (r : Result FitCertificate ℕ) (mesh : List ℕ) →
     (end : Outcome) × IsFitCheckOutcome c grid r mesh end
 fit_check-exists c grid (Ok cert) mesh =
@@ -103,6 +105,7 @@ possible : (n : ℕ) (target : Target) → TakesTwo target → IsPossible (goal_
 possible n (AtError thousandths) two = tt
 possible n (InBudget budget) two = two
 
+-- making a certificate of a fitted mesh has an outcome, where a budget has room for two triangles
 pub fit_make-exists : (m : FitMaking) (grid : HeightField) (files : List NamedFile) → TakesTwo m.target →
     (end : Outcome) × IsJobOutcome (MakeFit m) grid files end
 fit_make-exists m grid files two =
@@ -131,6 +134,7 @@ module _ (c : FitChecking) (grid : HeightField) (cert : FitCertificate) (triangl
       differ : {count deviation : ℕ} → verdict.Rejected why ≡ verdict.Certified count deviation → ⊥
       differ e = cc
 
+  -- a check of a faultless certificate of a fitted mesh and of the text of its triangles ends with Done
   pub fit_check-done : (end : Outcome) → IsFitFaultless c grid cert triangles → mesh ≡ fit_text c.spacing grid triangles
       → IsFitCheckOutcome c grid (Ok cert) mesh end → end.status ≡ Done
   fit_check-done end sound same is = sound-verdict is.0 is.1 end sound same is.2 is.3
@@ -169,6 +173,7 @@ module _ (c : FitChecking) (grid : HeightField) (mesh : List ℕ) (end : Outcome
       }) of
   verdict-certifies cert triangles (verdict.Rejected why) v of = absurd (not-done end (fit_rejection why) 2 of done)
 
+  -- a check of a fitted mesh that ends with Done comes to one line, which certifies the mesh
   pub fit_check-certifies : (r : Result FitCertificate ℕ) → IsFitCheckOutcome c grid r mesh end →
       Certifies c grid mesh end
   fit_check-certifies (Ok cert) is = verdict-certifies cert is.1 is.0 is.2 is.3
@@ -206,6 +211,7 @@ module _ (read_texts : TextsAreRead) (words : List (List ℕ)) (files : List Nam
       line-stands e.0 stands.0 (fit_check-certifies c grid (bytes_of files c.mesh) e.0 (sym stands.1 ∙ done)
       (fit_cert_in grid.n (bytes_of files c.certificate)) (check-outcome e.0 e.1))
 
+  -- where a check of a fitted mesh is done, the report got one line, by which its mesh is certified
   pub fit_mesh-certified : (status : Status) → EndsRight before now old new words files status → status ≡ Done
       → (line : List ℕ) × Grows before.report now.report line × IsCertifiedFit c grid (bytes_of files c.mesh) line
   fit_mesh-certified status ends done =

@@ -68,6 +68,7 @@ fit-unique f grid files end other p q =
     p.2 ∙ ap (λ (triangles : List ℕ). plain_outcome (fit_acts f grid triangles) Done 1)
     (fitted-one f.target grid p.0 q.0 p.1 q.1) ∙ sym q.2
 
+-- fitting a mesh has an outcome, where a budget has room for two triangles
 pub fit-exists : (f : Fitting) (grid : HeightField) (files : List NamedFile) → TakesTwo f.target →
     (end : Outcome) × IsJobOutcome (Fit f) grid files end
 fit-exists f grid files two =

@@ -188,6 +188,7 @@ room-for n low =
     let e = four-power n in
     omega (arith, p, e)
 
+-- up to level 6 a generated run ends with Done, and its line ends with worst 0 and nothing that blocks
 pub low-unblocked : PicturesAreCertified → LowLevelsAreUnblocked
 low-unblocked certified words files n seed end is low outcome =
     let P : Option Command → Type 0 = λ c. IsOutcome c files end in

@@ -28,6 +28,7 @@ use Rattle.run_laws.specs.Leaving.{CommandEnds}
 pub next-one : (before now : ℕ) → before ≤ 2 ^ 63 + 2 → now ≡ next_count before → now ≡ before + 1
 next-one before now low is = is ∙ min-eq_left (omega (arith, low))
 
+-- the same of a count of at most 2 ^ 63
 pub next_count-one : (before now : ℕ) → before ≤ 2 ^ 63 → now ≡ next_count before → now ≡ before + 1
 next_count-one before now low is = next-one before now (omega (arith, low)) is
 

@@ -27,12 +27,13 @@ use Rattle.run_laws.proofs.ActLemmas.{meshes_of-append}
 use Rattle.run_laws.proofs.PictureLemmas.{BudgetFramesAreBest, show_of}
 use Rattle.run_laws.proofs.OutcomeLemmas.{script-states}
 
--- The frame of a budget is a best mesh of its state, and the frame of a tolerance the least mesh of it.
+-- the frame of a tolerance is the least mesh of its state
 abbrev pub LeastFramesAreLeast : Type 0
 LeastFramesAreLeast = (tolerance : ℕ) (state : State) (members : List ℕ) (worst : ℕ) (blocked : Option Blocked)
     → IsLeastFrame state.grid.n tolerance (priority_in state) (among members) worst blocked
     → IsLeastMesh state.grid.n tolerance (priority_in state) (leaves_of state.grid.n (among members))
 
+-- the frame of a budget is a best mesh of its state, and that of a tolerance the least mesh of it
 pub record FramesAreBest : Type 0 where
   pub of_budget : BudgetFramesAreBest
   pub of_tolerance : LeastFramesAreLeast

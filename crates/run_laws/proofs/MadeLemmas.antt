@@ -146,6 +146,7 @@ module _ (read : WrittenLinesAreRead) (ended : WrittenLinesAreEnded) (whole : Wr
         (subst (λ (step : ℕ). P c.budget step m.camera) (sym spacing)
         (subst (λ (most : ℕ). P most m.spacing m.camera) (sym budget) made.sound))
 
+    -- a check of its text and of the text of its mesh, at the same budget and spacing, is accepted
     pub made-accepted : (c : Checking) (files : List NamedFile) → c.budget ≡ m.budget → c.spacing ≡ m.spacing →
         bytes_of files c.certificate ≡ cert_text cert
         → bytes_of files c.mesh ≡ text_in state cert.leaves → IsAcceptedCheck c grid files

@@ -76,12 +76,14 @@ said-done read (Some (Generated n seed)) files end good is =
     status-of end _ is.2 ∙ ap stop_status (along-stop
     (start_walk made_budget (start_state (made_grid n seed) made_spacing made_budget)) (made_lines n seed))
 
+-- each outcome of words and files that are accepted ends with Done
 pub outcome-done : TextsAreRead → (words : List (List ℕ)) (files : List NamedFile) (end : Outcome) →
     IsAccepted (command_of words) files → IsOutcome (command_of words) files end → end.status ≡ Done
 outcome-done read words = said-done read (command_of words)
 
 -- there is one outcome
 
+-- a walk has one outcome alone
 pub frames_outcome-unique : FramesAreUnique → SetsAreLists → RunsAreUnique →
     (show : Show) (files : ℕ) (walk : Walk) (end other : Outcome)
     → IsFramesOutcome show files walk end → IsFramesOutcome show files walk other → end ≡ other
@@ -122,6 +124,7 @@ words-unique one lists runs (Some (OnGrid name job)) files end other free f g =
 words-unique one lists runs (Some (Generated n seed)) files end other free f g =
     frames_outcome-unique one lists runs (as_sums n seed) 0 (made_walk n seed) end other f g
 
+-- words that make no certificate have one outcome alone over the same files
 pub outcome-unique : FramesAreUnique → SetsAreLists → RunsAreUnique →
     (words : List (List ℕ)) (files : List NamedFile) (end other : Outcome) → MakesNoCertificate (command_of words)
     → IsOutcome (command_of words) files end → IsOutcome (command_of words) files other → end ≡ other
@@ -160,6 +163,7 @@ words-engine one lists runs (Some (OnGrid name job)) files end other f g =
 words-engine one lists runs (Some (Generated n seed)) files end other f g =
     engine-of end other (words-unique one lists runs (Some (Generated n seed)) files end other tt f g)
 
+-- all outcomes of the same words and files leave the same engine
 pub outcome-engine : FramesAreUnique → SetsAreLists → RunsAreUnique →
     (words : List (List ℕ)) (files : List NamedFile) (end other : Outcome)
     → IsOutcome (command_of words) files end → IsOutcome (command_of words) files other → end.engine ≡ other.engine
@@ -450,6 +454,7 @@ command-budget words name job is = words-budget words (OnGrid name job) is
 
 -- the walk of a script from a budget of at least 2
 
+-- each state at a frame line of a script has the level of the grid and a budget of at least 2
 pub script-states : BudgetsAreTwo → (s : Scripted) (grid : HeightField) (script : List ℕ) → 2 ≤ s.budget →
     AreStates grid.n (script_walk s grid script).frames
 script-states two s grid script low =
@@ -480,6 +485,7 @@ made_walk-states n seed =
 
 -- an outcome exists
 
+-- a script over a grid of a level from 1 to 11 has an outcome, from a budget of at least 2
 pub script_outcome-exists : BudgetsAreTwo → FramesExist → (s : Scripted) (grid : HeightField) (script : List ℕ) →
     2 ≤ s.budget → (1 ≤ grid.n) × (grid.n ≤ 11)
     → (end : Outcome) × IsFramesOutcome s.show 2 (script_walk s grid script) end
@@ -488,6 +494,7 @@ script_outcome-exists two frames s grid script low range =
     (script-states two s grid script low) in
     (frames_outcome s.show 2 (script_walk s grid script) ps.0, (ps.0, ps.1, refl))
 
+-- and so has a generated run of such a level
 pub made_outcome-exists : FramesExist → (n seed : ℕ) → (1 ≤ n) × (n ≤ 11)
     → (end : Outcome) × IsFramesOutcome (as_sums n seed) 0 (made_walk n seed) end
 made_outcome-exists frames n seed range =
@@ -534,6 +541,7 @@ words-exist two frames made levels (Some (OnGrid name job)) files low =
 words-exist two frames made levels (Some (Generated n seed)) files low =
     made_outcome-exists frames n seed (low (Generated n seed) refl)
 
+-- words and files have an outcome
 pub outcome-exists : BudgetsAreTwo → FramesExist → CertificatesExist → LevelsAreInRange →
     (words : List (List ℕ)) (files : List NamedFile) → (end : Outcome) × IsOutcome (command_of words) files end
 outcome-exists two frames made levels words files =
@@ -611,6 +619,7 @@ words-certified two one (Some (OnGrid name job)) files end low some is =
 words-certified two one (Some (Generated n seed)) files end low some is =
     shown-certified one (as_sums n seed) (made_grid n seed).n 0 (made_walk n seed) end (made_walk-states n seed) some is
 
+-- where an outcome leaves an engine, what its pictures tell of blocking is a certificate
 pub outcome-certified : BudgetsAreTwo → MeshesAreCertified →
     (words : List (List ℕ)) (files : List NamedFile) (end : Outcome)
     → IsTrue (is_some end.engine) → IsOutcome (command_of words) files end → All IsCertified end.pictures

@@ -223,6 +223,7 @@ closed-picture stays OfBudget before state p set up frame run =
 closed-picture stays (OfTolerance tolerance) before state p set up frame none =
     record { n_low = set.n_low; n_high = set.n_high; ascending = up; closed = frame.closure.closed }
 
+-- a picture's set is closed where the set before it is
 pub picture-set : SetsStayClosed →
     (show : Show) (n : ℕ) (before : List ℕ) (state : State) (p : Picture) → state.grid.n ≡ n
     → IsGridSet n before → IsPicture show before state p → IsGridSet n p.members

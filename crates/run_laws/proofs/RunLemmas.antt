@@ -460,6 +460,7 @@ module _ (before middle now : Moment) (name : List ℕ) (s : Scripted) (grid : H
   script-memory status (inr (inr (inl a))) e = cc
   script-memory status (inr (inr (inr a))) e = cc
 
+  -- where the script ended, or a read of it failed, the command was carried out with this status and engine
   pub script-runs : (status : Status) → (status ≡ ReadFault) ⊎ IsScriptEnd status → LeavesByScript middle now status
       → (IsSome left ↔ IsTrue (leaves_engine scripted status))
       → ((end : Outcome) → IsTrue (is_complete status) → Leaves s.show follows end → left ≡ end.engine)

@@ -149,6 +149,7 @@ module _ {S C E : Type 0} (step : S → List ℕ → Option S) (start : S) (file
   lines-ok (Ok whole) nothing ends = λ all told. ap file (lines-whole nothing all told) ∙ ends.ok
   lines-ok (Err stop) nothing ends = tt
 
+  -- where the end of the file is refused at a line, the whole file is refused at that line
   pub lines-bad : (answer : Result C E) (line : ℕ) → ((unread : List ℕ) → rest ≡ Some unread → unread ≡ []) →
       EndsLines file bad reading.bytes answer
       → answer ≡ Err (bad line) → (all : List NamedFile) → files ≡ Some all → file (bytes_of all name) ≡ Err line

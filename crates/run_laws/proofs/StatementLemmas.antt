@@ -195,19 +195,23 @@ module _ (before now : Moment) (words : List (List ℕ)) (left : Option EngineEn
   right WriteFault ends = cut-right ends
   right Rejected ends = all-right Rejected refl (λ e. cc) ends
 
+-- unless memory ran out or a read failed, the run ends as an outcome of its words and files
 pub outcome-follows : OutcomeFollows
 outcome-follows before now words status left files ends are = right before now words left files are status ends
 
+-- each outcome of the words and files tells what engine a complete run leaves
 pub engine-follows : EnginesAreUnique → EngineFollows
 engine-follows unique before now words status left files ends are end is complete =
     let d = ends.complete complete files are in
     d.engine ∙ unique words files d.end end d.is_outcome is
 
+-- where a write failed in a run that shows its frames one by one, one of the four cases stands
 pub run-fault-follows : WriteFaultsStand → RunFaultFollows
 run-fault-follows stand before now words status left files s grid ends told failed run by_frame =
     stand before.sinks now.sinks before.shelf now.shelf words files s grid status
     (outcome-follows before now words status left files ends (λ some. told)) failed run by_frame
 
+-- where a write failed and all that was owed is one text, a prefix of it stands
 pub text-fault-follows : CutTextsStand → OutcomesAreUnique → TextFaultFollows
 text-fault-follows stand unique before now words status left files ends are failed one end text is acts =
     let d = ends.write_fault failed files are in
@@ -218,6 +222,7 @@ text-fault-follows stand unique before now words status left files ends are fail
     (subst (λ (a : List Act). IsCutShort before.sinks now.sinks a) same d.cut_short)
 
 module _ (done : AcceptedIsDone) where
+  -- where words and files are accepted and no count rose, the run is done or memory ran out
   pub complete-follows : CompleteFollows
   complete-follows before now words Done left files ends cause are accepted shelf meshes report = inl refl
   complete-follows before now words NoMemory left files ends cause are accepted shelf meshes report = inr refl
@@ -244,6 +249,7 @@ module _ (done : AcceptedIsDone) where
 unmoved : (a b : ℕ) → a ≤ b → ((a < b) → ⊥) → b ≡ a
 unmoved a b later not = omega (arith, later, not)
 
+-- a count of faults rose exactly where the status tells of that failure, and the others are as before
 pub faults-follow : FaultsFollow
 faults-follow before now command status cause = record {
   read = λ is. (let less = cause.read.0 is in omega (arith, less));
@@ -269,6 +275,7 @@ read-leaves before now words status left ends is =
     let at = ends.read_fault is in
     record { command = at.0; is_command = at.1; leaves = at.2 }
 
+-- the same where memory ran out
 pub memory-leaves : (before now : Moment) (words : List (List ℕ)) (status : Status) (left : Option EngineEnd)
     → EndsByStatus before now (command_of words) status left
     → status ≡ NoMemory → LeavesAtNoMemory before.sinks now.sinks before.shelf now.shelf words

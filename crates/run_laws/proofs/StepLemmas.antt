@@ -27,6 +27,7 @@ use Rattle.run_laws.proofs.PictureLemmas.{pictures_of, picture-set, last_members
 use Rattle.run_laws.proofs.WalkLemmas.{walk_of-append, ArePictures-append, walk_of-states, walk_of-grows}
 use Rattle.run_laws.proofs.WalkLemmas.{walk_lines-stopped, read_text, stopped_text}
 
+-- the place by its walk, the pictures of its frames, and the bytes of the line that has begun
 abbrev pub place : Walk → List Picture → List ℕ → Place
 place at shown part = record { walk = at; pictures = shown; begun = part }
 
@@ -176,6 +177,7 @@ module _ (before now : Told) (show : Show) (start : Walk) (read : List ℕ) (her
       ends [] one there = absurd (there refl)
       ends (b ∷ part) one there = walk_of-last here.walk b part one
 
+  -- where no line has begun, what was read leads to the walk of the place
   pub walk_of-empty : here.begun ≡ [] → walk_of start read ≡ here.walk
   walk_of-empty none =
       ap (walk_of start) (sym (append-nil read))

@@ -125,6 +125,7 @@ module _ (n before t after : ℕ) where
 
 -- lists of leaves, each at most once
 
+-- each entry of the list is a leaf, and stands in it at most once
 pub record AreOnce (n : ℕ) (has : ℕ → Bool) (order : List ℕ) : Type 0 where
   pub listed : (a : ℕ) → IsIn a order → Contains (leaves_of n has) a
   pub once : (a : ℕ) → count_by (λ t. eqb t a) order ≤ 1

@@ -183,6 +183,7 @@ read-states : (n : ℕ) (walk : Walk) (answer : Result Line ScriptFault) →
 read-states n walk (Ok line) two keeps = line-states n walk line (λ most is. two most (ap Ok is)) keeps
 read-states n walk (Err why) two keeps = record { level = keeps.level; low = keeps.low; frames = keeps.frames }
 
+-- a walk that has stopped stays so, and else it goes on with what the line is read as
 abbrev pub stopped_text : Walk → List ℕ → Option Refusal → Walk
 stopped_text walk bytes stop = elim stop as (λ _. Walk) [
   | Some refusal ↦ walk

@@ -43,6 +43,7 @@ address_laws = record {
 pub coarsest : AddressLaws → (a : ℕ) → 2 ≤ a → level_of a ≡ 0 → a < 4
 coarsest laws a low level = (laws.below a 1 low).0 (omega arith)
 
+-- a triangle below level 0 has an address of at least 4
 pub deeper : AddressLaws → (a level : ℕ) → 2 ≤ a → level_of a ≡ suc level → 4 ≤ a
 deeper laws a level low is = ⊎_elim {C = 4 ≤ a}
     (λ lt. let first : level_of a < 1 = (laws.below a 1 low).1 lt in absurd (omega arith))
@@ -54,11 +55,13 @@ deeper laws a level low is = ⊎_elim {C = 4 ≤ a}
 abbrev pub IsLeft : Point → Point → Point → Type 0
 IsLeft r p q = p.y * q.x + q.y * r.x + r.y * p.x ≤ p.x * q.y + q.x * r.y + r.x * p.y
 
+-- the point r lies left of each of the three edges of the triangle with the corners c, or on it
 pub record IsHeld (c : Corners) (r : Point) : Type 0 where
   pub left_leg : IsLeft r c.apex c.v0
   pub base : IsLeft r c.v0 c.v1
   pub right_leg : IsLeft r c.v1 c.apex
 
+-- a point of the closed triangle lies left of each of its edges or on it
 pub read : (c : Corners) (r : Point) → is_in_closed c r ≡ true → IsHeld c r
 read c r h =
     let legs : (is_left_or_on r c.apex c.v0 ≡ true)
@@ -148,13 +151,16 @@ is_in_closed-children c r even = or-by (is_in_closed c r) (is_in_closed (child 0
 
 -- ---- a triangle holds its corners, and a finest one no other points
 
+-- a triangle of doubled area d holds its apex
 pub apex-held : (c : Corners) (d : ℕ) → HasArea c d → is_in_closed c c.apex ≡ true
 apex-held c d h = let area : HasArea c d = h in
     made c c.apex (record { left_leg = omega arith; base = omega (arith, h.area); right_leg = omega arith })
 
+-- it holds the first end of its base
 pub v0-held : (c : Corners) (d : ℕ) → HasArea c d → is_in_closed c c.v0 ≡ true
 v0-held c d h = made c c.v0 (record { left_leg = omega arith; base = omega arith; right_leg = omega (arith, h.area) })
 
+-- it holds the second end of its base
 pub v1-held : (c : Corners) (d : ℕ) → HasArea c d → is_in_closed c c.v1 ≡ true
 v1-held c d h = made c c.v1 (record { left_leg = omega (arith, h.area); base = omega arith; right_leg = omega arith })
 

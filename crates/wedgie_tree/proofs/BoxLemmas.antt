@@ -15,6 +15,7 @@ use Rattle.mesh_defs.specs.BoundingBox.{BoundingBox, box_of, low_of, high_of, le
 kept : (z : ℤ) (i : ℕ) → z ≡ pos i → mag z < 2 ^ 63 → to_z w64 (of_z w64 z) ≡ pos i
 kept z i e fits = to_z-of_z w64 z (record { sfits = fits }) ∙ e
 
+-- numbers below 2 ^ 63 that are in order stay so when they are stored as signed numbers of 64 bits and read
 pub ends-ordered : (y z : ℤ) (i j : ℕ) → y ≡ pos i → z ≡ pos j → mag y < 2 ^ 63 → mag z < 2 ^ 63 → i ≤ j →
     to_z w64 (of_z w64 y) ≤ℤ to_z w64 (of_z w64 z)
 ends-ordered y z i j ey ez fits_y fits_z le = rw (kept y i ey fits_y, kept z j ez fits_z) (omega (arith, ints))

@@ -26,6 +26,7 @@ use Rattle.bintree_laws.proofs.WeightLemmas.{HasArea, HasArea-corners_of, IsInRe
 in-rectangle : (c : Corners) (r : Point) (d : ℕ) → 0 < d → HasArea c d → is_in_closed c r ≡ true → IsInRectangle c r
 in-rectangle c r d some h held = let m = mean-held c r d h held in IsInRectangle-mean d c r m.0 m.1 m.2 some m.3
 
+-- a point that a triangle of the grid holds lies in the bounding rectangle of its corners
 pub IsInRectangle-held : AddressLaws → (n a : ℕ) (r : Point) → 2 ≤ a → level_of a ≤ 2 * n → holds_point n a r ≡ true →
     IsInRectangle (corners_of n a) r
 IsInRectangle-held laws n a r low fits held =
@@ -39,6 +40,7 @@ held-x laws n a r low fits held =
     let w : IsWithin (2 ^ n) (corners_of n a) = laws.within n a in
     omega (arith, in_rectangle.right, w.apex_x, w.v0_x, w.v1_x)
 
+-- the same of the row
 pub held-y : AddressLaws → (n a : ℕ) (r : Point) → 2 ≤ a → level_of a ≤ 2 * n → holds_point n a r ≡ true → r.y ≤ 2 ^ n
 held-y laws n a r low fits held =
     let in_rectangle : IsInRectangle (corners_of n a) r = IsInRectangle-held laws n a r low fits held in
@@ -76,11 +78,13 @@ heights_in-same : (n : ℕ) (heights others : List ℕ) (a : ℕ) → AgreesOn n
 heights_in-same n heights others a agrees =
     map-filter (height_of n heights) (height_of n others) (holds_point n a) agrees (points_of n)
 
+-- the least height in a triangle depends on the heights of the held points alone
 pub low_of-same : (n : ℕ) (heights others : List ℕ) (a : ℕ) → AgreesOn n heights others a →
     low_of n heights a ≡ low_of n others a
 unfolding low_of
 low_of-same n heights others a agrees = rw (heights_in-same n heights others a agrees) refl
 
+-- and so does the greatest
 pub high_of-same : (n : ℕ) (heights others : List ℕ) (a : ℕ) → AgreesOn n heights others a →
     high_of n heights a ≡ high_of n others a
 unfolding high_of

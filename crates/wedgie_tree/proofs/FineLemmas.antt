@@ -30,6 +30,7 @@ pub record AreWithin (p : Places) (count : ℕ) : Type 0 where
   pub v0 : p.v0 < count
   pub v1 : p.v1 < count
 
+-- the places of the corners of a triangle of a height field lie within its list of heights
 pub AreWithin-at : AddressLaws → (g : HeightField) (a : ℕ) (p : Places) → IsHeightField g →
     IsAt g.n (corners_of g.n a) p →
     AreWithin p (length g.heights)
@@ -68,6 +69,7 @@ IsAt-left laws n a p some coarse at = rw (laws.left_corners n a some) (record {
   v1 = at.v0;
 })
 
+-- the right child has the middle of the base, its second end and the apex
 pub IsAt-right : AddressLaws → (n a : ℕ) (p : Places) → 2 ≤ a → level_of a < 2 * n → IsAt n (corners_of n a) p →
     IsAt n (corners_of n (2 * a + 1)) (record { apex = (p.v0 + p.v1) / 2; v0 = p.v1; v1 = p.apex })
 IsAt-right laws n a p some coarse at = rw (laws.right_corners n a some) (record {

@@ -19,6 +19,7 @@ apex-in : AddressLaws → (n a : ℕ) → IsPointIn (corners_of n a).apex (point
 apex-in laws n a = let w : IsWithin (2 ^ n) (corners_of n a) = laws.within n a in
     IsPointIn-points_of n (corners_of n a).apex w.apex_x w.apex_y
 
+-- a triangle of the grid holds its own apex
 pub apex-passes : AddressLaws → (n a : ℕ) → 2 ≤ a → level_of a ≤ 2 * n → holds_point n a (corners_of n a).apex ≡ true
 apex-passes laws n a low fits = apex-held (corners_of n a) (2 ^ (2 * n - level_of a))
     (HasArea-corners_of n a fits)
@@ -37,6 +38,7 @@ pub holds_point-children : AddressLaws → (n a : ℕ) → IsSplittable n a → 
 holds_point-children laws n a split r = rw (laws.left_corners n a split.low, laws.right_corners n a split.low)
     (is_in_closed-children (corners_of n a) r (laws.even n a split.coarse))
 
+-- the least height in a splittable triangle is the lesser of the least heights in its children
 pub low_of-children : AddressLaws → (n : ℕ) (heights : List ℕ) (a : ℕ) → IsSplittable n a →
     low_of n heights a ≡ min (low_of n heights (2 * a)) (low_of n heights (2 * a + 1))
 low_of-children laws n heights a split =
@@ -53,6 +55,7 @@ low_of-children laws n heights a split =
           (holds_point-children laws n a split) (points_of n),
     )
 
+-- the greatest height is the greater of the greatest heights in its children
 pub high_of-children : AddressLaws → (n : ℕ) (heights : List ℕ) (a : ℕ) → IsSplittable n a →
     high_of n heights a ≡ max (high_of n heights (2 * a)) (high_of n heights (2 * a + 1))
 unfolding high_of
@@ -133,6 +136,7 @@ at-corner P f c r apex v0 v1 is = let Q : Point → Type 0 = λ p. P (f p) in �
     (λ rest. ⊎_elim {C = P (f r)} (λ e. subst Q (sym e) v0) (λ e. subst Q (sym e) v1) rest)
     is
 
+-- the least height in a finest triangle is the least of those at its corners
 pub low_of-finest : AddressLaws → (n : ℕ) (heights : List ℕ) (a : ℕ) → 2 ≤ a → level_of a ≡ 2 * n →
     low_of n heights a ≡ least_of_3 (height_of n heights (corners_of n a).apex)
     (height_of n heights (corners_of n a).v0) (height_of n heights (corners_of n a).v1)
@@ -151,6 +155,7 @@ low_of-finest laws n heights a some finest =
     (omega arith) (finest-corner c r area h) in
     omega (arith, is, le-under m b f (holds_point n a) (omega arith) held (points_of n), between)
 
+-- the greatest height in a finest triangle is the greatest of those at its corners
 pub high_of-finest : AddressLaws → (n : ℕ) (heights : List ℕ) (a : ℕ) → 2 ≤ a → level_of a ≡ 2 * n →
     high_of n heights a ≡ greatest_of_3 (height_of n heights (corners_of n a).apex)
     (height_of n heights (corners_of n a).v0) (height_of n heights (corners_of n a).v1)

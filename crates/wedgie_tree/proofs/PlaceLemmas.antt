@@ -16,10 +16,12 @@ pub apex-of : ((n a : ℕ) → IsWithin (2 ^ n) (corners_of n a)) → (n a : ℕ
 apex-of within n a c is = let w : IsWithin (2 ^ n) c = IsWithin-of within n a c is in
     record { x = w.apex_x; y = w.apex_y }
 
+-- the same of the first end of the base
 pub v0-of : ((n a : ℕ) → IsWithin (2 ^ n) (corners_of n a)) → (n a : ℕ) (c : Corners) → c ≡ corners_of n a →
     IsInSquare (2 ^ n) c.v0
 v0-of within n a c is = let w : IsWithin (2 ^ n) c = IsWithin-of within n a c is in record { x = w.v0_x; y = w.v0_y }
 
+-- and of the second
 pub v1-of : ((n a : ℕ) → IsWithin (2 ^ n) (corners_of n a)) → (n a : ℕ) (c : Corners) → c ≡ corners_of n a →
     IsInSquare (2 ^ n) c.v1
 v1-of within n a c is = let w : IsWithin (2 ^ n) c = IsWithin-of within n a c is in record { x = w.v1_x; y = w.v1_y }

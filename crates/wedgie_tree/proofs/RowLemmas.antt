@@ -32,6 +32,7 @@ pub record IsPutSoFar (g : HeightField) (x y : ℕ) (row : List ℕ) (k : ℕ) (
   pub others : (i j : ℕ) → i ≤ 2 ^ g.n → j ≤ 2 ^ g.n → (j ≡ y → x ≤ i → i < x + k → ⊥) →
       height_at g.n h.heights i j ≡ height_at g.n g.heights i j
 
+-- before any height of the row is set, the height field is as it was
 pub IsPutSoFar-none : (g : HeightField) (x y : ℕ) (samples : List ℕ) → IsHeightField g → IsPutSoFar g x y samples 0 g
 IsPutSoFar-none g x y samples valid = record {
   n = refl;
@@ -41,6 +42,7 @@ IsPutSoFar-none g x y samples valid = record {
   others = λ i j i_in j_in out. refl;
 }
 
+-- if the next height of the row is set and no other height changes, one more of the row stands
 pub IsPutSoFar-next : (g : HeightField) (x y : ℕ) (row : List ℕ) (k : ℕ) (h next : HeightField) → k < length row →
     x + length row ≤ 2 ^ g.n + 1 → y ≤ 2 ^ g.n → IsPutSoFar g x y row k h → next.n ≡ h.n →
     next.maxval ≡ h.maxval → IsHeightField next →
@@ -87,6 +89,7 @@ pub record IsReadSoFar (g : HeightField) (x0 y : ℕ) (row : List ℕ) (x : ℕ)
   pub each : (k : ℕ) → k < length row → slice_index row k ≡ height_at g.n g.heights (x0 + k) y
   pub bounded : All (λ h. h ≤ g.maxval) row
 
+-- an empty row is what stands before the first column is read
 pub IsReadSoFar-none : (g : HeightField) (x0 y : ℕ) (row : List ℕ) → row ≡ [] → IsReadSoFar g x0 y row x0
 IsReadSoFar-none g x0 y row none =
     let P : List ℕ → Type 0 = λ r. IsReadSoFar g x0 y r x0 in
@@ -105,6 +108,7 @@ IsReadSoFar-room g x0 y row x small fits so_far =
     let count : x0 + length row ≡ x = so_far.count in
     omega arith
 
+-- if the height at the next column is put at the end of the row, one column more was read
 pub IsReadSoFar-next : (g : HeightField) (x0 y : ℕ) (row next : List ℕ) (x h : ℕ) → next ≡ row ++ h ∷ [] →
     h ≡ height_at g.n g.heights x y → h ≤ g.maxval → IsReadSoFar g x0 y row x → IsReadSoFar g x0 y next (x + 1)
 IsReadSoFar-next g x0 y row next x h is value small so_far =
@@ -189,6 +193,7 @@ pub record IsRaisedSoFar (g : HeightField) (area : Area) (dz : ℤ) (y : ℕ) (h
   pub outside : (i j : ℕ) → i ≤ 2 ^ g.n → j ≤ 2 ^ g.n → (is_in_area area i j ≡ true → j < y → ⊥) →
       height_at g.n h.heights i j ≡ height_at g.n g.heights i j
 
+-- before any row is raised, the height field is as it was
 pub IsRaisedSoFar-none : (g : HeightField) (area : Area) (dz : ℤ) → IsHeightField g → IsRaisedSoFar g area dz area.y0 g
 IsRaisedSoFar-none g area dz valid = record {
   n = refl;
@@ -199,6 +204,7 @@ IsRaisedSoFar-none g area dz valid = record {
   outside = λ i j i_in j_in out. refl;
 }
 
+-- if row y is raised between the columns of the area and nothing else changes, the rows below y + 1 are raised
 pub IsRaisedSoFar-next : (g : HeightField) (area : Area) (dz : ℤ) (y : ℕ) (h next : HeightField) →
     area.y0 ≤ y → y ≤ area.y1 →
     IsRaisedSoFar g area dz y h → next.n ≡ h.n → next.maxval ≡ h.maxval → IsHeightField next →

@@ -12,10 +12,12 @@ use Rattle.mesh_defs.specs.Triangle.{level_of, corners_of, midpoint, IsSplittabl
 use Rattle.mesh_defs.specs.Thickness.{height_of, deviation, thickness_under, thickness_of}
 use Rattle.wedgie_tree.proofs.AreaLemmas.{AddressLaws}
 
+-- a finest triangle has thickness 0
 pub thickness_of-finest : (n : ℕ) (heights : List ℕ) (a : ℕ) → level_of a ≡ 2 * n → thickness_of n heights a ≡ 0
 unfolding thickness_of
 thickness_of-finest n heights a finest = let none : 2 * n - level_of a ≡ 0 = omega arith in rw none refl
 
+-- the thickness of a splittable triangle is that of its thicker child plus its own deviation
 pub thickness_of-children : AddressLaws → (n : ℕ) (heights : List ℕ) (a : ℕ) → IsSplittable n a →
     thickness_of n heights a ≡
     max (thickness_of n heights (2 * a)) (thickness_of n heights (2 * a + 1)) + deviation n heights (corners_of n a)
