@@ -75,6 +75,7 @@ small n k top few = let h : 2 * n + k ≤ 24 = omega arith in pow_mono h
 leaf_big : AreFrom 33 (codes "leaf")
 leaf_big = (omega arith, (omega arith, (omega arith, (omega arith, tt))))
 
+-- the line of a leaf of the grid is read back as it
 pub leaf-back : (n a : ℕ) → n ≤ 11 → IsAddress n a → read_cert_line n (cert_line_text (LeafLine a)) ≡ Some (LeafLine a)
 leaf-back n a top address =
     let most = small n 2 top (omega arith) in
@@ -107,6 +108,7 @@ kind-fields n Want field = refl
 kind-fields n Parent field = refl
 kind-fields n Mate field = refl
 
+-- the line of a reason, of a triangle of the grid that may be split, is read back as it
 pub reason-back : (n : ℕ) (r : Reason) → n ≤ 11 → IsSplittable n r.triangle →
     read_cert_line n (cert_line_text (ReasonLine r)) ≡ Some (ReasonLine r)
 reason-back n r top splittable =
@@ -197,6 +199,7 @@ module _ (n : ℕ) (seen_from : CameraAt) (is : IsCamera seen_from) where
       (is_camera_coordinate seen_from.y && is_camera_coordinate seen_from.z))
       (Some (CameraLine seen_from)) None coordinates
 
+  -- the line of a camera whose coordinates are within their bounds is read back as it
   pub camera-back : read_cert_line n (cert_line_text (CameraLine seen_from)) ≡ Some (CameraLine seen_from)
   camera-back = ap (read_cert_line n) (camera-shape seen_from)
       ∙ line-of_fields n (codes "camera" ++ 32 ∷ (x ++ 32 ∷ (y ++ 32 ∷ z)))
@@ -276,6 +279,7 @@ lines-back n cert is =
 
 -- lines that are ended
 
+-- the text of a certificate is its lines, each with an LF (10) behind it
 pub text-ended : (cert : Certificate) → cert_text cert ≡ flat_map (λ line. line ++ 10 ∷ []) (cert_lines cert)
 text-ended cert =
     let leaves = map (λ a. cert_line_text (LeafLine a)) cert.leaves in
@@ -311,6 +315,7 @@ reasons-whole n (r ∷ reasons) top all =
     (address-from (kind_text r.kind) r.triangle (kind_big r.kind) (omega arith)))
     (reasons-whole n reasons top (All-tail (λ (q : Reason). IsSplittable n q.triangle) r reasons all))
 
+-- each line of a certificate is one line: no LF stands within it
 pub lines-whole : (n : ℕ) (cert : Certificate) → IsCertificateOf n cert → All IsOneLine (cert_lines cert)
 lines-whole n cert is =
     let reasons = map (λ r. cert_line_text (ReasonLine r)) cert.reasons in

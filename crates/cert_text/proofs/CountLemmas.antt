@@ -44,6 +44,7 @@ taken-count said next (ReasonLine reason) is = go _ is
         same f = cc
     go false e = absurd (none-some next e)
 
+-- behind a line that is read, one line more has been said
 pub line-count : (n : ℕ) (said next : ReadSoFar) (bytes : List ℕ) → cert_line_in n said bytes ≡ Some next →
     line_count next ≡ line_count said + 1
 line-count n said next bytes is = go (read_cert_line n bytes) is

@@ -73,6 +73,7 @@ tolerance-short own fits =
     let short = decimal-short own fits in
     let all = length-append (codes "tolerance") (32 ∷ decimal own) in omega arith
 
+-- the line of a tolerance of 32 bits is read back as it
 pub tolerance-back : (n own : ℕ) → own < 2 ^ 32 →
     read_fit_line n (fit_line_text (ToleranceLine own)) ≡ Some (ToleranceLine own)
 tolerance-back n own fits =
@@ -88,6 +89,7 @@ tolerance-back n own fits =
 mesh_big : AreFrom 33 (codes "mesh")
 mesh_big = (omega arith, (omega arith, (omega arith, (omega arith, tt))))
 
+-- the line of the mesh is read back as it
 pub mesh-back : (n : ℕ) → read_fit_line n (fit_line_text MeshLine) ≡ Some MeshLine
 mesh-back n =
     line-of_fields n (codes "mesh") (codes "mesh" ∷ []) (omega arith)
@@ -172,6 +174,7 @@ module _ (r : Off) (small : IsSmall r) where
   off-one =
       subst (λ l. IsOneLine l) (sym (off-shape r)) (no-end (codes "off" ++ 32 ∷ (a ++ 32 ∷ (x ++ 32 ∷ y))) off-from)
 
+-- the line of a reason, of a triangle that may be split and a point of the grid, is read back as it
 pub off-back : (n : ℕ) (r : Off) → n ≤ 11 → IsOffOf n r → read_fit_line n (fit_line_text (OffLine r)) ≡ Some (OffLine r)
 off-back n r top is =
     let below : 2 ^ (2 * n + 1) ≤ 2 ^ 24 = (let h : 2 * n + 1 ≤ 24 = omega arith in pow_mono h) in
@@ -261,6 +264,7 @@ lines-back n cert is =
 
 -- lines that are ended
 
+-- the text of a certificate is its lines, each with an LF (10) behind it
 pub text-ended : (cert : FitCertificate) → fit_cert_text cert ≡ flat_map (λ line. line ++ 10 ∷ []) (fit_cert_lines cert)
 text-ended cert =
     let own : List ℕ = ended_fit_line (ToleranceLine cert.tolerance) in
@@ -285,6 +289,7 @@ offs-whole n (r ∷ reasons) more top all rest =
     (off-one r (off-small n r top (All-head (IsOffOf n) r reasons all)))
     (offs-whole n reasons more top (All-tail (IsOffOf n) r reasons all) rest)
 
+-- each line of a certificate is one line: no LF stands within it
 pub lines-whole : (n : ℕ) (cert : FitCertificate) → IsFitCertificateOf n cert → All IsOneLine (fit_cert_lines cert)
 lines-whole n cert is =
     let own : ℕ = cert.tolerance in

@@ -66,6 +66,7 @@ taken-count said next (ToleranceLine own) is =
 taken-count said next (OffLine r) is = off-count r said.tolerance said.mesh said.needed said.beyond next is
 taken-count said next MeshLine is = mesh-count said.tolerance said.mesh said.needed said.beyond next is
 
+-- behind a line that is read, one line more has been said
 pub line-count : (n : ℕ) (said next : FitReadSoFar) (bytes : List ℕ) → fit_line_in n said bytes ≡ Some next
     → fit_line_count next ≡ fit_line_count said + 1
 line-count n said next bytes is = go (read_fit_line n bytes) is

@@ -82,6 +82,7 @@ file-ok total (Whole h rest) g e =
     (let found = answer-ok h (samples_at h (total - length rest) rest) g e in (h, rest, refl, found.0, found.1))
 file-ok total (Bad fault) g e = absurd (ok-err g (header_fault fault) (sym e))
 
+-- whatever the header's answer is, the file's is not that it is out of memory
 pub file-memory : (total : ℕ) (answer : HeaderAnswer) → file_answer total answer ≡ Err NoMemory → ⊥
 file-memory total Part e = cc
 file-memory total (Whole h rest) e =
@@ -103,6 +104,7 @@ module _ (bytes : List ℕ) (h : Header) where
       let sum : length bytes ≡ length has.text + length rest = ap length has.cut ∙ length-append has.text rest in
       omega (arith, sum, has.place)
 
+  -- the header of a file is read, and what it leaves begins where the header ends
   pub has-whole : head.HeaderTextsAreRead → (at : ℕ) (rest : List ℕ) → HasHeader bytes h at rest
       → (reading.header_of bytes ≡ Whole h rest) × (length bytes - length rest ≡ at)
   has-whole texts at rest has = (
@@ -110,6 +112,7 @@ module _ (bytes : List ℕ) (h : Header) where
     omega (arith, has-length at rest has),
   )
 
+  -- a header that is read is the header of the file, and what it leaves is what follows
   pub whole-has : head.ReadTextsAreHeaders → (rest : List ℕ) → reading.header_of bytes ≡ Whole h rest →
       HasHeader bytes h (length bytes - length rest) rest
   whole-has read rest e =
@@ -216,6 +219,7 @@ raster-short short h at heights rest valid near many is e = by-form (form_of h.p
 
 -- The laws.
 
+-- a file text of a grid is read as that grid
 pub law-texts : head.HeaderTextsAreRead → laws.RastersAreRead → TextsAreRead
 unfolding grid_of
 law-texts texts rasters g bytes valid is =
@@ -247,6 +251,7 @@ law-texts texts rasters g bytes valid is =
     (omega (arith, has-length bytes h (length is.header) is.raster has, is.short)) is.is_raster
     valid.count valid.bounded)
 
+-- bytes that are read as a grid are a file text of it
 pub law-grids : head.ReadTextsAreHeaders → laws.ReadBytesAreRasters → laws.ReadRastersAreShort → GridsHaveTexts
 unfolding grid_of
 law-grids read rasters short g bytes all e =
@@ -284,6 +289,7 @@ law-grids read rasters short g bytes all e =
       },
     )
 
+-- bytes that are read as a grid begin with an accepted header, which has its level and its maxval
 pub law-headers : head.ReadTextsAreHeaders → GridsHaveHeaders
 unfolding grid_of
 law-headers read g bytes e =
@@ -296,6 +302,7 @@ law-headers read g bytes e =
       sym (ap (λ (f : HeightField). f.maxval) found.4),
     )
 
+-- no bytes of a file are refused as out of memory
 pub law-others : OthersAreAbsent
 unfolding grid_of
 law-others bytes = no-memory (grid_of bytes) (file-memory (length bytes) (reading.header_of bytes))
@@ -310,6 +317,7 @@ module _ (texts : head.HeaderTextsAreRead) (read : head.ReadTextsAreHeaders) whe
   raster-place : (bytes : List ℕ) (h : Header) (at : ℕ) (rest : List ℕ) → HasHeader bytes h at rest → at ≤ 268435456
   raster-place bytes h at rest has = omega (arith, has.place, has.short)
 
+  -- a file is truncated exactly where its bytes end before its header does, or before its samples do
   pub law-truncated : head.PartsArePrefixes → laws.CutRastersAreRefused → CutTextsAreRefused
   law-truncated parts cut bytes all = truncated-law texts read bytes _
       (λ h at rest. IsRasterCutShort (form_of h.plain h.maxval) (point_count h.n) h.maxval rest
@@ -317,6 +325,7 @@ module _ (texts : head.HeaderTextsAreRead) (read : head.ReadTextsAreHeaders) whe
       (λ h at rest has. cut (form_of h.plain h.maxval) (point_count h.n) h.maxval at rest
       (raster-place bytes h at rest has) (has-bytes bytes h at rest has all))
 
+  -- a trailing byte is answered exactly at the place of the first that may not stand behind the last sample
   pub law-trailing : laws.RastersRefuseTrailingBytes → TrailingBytesAreRefused
   law-trailing law bytes p all = raster-law texts read bytes (raster.Trailing p)
       (λ h at rest. (place : ℕ) × (p ≡ at + place) × IsTrailingAt (form_of h.plain h.maxval)
@@ -324,12 +333,14 @@ module _ (texts : head.HeaderTextsAreRead) (read : head.ReadTextsAreHeaders) whe
       (λ h at rest has. law (form_of h.plain h.maxval) (point_count h.n) h.maxval at rest p
       (raster-place bytes h at rest has) (has-bytes bytes h at rest has all))
 
+  -- a sample above maxval is answered exactly at the index of the first that is
   pub law-above : laws.RastersRefuseGreatSamples → GreatSamplesAreRefused
   law-above law bytes index all = raster-law texts read bytes (raster.AboveMaxval index)
       (λ h at rest. laws.IsAboveWithin (form_of h.plain h.maxval) (point_count h.n) h.maxval at rest index) (λ e. cc)
       (λ h at rest has. law (form_of h.plain h.maxval) (point_count h.n) h.maxval at rest index
       (raster-place bytes h at rest has) (has-bytes bytes h at rest has all))
 
+  -- a bad sample is answered exactly at the place of the byte that continues none, in plain rasters alone
   pub law-bad_sample : laws.RastersRefuseBadSamples → BadSamplesAreRefused
   law-bad_sample law bytes p all = raster-law texts read bytes (raster.BadSample p)
       (λ h at rest. (h.plain ≡ true) × (place : ℕ) × (p ≡ at + place)
@@ -341,6 +352,7 @@ module _ (texts : head.HeaderTextsAreRead) (read : head.ReadTextsAreHeaders) whe
         λ x. there.1 ((plain-form h.plain h.maxval).1 x.0, x.1, x.2, x.3, x.4),
       ))
 
+  -- a file is too long exactly where it is plain, goes beyond the limit, and none of its bytes before it is refused
   pub law-too_long : laws.LongRastersAreRefused → LongFilesAreRefused
   law-too_long law bytes = raster-law texts read bytes raster.TooLong
       (λ h at rest. (h.plain ≡ true) × (most_file_bytes < length bytes)

@@ -23,10 +23,12 @@ use Rattle.pgm_grid.proofs.FaultLemmas.{no_header-memory, header-truncated, same
 
 -- Settled readers.
 
+-- a reader that has refused a byte keeps to its refusal
 pub refused-settled : (fault : PgmFault) → StaysRefused (HasRefused fault) fault
 unfolding StaysRefused resume
 refused-settled fault = λ more. refl
 
+-- a reader keeps to one refusal at most
 pub settled-same : (reader : Progress) (one other : PgmFault) → StaysRefused reader one →
     StaysRefused reader other → one ≡ other
 unfolding StaysRefused
@@ -213,12 +215,14 @@ taken-more start reader new piece i below so_far means counted free = record {
 
 -- A reader that is new.
 
+-- a reader of headers that has taken no byte and may still refuse one is in a header that goes on
 pub new-header : (reader : reading.HeaderProgress) →
     ((more : List ℕ) → reading.resume_header reader more ≡ reading.header_of more) → reading.header_taken reader ≡ 0
     → ((more : List ℕ) × (fault : HeaderFault) × (reading.resume_header reader more ≡ Bad fault)) → IsOpenHeader reader
 unfolding reading.header_of
 new-header reader means none refusable = record { part = means []; small = omega (arith, none); refusable = refusable }
 
+-- a reader that has taken no byte answers what the bytes mean as a file
 pub new-resume : (reader : reading.HeaderProgress) →
     ((more : List ℕ) → reading.resume_header reader more ≡ reading.header_of more) → reading.header_taken reader ≡ 0
     → (more : List ℕ) → resume (InHeader reader) more ≡ grid_of more
@@ -227,6 +231,7 @@ new-resume reader means none more =
     let total : reading.header_taken reader + length more ≡ length more = omega (arith, none) in
     ap (λ n. file_answer n (reading.resume_header reader more)) total ∙ ap (file_answer (length more)) (means more)
 
+-- a reader whose header has taken no byte has taken none
 pub new-taken : (reader : reading.HeaderProgress) → reading.header_taken reader ≡ 0 → taken (InHeader reader) ≡ 0
 unfolding taken
 new-taken reader none = none
@@ -269,14 +274,17 @@ raster-begun laws header at reader valid means small = record {
 
 -- The end of a file.
 
+-- a file that ends in its header is truncated
 pub end-header : (reader : reading.HeaderProgress) → IsOpenHeader reader → resume (InHeader reader) [] ≡ Err Truncated
 unfolding resume
 end-header reader free = ap (file_answer (reading.header_taken reader + 0)) free.part
 
+-- a reader that has refused a byte answers its refusal at the end of the file
 pub end-refused : (fault : PgmFault) → resume (HasRefused fault) [] ≡ Err fault
 unfolding resume
 end-refused fault = refl
 
+-- a file that ends in its raster is answered as the raster is, behind its header
 pub end-raster : (header : Header) (reader : samples.RasterProgress) (answer : samples.RasterAnswer) →
     samples.resume_raster reader [] ≡ answer
     → resume (InRaster header reader) [] ≡ grid_answer header answer

@@ -94,6 +94,7 @@ level_judged v (Some n) e fine square level =
       height = sym square ∙ level.1;
     }
 
+-- what the tests of the values answer is so
 pub judges : (v : HeaderValues) → JudgedAs v (judged v)
 judges v =
     cond_both (v.maxval == 0 || nat_lt 65535 v.maxval) (Err BadMaxval) _ (JudgedAs v)
@@ -129,6 +130,7 @@ same_header v g h a b =
     let maxval : g.maxval ≡ h.maxval = a.maxval ∙ sym b.maxval in
     same_fields g.plain h.plain g.n h.n g.maxval h.maxval plain level maxval
 
+-- values that are accepted as a header are answered as this header
 pub accepted_as : (v : HeaderValues) (h : Header) (r : Result Header HeaderFault) →
     JudgedAs v r → Accepts v h → r ≡ Ok h
 accepted_as v h (Ok g) j a = ap (λ (x : Header). Ok x) (same_header v g h j a)
@@ -139,6 +141,7 @@ accepted_as v h (Err BadMagic) j a = absurd j
 accepted_as v h (Err (BadHeader at)) j a = absurd j
 accepted_as v h (Err HeaderTooLong) j a = absurd j
 
+-- values whose maxval is not accepted are refused for it
 pub maxval_as : (v : HeaderValues) (r : Result Header HeaderFault) → JudgedAs v r →
     ¬ IsMaxval v.maxval → r ≡ Err BadMaxval
 maxval_as v (Ok g) j a = absurd (a (subst IsMaxval j.maxval j.valid.maxval))
@@ -149,6 +152,7 @@ maxval_as v (Err BadMagic) j a = absurd j
 maxval_as v (Err (BadHeader at)) j a = absurd j
 maxval_as v (Err HeaderTooLong) j a = absurd j
 
+-- else values whose width and height differ are refused for that
 pub oblong_as : (v : HeaderValues) (r : Result Header HeaderFault) → JudgedAs v r → IsMaxval v.maxval →
     (v.width ≢ v.height) → r ≡ Err NotSquare
 oblong_as v (Ok g) j fine a = absurd (a (j.width ∙ sym j.height))
@@ -159,6 +163,7 @@ oblong_as v (Err BadMagic) j fine a = absurd j
 oblong_as v (Err (BadHeader at)) j fine a = absurd j
 oblong_as v (Err HeaderTooLong) j fine a = absurd j
 
+-- else values whose side is that of no level are refused for it
 pub side_as : (v : HeaderValues) (r : Result Header HeaderFault) → JudgedAs v r → IsMaxval v.maxval →
     v.width ≡ v.height → ((n : ℕ) → IsLevel n → v.width ≢ side_of n) → r ≡ Err BadSide
 side_as v (Ok g) j fine square a = absurd (a g.n j.valid.level j.width)

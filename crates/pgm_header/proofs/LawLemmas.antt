@@ -310,10 +310,12 @@ back_unfit bytes k short wrong =
 
 -- The laws.
 
+-- a header's text that is not too long, with values that are accepted, is read, whatever follows
 pub texts : HeaderTextsAreRead
 texts = λ text rest v h is short a. back_whole (text ++ rest) text rest v is short refl
     ∙ ap (λ (r : Result Header HeaderFault). whole_answer r rest) (accepted_as v h (judged v) (judges v) a)
 
+-- what is read is such a text, and then what is left
 pub read : ReadTextsAreHeaders
 read = λ bytes rest h e. subst (Means bytes) e (means bytes)
 
@@ -328,13 +330,16 @@ no_more text [] v o is other =
 no_more text (x ∷ more) v o is other =
     let w = front_walked text (x ∷ more, o, omega arith, other) in absurd (no_text text w.0 v w.1 is)
 
+-- no header's text goes on as another, and none has two values
 pub prefix_free : NoTextGoesOn
 prefix_free = no_more
 
+-- bytes are a part of a header exactly where they are a proper prefix of one, and not too long
 pub parts : PartsArePrefixes
 parts = λ bytes.
     (λ e. subst (Means bytes) e (means bytes), λ w. let t = front_walked bytes w.0 in of_front bytes t.0 t.1 w.1)
 
+-- a bad magic is answered exactly where the first or the second byte continues no header
 pub bad_magics : HeadersRefuseBadMagics
 bad_magics = λ bytes. (
   λ e. subst (Means bytes) e (means bytes),
@@ -342,12 +347,14 @@ bad_magics = λ bytes. (
       ∙ ap (λ (b : Bool). Bad (cond b BadMagic (BadHeader w.0))) (lt-ltb w.0 2 w.1),
 )
 
+-- a bad header is answered exactly at the place of a later byte that continues none
 pub bad_headers : HeadersRefuseBadBytes
 bad_headers = λ bytes place. (
   λ e. subst (Means bytes) e (means bytes),
   λ w. back_unfit bytes place w.1 w.2 ∙ ap (λ (b : Bool). Bad (cond b BadMagic (BadHeader place))) (le-ltb place 2 w.0),
 )
 
+-- a header is too long exactly where as many bytes as it may have are a proper prefix of one
 pub long_headers : HeadersRefuseTooMuch
 long_headers = λ bytes. (
   λ e. subst (Means bytes) e (means bytes),
@@ -357,18 +364,21 @@ long_headers = λ bytes. (
       of_long bytes (take 65536 bytes) (drop 65536 bytes) t.0 (sym (take-append-drop 65536 bytes)) t.1 (omega arith),
 )
 
+-- a bad maxval is answered exactly where a header begins the bytes whose maxval is not accepted
 pub bad_maxvals : HeadersRefuseBadMaxvals
 bad_maxvals = λ bytes. (
   λ e. subst (Means bytes) e (means bytes),
   λ w. back_judged bytes w.0 BadMaxval w.1 (maxval_as w.0 (judged w.0) (judges w.0) w.2),
 )
 
+-- not square is answered exactly where the maxval is accepted, and the width and the height differ
 pub oblongs : HeadersRefuseOblongs
 oblongs = λ bytes. (
   λ e. subst (Means bytes) e (means bytes),
   λ w. back_judged bytes w.0 NotSquare w.1 (oblong_as w.0 (judged w.0) (judges w.0) w.2 w.3),
 )
 
+-- a bad side is answered exactly where the maxval is accepted, and the width is the height, but no level's side
 pub bad_sides : HeadersRefuseBadSides
 bad_sides = λ bytes. (
   λ e. subst (Means bytes) e (means bytes),
@@ -407,11 +417,13 @@ run_stands (b ∷ bytes) more s place =
     step_stands (step_of s b) place bytes more (λ u. run bytes u (place + 1)) (λ u. run (bytes ++ more) u (place + 1))
     (λ u. run_stands bytes more u (place + 1))
 
+-- no later byte changes a header that was read: it is left
 pub read_stands : ReadHeadersStand
 unfolding header_of
 read_stands = λ bytes rest more h e. subst (λ (a : HeaderAnswer). Stands more a (header_of (bytes ++ more))) e
     (run_stands bytes more Start 0)
 
+-- no later byte changes a refusal
 pub refusal_stands : RefusalsStand
 unfolding header_of
 refusal_stands = λ bytes more f e. subst (λ (a : HeaderAnswer). Stands more a (header_of (bytes ++ more))) e

@@ -234,6 +234,7 @@ walk_on (Goes t) next = next t
 walk_on (Ends v) next = None
 walk_on Fails next = None
 
+-- the state behind all of the bytes, from this one on, if none of them ends the header or is refused
 abbrev pub walk : List ℕ → State → Option State
 walk [] s = Some s
 walk (b ∷ more) s = walk_on (step_of s b) (λ t. walk more t)
@@ -249,6 +250,7 @@ append_on (Goes u) a b t again e = again u e
 append_on (Ends v) a b t again e = absurd (cc)
 append_on Fails a b t again e = absurd (cc)
 
+-- a walk over more bytes goes on where the one over the first ends
 pub walk-append : (a b : List ℕ) (s t : State) → walk a s ≡ Some t → walk (a ++ b) s ≡ walk b t
 walk-append [] b s t e = let same : s ≡ t = cc in ap (walk b) same
 walk-append (x ∷ a) b s t e = append_on (step_of s x) a b t (λ u. walk-append a b u t) e
@@ -262,6 +264,7 @@ split_on (Goes s) a b u again e = again s e
 split_on (Ends v) a b u again e = absurd (cc)
 split_on Fails a b u again e = absurd (cc)
 
+-- a walk over two lists of bytes is one over the first, and from its end one over the second
 pub walk_split : (a b : List ℕ) (s u : State) → walk (a ++ b) s ≡ Some u →
     (t : State) × (walk a s ≡ Some t) × (walk b t ≡ Some u)
 walk_split [] b s u e = (s, refl, e)
@@ -433,6 +436,7 @@ pub record IsWalked (bytes : List ℕ) (values : HeaderValues) : Type 0 where
   pub walked : walk front Start ≡ Some state
   pub ends : step_of state last ≡ Ends values
 
+-- a header's text is a walk, and then a byte that ends it
 pub complete : (bytes : List ℕ) (v : HeaderValues) → IsHeaderText bytes v → IsWalked bytes v
 complete bytes v t =
     let magic : Fields = fields.Magic v.plain in

@@ -38,41 +38,49 @@ run_fails s place b more e = rw e refl
 
 -- The same of a reader as clauses see it.
 
+-- a byte with which the header goes on is taken, and the reader comes to the next place
 pub resume_goes : (p q : HeaderProgress) (b : ℕ) (more : List ℕ) → step_of p.state b ≡ Goes q.state →
     (p.place ≡ 65535 → ⊥) → q.place ≡ p.place + 1 → resume_header p (b ∷ more) ≡ resume_header q more
 unfolding resume_header
 resume_goes p q b more e on next = run_goes p.state q.state p.place b more e on ∙ ap (run more q.state) (sym next)
 
+-- where the header goes on at the last place that it may have, it is too long
 pub resume_long : (p : HeaderProgress) (t : State) (b : ℕ) (more : List ℕ) → step_of p.state b ≡ Goes t →
     p.place ≡ 65535 → resume_header p (b ∷ more) ≡ Bad HeaderTooLong
 unfolding resume_header
 resume_long p t b more e last = run_long p.state t p.place b more e last
 
+-- a byte that ends the header gives it, and leaves what follows, where its values are accepted
 pub resume_ends : (p : HeaderProgress) (v : HeaderValues) (h : Header) (b : ℕ) (more : List ℕ) →
     step_of p.state b ≡ Ends v → judged v ≡ Ok h → resume_header p (b ∷ more) ≡ Whole h more
 unfolding resume_header
 resume_ends p v h b more e fine =
     run_ends p.state v p.place b more e ∙ ap (λ (r : Result Header HeaderFault). whole_answer r more) fine
 
+-- where its values are refused, so is the header
 pub resume_judged : (p : HeaderProgress) (v : HeaderValues) (f : HeaderFault) (b : ℕ) (more : List ℕ) →
     step_of p.state b ≡ Ends v → judged v ≡ Err f → resume_header p (b ∷ more) ≡ Bad f
 unfolding resume_header
 resume_judged p v f b more e bad =
     run_ends p.state v p.place b more e ∙ ap (λ (r : Result Header HeaderFault). whole_answer r more) bad
 
+-- a byte that continues no header is refused, at the reader's place
 pub resume_fails : (p : HeaderProgress) (b : ℕ) (more : List ℕ) → step_of p.state b ≡ Fails →
     resume_header p (b ∷ more) ≡ Bad (unfit p.place)
 unfolding resume_header
 resume_fails p b more e = run_fails p.state p.place b more e
 
+-- where no byte comes, there is a part of a header
 pub resume_none : (p : HeaderProgress) → resume_header p [] ≡ Part
 unfolding resume_header
 resume_none p = refl
 
+-- a reader has taken as many bytes as its place says
 pub taken_place : (p : HeaderProgress) → header_taken p ≡ p.place
 unfolding header_taken
 taken_place p = refl
 
+-- a reader at the start answers what the bytes mean from their beginning
 pub resume_start : (more : List ℕ) → resume_header (record { state = Start; place = 0 }) more ≡ header_of more
 unfolding resume_header header_of
 resume_start more = refl
@@ -114,6 +122,7 @@ state_refused room place (Comment before) e = comment_refused room place before 
 state_refused room place (Number before digits value) e =
     (35 ∷ [], unfit place, run_fails (Number before digits value) place 35 [] refl)
 
+-- from each state, at a place that a header may have, some bytes are refused
 pub resume_refused : (p : HeaderProgress) → p.place ≤ 65535 →
     (more : List ℕ) × (fault : HeaderFault) × (resume_header p more ≡ Bad fault)
 unfolding resume_header
@@ -147,6 +156,7 @@ part_refused (b ∷ bytes) s place within part =
         absurd (whole_no-part (judged v) bytes (sym (run_ends s v place b bytes is) ∙ part))
     by_step later Fails is limit = absurd (bad_no-part (unfit place) (sym (run_fails s place b bytes is) ∙ part))
 
+-- bytes that are a part of a header are refused with some that follow
 pub part_refusable : PartsAreRefusable
 unfolding header_of
 part_refusable bytes part = part_refused bytes Start 0 (omega arith) part

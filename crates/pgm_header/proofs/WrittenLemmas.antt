@@ -55,6 +55,7 @@ lines_gap comments good =
       text = ap (λ (t : List ℕ). 10 ∷ t) (lines_bytes comments);
     }
 
+-- a header as programs write it is a header's text, with any comment lines
 pub written : WrittenHeadersAreTexts
 written = λ values comments width height maxval good.
     record {

@@ -34,6 +34,7 @@ use Rattle.pgm_raster.proofs.UnlimitedLemmas.{unlimited-digit, rest-within, agre
 
 -- ---- texts that are joined
 
+-- the ended texts of some samples, and behind them those of others, are the ended texts of both
 pub ended_texts-append : (a b p q : List ℕ) → AreEndedTexts a p → AreEndedTexts b q → AreEndedTexts (a ++ b) (p ++ q)
 ended_texts-append [] [] p q x y = All-append IsWhite p q x y
 ended_texts-append [] (s ∷ b) p q x y = (
@@ -98,6 +99,7 @@ nothing-cut Plain = refl
 
 -- ---- what an answer tells of the bytes, behind `index` samples
 
+-- what the answer says of the bytes is so, in the words of the format; it never says that they are too long
 abbrev pub Told : RasterForm → Limits → ℕ → ℕ → List ℕ → RasterAnswer → Type 0
 Told f l index at bytes (Ok samples) =
     IsRaster f samples bytes × (index + length samples ≡ l.count) × All (λ h. h ≤ l.maxval) samples
@@ -259,6 +261,7 @@ told-trailing f l index at byte more full stray = (
 
 -- ---- what the bytes of a raw raster are
 
+-- what the answer says of a raw raster, one byte a sample, is so
 pub bytes-told : (l : Limits) (bytes : List ℕ) (index at : ℕ) → index ≤ l.count →
     Told Bytes l index at bytes (bytes_from l index at bytes)
 bytes-told l [] index at room = told-end Bytes l index at room
@@ -271,6 +274,7 @@ bytes-told l (byte ∷ more) index at room =
           (told-trailing Bytes l index at byte more (omega arith) tt)
     ]
 
+-- the same of two bytes a sample
 pub words-told : (l : Limits) (bytes : List ℕ) (index at : ℕ) → index ≤ l.count → All (λ b. b < 256) bytes →
     Told Words l index at bytes (words_from l index None at bytes)
 words-told l [] index at room all = told-end Words l index at room
@@ -315,6 +319,7 @@ words-told l (high ∷ low ∷ more) index at room all =
 abbrev pub digits_of : List ℕ → Digits
 digits_of text = record { count = length text; value = value_of text }
 
+-- one more digit behind those of a text makes the digits of the text with it
 pub digits-push : (text : List ℕ) (byte : ℕ) → with_digit (digits_of text) byte ≡ digits_of (text ++ byte ∷ [])
 digits-push text byte =
     ap₂ (λ (c : ℕ) (v : ℕ). let d : Digits = record { count = c; value = v } in d) (sym (length_push text byte))
@@ -525,6 +530,7 @@ spaces-read l (byte ∷ gap) index at more all =
     ∙ spaces-read l gap index (at + 1) more (All-tail IsWhite byte gap all)
     ∙ ap (λ (p : ℕ). plain_unlimited l index no_digits p more) e
 
+-- the digits of a sample that is still wanted are taken, up to nine with those before
 pub digits-read : (l : Limits) (text before : List ℕ) (index at : ℕ) (more : List ℕ) → index < l.count →
     All IsDigit text → length before + length text ≤ 9
     → plain_unlimited l index (digits_of before) at (text ++ more)
@@ -559,6 +565,7 @@ text-last l text sample index at is =
     pending l index text (λ i. end_at l i) (omega (arith, is.some))
     ∙ ap (λ (v : ℕ). sample_then l index v (end_at l (index + 1))) is.value
 
+-- samples that are ended and wanted, none above maxval, are read, and then what follows
 pub plain-read : (l : Limits) (samples front : List ℕ) (index at : ℕ) (more : List ℕ) → AreEndedTexts samples front →
     index + length samples ≤ l.count → All (λ h. h ≤ l.maxval) samples
     → plain_unlimited l index no_digits at (front ++ more)
@@ -652,6 +659,7 @@ end-whole l samples index full =
     ap (after samples) (cond-false _ _ _ (le-ltb index l.count full))
     ∙ ap (λ (s : List ℕ). let r : RasterAnswer = Ok s in r) (append-nil samples)
 
+-- without a limit, bytes that end too early are truncated
 pub cut-read : (f : RasterForm) (l : Limits) (bytes : List ℕ) (at : ℕ) → IsRasterCutShort f l.count l.maxval bytes →
     rest_unlimited l 0 (nothing_of f) at bytes ≡ Err Truncated
 cut-read Bytes l bytes at w =
@@ -682,6 +690,7 @@ stray-read Words l index at byte more full stray = cond-false _ _ _ (le-ltb inde
 stray-read Plain l index at byte more full stray =
     unlimited-full l index no_digits at byte more (white-isnt byte stray) full
 
+-- without a limit, a byte that may not stand behind the last sample is refused at its place
 pub trailing-read : (f : RasterForm) (l : Limits) (bytes : List ℕ) (at place p : ℕ) → p ≡ at + place →
     IsTrailingAt f l.count l.maxval bytes place → rest_unlimited l 0 (nothing_of f) at bytes ≡ Err (Trailing p)
 trailing-read f l bytes at place p e w =
@@ -715,6 +724,7 @@ above-text Plain l index at sample text (byte ∷ more) is ends wanted above =
     ∙ text-ended l text sample index (at + length text) byte more is ends
     ∙ sample-refused l index sample (plain_unlimited l (index + 1) no_digits (at + length text + 1) more) above
 
+-- without a limit, a sample above maxval is refused at its index
 pub above-read : (f : RasterForm) (l : Limits) (bytes : List ℕ) (at index : ℕ) →
     IsAboveAt f l.count l.maxval bytes index → rest_unlimited l 0 (nothing_of f) at bytes ≡ Err (AboveMaxval index)
 above-read f l bytes at index w =
@@ -728,6 +738,7 @@ above-read f l bytes at index w =
     err_at : ℕ → RasterAnswer
     err_at k = Err (AboveMaxval k)
 
+-- without a limit, a byte that continues no sample of a plain raster is refused at its place
 pub bad-read : (l : Limits) (bytes : List ℕ) (at place p : ℕ) → p ≡ at + place →
     IsBadSampleAt l.count l.maxval bytes place → plain_unlimited l 0 no_digits at bytes ≡ Err (BadSample p)
 bad-read l bytes at place p e w =
@@ -768,6 +779,7 @@ told-by f l at bytes r all e short =
     agreed f l at bytes (λ s. s ≡ r → Told f l 0 at bytes r) (λ long. absurd (short (sym long)))
     (λ same. subst (Told f l 0 at bytes) same (all-told f l at bytes all)) e
 
+-- a raster of so many samples, none above maxval, is read as its samples
 pub rasters : RastersAreRead
 unfolding raster_of
 rasters f count maxval at samples bytes within raster size all =
@@ -775,6 +787,7 @@ rasters f count maxval at samples bytes within raster size all =
     rest-within f l at bytes within ∙ raster-read f l samples bytes 0 at raster (omega arith) all
     ∙ end-whole l samples (0 + length samples) (omega arith)
 
+-- bytes that are read are a raster of what is read: so many samples, none above maxval
 pub samples_back : ReadBytesAreRasters
 unfolding raster_of
 samples_back f count maxval at samples bytes all e =

@@ -382,6 +382,7 @@ above-within l at index bytes w = by-more w.above.more refl
 
 -- ---- the laws
 
+-- bytes are truncated exactly where they end too early, and before the limit
 pub truncated : CutRastersAreRefused
 unfolding raster_of
 truncated f count maxval at bytes room all =
@@ -407,6 +408,7 @@ truncated f count maxval at bytes room all =
     read Plain w within = plain-within (record { count = count; maxval = maxval }) bytes 0 no_digits at within
         ∙ cut-read Plain (record { count = count; maxval = maxval }) bytes at w
 
+-- a trailing byte is answered exactly at its place, before the limit
 pub trailing : RastersRefuseTrailingBytes
 unfolding raster_of
 trailing f count maxval at bytes p room all =
@@ -456,6 +458,7 @@ trailing f count maxval at bytes p room all =
         (trailing-read Plain (record { count = count; maxval = maxval }) (w.front ++ w.byte ∷ []) at place p here short)
         (trailing-read Plain (record { count = count; maxval = maxval }) bytes at place p here w)
 
+-- a sample above maxval is answered exactly at its index, where its text ends before the limit
 pub above : RastersRefuseGreatSamples
 unfolding raster_of
 above f count maxval at bytes index room all = (λ e. told f e, λ w. read f w)
@@ -510,6 +513,7 @@ above f count maxval at bytes index room all = (λ e. told f e, λ w. read f w)
     read Words w = above-read Words (record { count = count; maxval = maxval }) bytes at index w.above
     read Plain w = above-within (record { count = count; maxval = maxval }) at index bytes w
 
+-- a byte that continues no sample is answered exactly at its place, before the limit, in plain rasters alone
 pub bad_sample : RastersRefuseBadSamples
 unfolding raster_of
 bad_sample f count maxval at bytes p room all =

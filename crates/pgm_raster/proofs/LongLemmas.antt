@@ -124,6 +124,7 @@ front-none l index i digits next at byte front step w =
     front-step l index i digits next at byte [] front
     (λ more. step more ∙ sym (after-nil (plain_from l i next (at + 1) more))) w
 
+-- bytes of a plain raster within the limit are refused whatever follows, or what follows decides
 pub front-cases : (l : Limits) (front : List ℕ) (index : ℕ) (digits : Digits) (at : ℕ) → at + length front
     ≤ most_bytes → Front l index digits at front
 front-cases l [] index digits at room =
@@ -213,6 +214,7 @@ beyond l at bytes place long =
 
 -- ---- the laws
 
+-- a plain raster that is read ends within the most bytes of a file
 pub short : ReadRastersAreShort
 unfolding raster_of
 short count maxval at samples bytes e place =
@@ -242,6 +244,7 @@ plain_long count maxval at bytes place e =
           (unlimited-short l bytes 0 no_digits at))
     ]
 
+-- a raster is too long exactly where it is plain, goes beyond the limit, and none of its bytes before it is refused
 pub too_long : LongRastersAreRefused
 unfolding raster_of
 too_long Bytes count maxval at bytes place = (

@@ -22,6 +22,7 @@ use Rattle.pgm_raster.proofs.RasterLemmas.{sample-passed, sample-refused, after-
 use Rattle.pgm_raster.proofs.PlainLemmas.{plain-full, plain-bad, plain-long}
 use Rattle.pgm_raster.proofs.LawLemmas.{Told, bytes-told, words-told}
 
+-- an answer is one refusal at most
 pub same_fault : (r : RasterAnswer) (f g : RasterFault) → r ≡ Err f → r ≡ Err g → f ≡ g
 same_fault r f g a b = let e : ◌≡◌ {A = RasterAnswer} (Err f) (Err g) = sym a ∙ b in cc
 
@@ -106,6 +107,7 @@ sample-ends l index sample f e =
           (sym (sample-passed l index sample (end_at l (index + 1)) fits) ∙ e))
     ]
 
+-- where the file ends behind digits, it is refused as truncated or for a sample above maxval, if at all
 pub digits-end : (l : Limits) (index : ℕ) (digits : Digits) (f : RasterFault) →
     ended_then l index digits (λ i. end_at l i) ≡ Err f → IsEndFault f
 digits-end l index digits f e =
@@ -129,6 +131,7 @@ x-ends l index digits at f place e ends =
           (plain-long l index digits at (120 ∷ []) (omega arith) (omega arith))) ends
     ]
 
+-- no refusal of a plain raster is the same for all bytes that may still come
 pub plain-open : (l : Limits) (samples : List ℕ) (index : ℕ) (digits : Digits) (at : ℕ)
     (f : RasterFault) → at ≤ most_bytes →
     ((more : List ℕ) → after samples (plain_from l index digits at more) ≡ Err f) → ⊥

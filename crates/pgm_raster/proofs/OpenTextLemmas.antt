@@ -221,6 +221,7 @@ open-unrefused l bytes at place w fault all =
 
 -- ---- the law
 
+-- none of a plain raster's bytes is refused exactly where they are ended samples and digits of one still wanted
 pub unrefused : OpenRastersAreUnrefused
 unfolding raster_of
 unrefused count maxval at front place =

@@ -15,18 +15,21 @@ use Rattle.pgm_raster.specs.Progress.{most_bytes, after, ended_then, no_digits, 
 
 -- ---- one more byte, before the most that a file has
 
+-- whitespace ends the digits before it, if there are any
 pub plain-space : (l : Limits) (index : ℕ) (digits : Digits) (at byte : ℕ) (more : List ℕ) → at < most_bytes →
     is_white byte ≡ true →
     plain_from l index digits at (byte ∷ more) ≡ ended_then l index digits (λ i. plain_from l i no_digits (at + 1) more)
 plain-space l index digits at byte more within space =
     cond-false _ _ _ (ne_eqb at most_bytes (λ e. omega arith)) ∙ cond-true _ _ _ space
 
+-- behind all samples a byte other than whitespace is trailing
 pub plain-full : (l : Limits) (index : ℕ) (digits : Digits) (at byte : ℕ) (more : List ℕ) → at < most_bytes →
     is_white byte ≡ false → l.count ≤ index → plain_from l index digits at (byte ∷ more) ≡ Err (Trailing at)
 plain-full l index digits at byte more within space full =
     cond-false _ _ _ (ne_eqb at most_bytes (λ e. omega arith)) ∙ cond-false _ _ _ space
     ∙ cond-false _ _ _ (le-ltb index l.count full)
 
+-- where a sample is still wanted, a digit is taken, the ninth at most
 pub plain-digit : (l : Limits) (index : ℕ) (digits : Digits) (at byte : ℕ) (more : List ℕ) → at < most_bytes →
     is_white byte ≡ false → index < l.count → (is_ascii_digit byte && nat_lt digits.count 9) ≡ true →
     plain_from l index digits at (byte ∷ more) ≡ plain_from l index (with_digit digits byte) (at + 1) more
@@ -34,6 +37,7 @@ plain-digit l index digits at byte more within space wanted digit =
     cond-false _ _ _ (ne_eqb at most_bytes (λ e. omega arith)) ∙ cond-false _ _ _ space
     ∙ cond-true _ _ _ (lt-ltb index l.count wanted) ∙ cond-true _ _ _ digit
 
+-- where a sample is still wanted, another byte or a tenth digit continues none
 pub plain-bad : (l : Limits) (index : ℕ) (digits : Digits) (at byte : ℕ) (more : List ℕ) → at < most_bytes →
     is_white byte ≡ false → index < l.count → (is_ascii_digit byte && nat_lt digits.count 9) ≡ false →
     plain_from l index digits at (byte ∷ more) ≡ Err (BadSample at)

@@ -31,16 +31,19 @@ rest_unlimited l index part.Bytes at more = bytes_from l index at more
 rest_unlimited l index (part.Words high) at more = words_from l index high at more
 rest_unlimited l index (part.Plain digits) at more = plain_unlimited l index digits at more
 
+-- without a limit, whitespace ends the digits before it, if there are any
 pub unlimited-space : (l : Limits) (index : ℕ) (digits : Digits) (at byte : ℕ) (more : List ℕ) → is_white byte ≡ true →
     plain_unlimited l index digits at (byte ∷ more)
     ≡ ended_then l index digits (λ i. plain_unlimited l i no_digits (at + 1) more)
 unlimited-space l index digits at byte more space = cond-true _ _ _ space
 
+-- without a limit, behind all samples a byte other than whitespace is trailing
 pub unlimited-full : (l : Limits) (index : ℕ) (digits : Digits) (at byte : ℕ) (more : List ℕ) → is_white byte ≡ false →
     l.count ≤ index → plain_unlimited l index digits at (byte ∷ more) ≡ Err (Trailing at)
 unlimited-full l index digits at byte more space full =
     cond-false _ _ _ space ∙ cond-false _ _ _ (le-ltb index l.count full)
 
+-- without a limit, where a sample is still wanted, a digit is taken, the ninth at most
 pub unlimited-digit : (l : Limits) (index : ℕ) (digits : Digits) (at byte : ℕ) (more : List ℕ) → is_white byte ≡ false →
     index < l.count → is_ascii_digit byte ≡ true → digits.count < 9 →
     plain_unlimited l index digits at (byte ∷ more) ≡ plain_unlimited l index (with_digit digits byte) (at + 1) more
@@ -68,6 +71,7 @@ plain-within l (byte ∷ more) index digits at within =
     (Err (Trailing at))))
     (plain-within l more index (with_digit digits byte) (at + 1) (omega arith))
 
+-- the same of rasters of each form
 pub rest-within : (f : RasterForm) (l : Limits) (at : ℕ) (bytes : List ℕ) → at + length bytes ≤ 2 ^ 28 →
     rest_of l 0 (nothing_of f) at bytes ≡ rest_unlimited l 0 (nothing_of f) at bytes
 rest-within Bytes l at bytes within = refl
@@ -112,6 +116,7 @@ agrees-cond : (test : Bool) (a b r u : RasterAnswer) → Agrees a r → Agrees b
 agrees-cond true a b r u x y = x
 agrees-cond false a b r u x y = y
 
+-- a plain raster is answered as if there were no limit, or is too long
 pub plain-agrees : (l : Limits) (bytes : List ℕ) (index : ℕ) (digits : Digits) (at : ℕ) →
     Agrees (plain_from l index digits at bytes) (plain_unlimited l index digits at bytes)
 plain-agrees l [] index digits at = inr refl

@@ -106,6 +106,7 @@ strip : (count maxval : ℕ) (r : RasterAnswer) → Wanted (record { count = cou
 strip count maxval (Ok samples) w = (omega (arith, w.0), w.1)
 strip count maxval (Err fault) w = tt
 
+-- what is read are so many samples, none above maxval, whatever the bytes are
 pub only_wanted : OnlyWantedSamplesAreRead
 unfolding raster_of
 only_wanted f count maxval at bytes =

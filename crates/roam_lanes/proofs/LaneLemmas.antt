@@ -172,6 +172,7 @@ slice_get-drop (suc n) i (x ∷ samples) =
     let e : suc n + i ≡ suc (n + i) = omega arith in
     slice_get-drop n i samples ∙ sym (ap (λ (k : ℕ). slice_get (x ∷ samples) k) e)
 
+-- a sample above max, at place i behind the first n, is one at place n + i of all samples
 pub above_behind : (max : ℕ) (samples : List ℕ) (n i : ℕ) →
     IsSomeAnd (slice_get (take (length samples - n) (drop n samples)) i) (λ h. max < h) →
     IsSomeAnd (slice_get samples (n + i)) (λ h. max < h)
@@ -192,6 +193,7 @@ sel-lesser [] ys = refl
 sel-lesser (x ∷ xs) [] = refl
 sel-lesser (x ∷ xs) (y ∷ ys) = ap₂ (λ (a : ℕ) (rest : List ℕ). a ∷ rest) (grind (arith, nat_tests)) (sel-lesser xs ys)
 
+-- the same test, with its choices exchanged, chooses the greater
 pub sel-greater : (xs ys : List ℕ) → sel_l (zip2 ltb xs ys) ys xs ≡ zip2 max xs ys
 sel-greater [] ys = refl
 sel-greater (x ∷ xs) [] = refl
@@ -208,6 +210,7 @@ least_more xs y m n h e = record {
       (cases_lt m y);
 }
 
+-- the same of the greatest
 pub greatest_more : (xs : List ℕ) (y m n : ℕ) → IsGreatest xs m → n ≡ max m y → IsGreatest (xs ++ y ∷ []) n
 greatest_more xs y m n h e = record {
   bound = All-append (λ x. x ≤ n) xs (y ∷ []) (All-weaker (λ x. x ≤ m) (λ x. x ≤ n) (λ x l. omega arith) xs h.bound)
@@ -229,6 +232,7 @@ least_joined xs ys m n first then =
           (λ l. Contains-append_right xs ys n l) (Contains-append_cases (m ∷ []) ys n then.held);
     }
 
+-- the same of the greatest
 pub greatest_joined : (xs ys : List ℕ) (m n : ℕ) → IsGreatest xs m → IsGreatest (m ∷ ys) n → IsGreatest (xs ++ ys) n
 greatest_joined xs ys m n first then =
     let high : m ≤ n = All-head (λ x. x ≤ n) m ys then.bound in
@@ -247,6 +251,7 @@ least_twice xs n some h = record {
       (λ l. l) (Contains-append_cases (get_or xs 0 0 ∷ []) xs n h.held);
 }
 
+-- the same of the greatest
 pub greatest_twice : (xs : List ℕ) (n : ℕ) → 0 < length xs → IsGreatest (get_or xs 0 0 ∷ xs) n → IsGreatest xs n
 greatest_twice xs n some h = record {
   bound = All-tail (λ x. x ≤ n) (get_or xs 0 0) xs h.bound;
@@ -259,6 +264,7 @@ pub record HaveLeast (samples lanes : List ℕ) : Type 0 where
   pub bound : (m : ℕ) → All (λ h. m ≤ h) lanes → All (λ h. m ≤ h) samples
   pub held : All (λ h. Contains samples h) lanes
 
+-- the same of bounds from above
 pub record HaveGreatest (samples lanes : List ℕ) : Type 0 where
   pub bound : (m : ℕ) → All (λ h. h ≤ m) lanes → All (λ h. h ≤ m) samples
   pub held : All (λ h. Contains samples h) lanes
@@ -270,6 +276,7 @@ least_of_lanes samples lanes m have least = record {
   held = All-contains (λ h. Contains samples h) lanes m have.held least.held;
 }
 
+-- and the greatest of the lanes is that of the samples
 pub greatest_of_lanes : (samples lanes : List ℕ) (m : ℕ) → HaveGreatest samples lanes →
     IsGreatest lanes m → IsGreatest samples m
 greatest_of_lanes samples lanes m have greatest = record {
@@ -281,6 +288,7 @@ greatest_of_lanes samples lanes m have greatest = record {
 pub have_least_first : (samples : List ℕ) → HaveLeast samples samples
 have_least_first samples = record { bound = λ m b. b; held = All-contains_itself samples }
 
+-- the same of the greatest
 pub have_greatest_first : (samples : List ℕ) → HaveGreatest samples samples
 have_greatest_first samples = record { bound = λ m b. b; held = All-contains_itself samples }
 
@@ -330,6 +338,7 @@ cut_block samples k =
     let next : 8 * (k + 1) ≡ 8 * k + 8 = omega arith in
     ap (λ (n : ℕ). take n samples) next ∙ take-add (8 * k) 8 samples
 
+-- the lesser of each lane and its sample in one more block have the least of the samples with this block
 pub have_least_more : (samples lows : List ℕ) (k : ℕ) → 8 * k + 8 ≤ length samples → length lows ≡ 8 →
     HaveLeast (take (8 * k) samples) lows →
     HaveLeast (take (8 * (k + 1)) samples) (zip2 min lows (chunk (8 * k) 8 samples))
@@ -349,6 +358,7 @@ have_least_more samples lows k room eight have =
     } in
     subst (λ (xs : List ℕ). HaveLeast xs (zip2 min lows block)) (sym (cut_block samples k)) joined
 
+-- the same of the greater
 pub have_greatest_more : (samples highs : List ℕ) (k : ℕ) → 8 * k + 8 ≤ length samples → length highs ≡ 8 →
     HaveGreatest (take (8 * k) samples) highs →
     HaveGreatest (take (8 * (k + 1)) samples) (zip2 max highs (chunk (8 * k) 8 samples))

@@ -35,17 +35,20 @@ none-of-nine f (k ∷ (l ∷ (m ∷ (n ∷ (o ∷ (x ∷ (y ∷ []))))))) many =
 none-of-nine f (k ∷ (l ∷ (m ∷ (n ∷ (o ∷ (x ∷ (y ∷ (z ∷ [])))))))) many = absurd (omega (arith, many))
 none-of-nine f (k ∷ (l ∷ (m ∷ (n ∷ (o ∷ (x ∷ (y ∷ (z ∷ (more ∷ rest))))))))) many = refl
 
+-- this case is none: eight words or more, and fewer than eight
 pub none-of-eight : {W : Type 0} (f : W → List ℕ) (ws : List W) → 8 ≤ length ws → length ws < 8 →
     command_of (map f ws) ≡ None
 none-of-eight f ws many few = absurd (omega (arith, many, few))
 
 -- there are too few or too many
 
+-- fewer than two words are no command
 pub none-of-few : {A : Type 0} (f : A → List ℕ) (words : List A) → length words < 2 → command_of (map f words) ≡ None
 none-of-few f [] few = refl
 none-of-few f (a ∷ []) few = refl
 none-of-few f (a ∷ (b ∷ words)) few = absurd (omega arith)
 
+-- four words are no command
 pub none-of-four : {A : Type 0} (f : A → List ℕ) (words : List A) → 3 < length words → length words < 5 →
     command_of (map f words) ≡ None
 none-of-four f [] low high = absurd (omega arith)
@@ -55,6 +58,7 @@ none-of-four f (a ∷ (b ∷ (c ∷ []))) low high = absurd (omega arith)
 none-of-four f (a ∷ (b ∷ (c ∷ (d ∷ [])))) low high = refl
 none-of-four f (a ∷ (b ∷ (c ∷ (d ∷ (e ∷ words))))) low high = absurd (omega arith)
 
+-- this case is none: more than six words, and fewer than seven
 pub none-of-many : {A : Type 0} (f : A → List ℕ) (words : List A) → 6 < length words → length words < 7 →
     command_of (map f words) ≡ None
 none-of-many f words many few = absurd (omega (arith, many, few))
