@@ -39,10 +39,12 @@ address-low n a fine = ⊎_elim
 
 -- ---- what waits
 
+-- the addresses of what waits, with one triangle more
 pub addresses-push : (waiting : List Waiting) (w : Waiting) →
     addresses_of (waiting ++ w ∷ []) ≡ addresses_of waiting ++ w.tri ∷ []
 addresses-push waiting w = map_push (λ w. w.tri) waiting w
 
+-- how often an address waits, with one triangle more
 pub waiting-push : (waiting : List Waiting) (w : Waiting) (a : ℕ)
     → times (addresses_of (waiting ++ w ∷ [])) a ≡ times (addresses_of waiting) a + same w.tri a
 waiting-push waiting w a = ap (λ ts. times ts a) (addresses-push waiting w) ∙ times-push (addresses_of waiting) w.tri a
@@ -63,6 +65,7 @@ map-swap_remove f xs k d e inside =
 
 module _ (n : ℕ) (places : PlaceState) (vertices : VertexState) (corners : List Indices) (waiting : List Waiting)
     (r s w : ℕ) (whole : IsWholeBuffer n places vertices corners waiting r s w) where
+  -- there are as many corners as triangles
   pub whole-long : length corners ≡ length places.triangles
   whole-long = sym (length-map corners (shown vertices.points)) ∙ ap length whole.drawn
       ∙ length-map places.triangles (grid_indices n)
@@ -133,6 +136,7 @@ module _ (n : ℕ) (places : PlaceState) (vertices : VertexState) (corners : Lis
 
   -- what waits has no place
   module _ (rest : List Waiting) (next : Waiting) (split : waiting ≡ rest ++ next ∷ []) where
+    -- how often an address waits, by the last that waits and the others
     pub next-times : (a : ℕ) → times (addresses_of waiting) a ≡ times (addresses_of rest) a + same next.tri a
     next-times a = ap (λ ws. times (addresses_of ws) a) split ∙ waiting-push rest next a
 
@@ -142,11 +146,13 @@ module _ (n : ℕ) (places : PlaceState) (vertices : VertexState) (corners : Lis
     next-long : length waiting ≡ length rest + 1
     next-long = ap length split ∙ length_push rest next
 
+    -- the last that waits has no place yet
     pub next-new : times places.triangles next.tri ≡ 0
     next-new =
         let one = same-one next.tri next.tri refl in
         omega (arith, whole.once next.tri, next-times next.tri)
 
+    -- the last that waits has its corners, and an address within the table
     pub next-ready : IsReadyToWrite n places.end vertices.points next
     next-ready =
         subst (λ y. IsReadyToWrite n places.end vertices.points y) (ap (λ ws. get_or ws (length rest) next) split

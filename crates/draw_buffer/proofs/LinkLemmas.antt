@@ -19,12 +19,14 @@ pub swap_remove-same : (ts : List ℕ) (k d e : ℕ) → k < length ts → swap_
 swap_remove-same ts k d e within =
     ap (λ t. take (length ts - 1) (set ts k t)) (get_or_default ts (length ts - 1) d e (omega arith))
 
+-- at the place that is taken out stands then what was last
 pub swap_remove-here : (ts : List ℕ) (k : ℕ) → k < length ts - 1 →
     get_or (swap_remove ts k 0) k 0 ≡ get_or ts (length ts - 1) 0
 swap_remove-here ts k within =
     get_or-take (length ts - 1) (set ts k (get_or ts (length ts - 1) 0)) k 0 within
     ∙ get_or-set_same ts k (get_or ts (length ts - 1) 0) 0 (omega arith)
 
+-- and at each other place what stood there
 pub swap_remove-other : (ts : List ℕ) (k j : ℕ) → j < length ts - 1 → j ≢ k →
     get_or (swap_remove ts k 0) j 0 ≡ get_or ts j 0
 swap_remove-other ts k j within apart =
@@ -57,6 +59,7 @@ module _ (ts ps : List ℕ) (linked : IsPlaceOfEach ts ps) where
   distinct : (i j : ℕ) → i < length ts → j < length ts → i ≢ j → get_or ts i 0 ≢ get_or ts j 0
   distinct i j hi hj u e = u (sym (linked i hi).1 ∙ ap (λ s. get_or ps s 0) e ∙ (linked j hj).1)
 
+  -- a triangle that has no place takes one where another stood
   pub IsLinked-put : (at t : ℕ) → at < length ts → t < length ps → times ts t ≡ 0 →
       IsPlaceOfEach (set ts at t) (set ps t at)
   IsLinked-put at t inside within away k hk = ⊎_elim
@@ -71,6 +74,7 @@ module _ (ts ps : List ℕ) (linked : IsPlaceOfEach ts ps) where
       ))
       (cases_eq k at)
 
+  -- it is put behind the last
   pub IsLinked-push : (t : ℕ) → t < length ps → times ts t ≡ 0 → IsPlaceOfEach (ts ++ t ∷ []) (set ps t (length ts))
   IsLinked-push t within away k hk = ⊎_elim
       (λ (e : k ≡ length ts).

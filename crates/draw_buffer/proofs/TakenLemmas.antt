@@ -115,6 +115,7 @@ uses-more us v u used is_u w = ⊎_elim
     omega arith)
     (cases_eq w v)
 
+-- the same with one less
 pub uses-less : (us : List ℕ) (v u : ℕ) → 0 < get_or us v 0 → u + 1 ≡ get_or us v 0 → (w : ℕ)
     → get_or (set us v u) w 0 + same v w ≡ get_or us w 0
 uses-less us v u used is_u w = ⊎_elim
@@ -175,6 +176,7 @@ taken-first before after p v unused first others total is_p points given end mos
 
 -- ---- at first
 
+-- an empty table is sound if there is room for as many uses as there may be
 pub sound-none : (ps us ns free : List ℕ) (most r1 r2 r3 r4 : ℕ) → ps ≡ [] → us ≡ [] → free ≡ [] → most < 2 ^ 32
     → most ≤ r1 → most ≤ r2 → most ≤ r3 → most ≤ r4
     → AreSound ps us ns free most r1 r2 r3 r4

@@ -13,47 +13,57 @@ use Rattle.draw_buffer.specs.Times.{times, same}
 
 -- ---- two numbers
 
+-- equal numbers count 1
 pub same-one : (t a : ℕ) → t ≡ a → same t a ≡ 1
 unfolding same
 same-one t a e = ap (λ b. cond b 1 0) (eq-eqb t a e)
 
+-- different numbers count 0
 pub same-other : (t a : ℕ) → t ≢ a → same t a ≡ 0
 unfolding same
 same-other t a u = ap (λ b. cond b 1 0) (ne_eqb t a u)
 
+-- two numbers count at most 1
 pub same-le : (t a : ℕ) → same t a ≤ 1
 same-le t a =
     ⊎_elim (λ e. let h = same-one t a e in omega arith) (λ u. let h = same-other t a u in omega arith) (cases_eq t a)
 
 -- ---- a list and its changes
 
+-- no number stands in the empty list
 pub times-none : (a : ℕ) → times [] a ≡ 0
 unfolding times
 times-none a = refl
 
+-- how often a number stands in a list with one more at the beginning
 pub times-cons : (t : ℕ) (ts : List ℕ) (a : ℕ) → times (t ∷ ts) a ≡ same t a + times ts a
 unfolding times same
 times-cons t ts a = sum_by-cons (λ t. same t a) t ts
 
+-- the same with one more at the end
 pub times-push : (ts : List ℕ) (t a : ℕ) → times (ts ++ t ∷ []) a ≡ times ts a + same t a
 unfolding times same
 times-push ts t a = sum_by_push (λ t. same t a) ts t
 
+-- the same with the one at place k replaced by t
 pub times-set : (ts : List ℕ) (k t a : ℕ) → k < length ts →
     times (set ts k t) a + same (get_or ts k 0) a ≡ times ts a + same t a
 unfolding times same
 times-set ts k t a within = sum_by-set (λ t. same t a) ts k t 0 within
 
+-- the same with the one at place k taken out
 pub times-swap_remove : (ts : List ℕ) (k d a : ℕ) → k < length ts →
     times (swap_remove ts k d) a + same (get_or ts k d) a ≡ times ts a
 unfolding times same
 times-swap_remove ts k d a within = sum_by-swap_remove (λ t. same t a) ts k d within
 
+-- from place k on a number stands as often as at place k and behind it together
 pub times-drop : (ts : List ℕ) (k a : ℕ) → k < length ts →
     times (drop k ts) a ≡ same (get_or ts k 0) a + times (drop (k + 1) ts) a
 unfolding times same
 times-drop ts k a within = sum_by-drop_more (λ t. same t a) ts k 0 within
 
+-- up to place k it stands as often as before place k and at place k together
 pub times-take : (ts : List ℕ) (k a : ℕ) → k < length ts →
     times (take (k + 1) ts) a ≡ times (take k ts) a + same (get_or ts k 0) a
 unfolding times same
@@ -92,6 +102,7 @@ times-place (t ∷ ts) a some =
 
 -- ---- one list within another
 
+-- a list with one entry taken out is one shorter
 pub length-swap_remove : {X : Type 0} (ts : List X) (k : ℕ) (d : X) → k < length ts →
     length (swap_remove ts k d) + 1 ≡ length ts
 length-swap_remove ts k d within =

@@ -22,6 +22,7 @@ swap_remove-rest xs at e k d within u =
     get_or-take (length xs - 1) (set xs at (get_or xs (length xs - 1) e)) k d within
     ∙ get_or-set_other xs at k (get_or xs (length xs - 1) e) d u
 
+-- where nothing changes, what is not told is as before
 pub told-none : (e : ExchangeState) → KeepsUntold e e
 told-none e = record {
   grows = λ k none. none;
@@ -30,6 +31,7 @@ told-none e = record {
   corners_stay = λ k d inside none. refl;
 }
 
+-- two changes that keep what is not told keep it one after the other
 pub told-trans : (e f g : ExchangeState) → KeepsUntold e f → KeepsUntold f g → KeepsUntold e g
 told-trans e f g first second = record {
   grows = λ k none. first.grows k (second.grows k none);
@@ -92,6 +94,7 @@ told-close e f at x inside long grows other triangles corners =
           ∙ swap_remove-rest e.corners at x k d (omega arith) (other k (omega arith) none);
     }
 
+-- the last takes the place of another, which is told
 pub told-gap : (e f : ExchangeState) (at : ℕ) (x : Indices) → at < length e.triangles →
     length e.corners ≡ length e.triangles
     → f.written ≡ e.written ++ at ∷ [] → f.triangles ≡ swap_remove e.triangles at 0 →
@@ -100,6 +103,7 @@ told-gap e f at x inside long told triangles corners =
     told-close e f at x inside long (λ k none. fewer e.written at k (rw (← told) none))
     (λ k low none. apart e.written at k (rw (← told) none)) triangles corners
 
+-- the last goes, and no place is told
 pub told-last : (e f : ExchangeState) (at : ℕ) (x : Indices) → at < length e.triangles → length e.triangles ≤ at + 1
     → length e.corners ≡ length e.triangles
     → f.written ≡ e.written → f.triangles ≡ swap_remove e.triangles at 0 →
@@ -109,9 +113,11 @@ told-last e f at x inside last long told triangles corners =
 
 -- ---- numbers that were given out
 
+-- where nothing changes, each number keeps its point
 pub given-none : (e : ExchangeState) → IsGiven e e
 given-none e = record { grows = λ v none. none; points_stay = λ v none. refl }
 
+-- two changes that keep the points of numbers not given out keep them one after the other
 pub given-trans : (e f g : ExchangeState) → IsGiven e f → IsGiven f g → IsGiven e g
 given-trans e f g first second = record {
   grows = λ v none. first.grows v (second.grows v none);

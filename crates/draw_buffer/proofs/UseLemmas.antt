@@ -13,16 +13,20 @@ use Rattle.draw_buffer.proofs.TimesLemmas.{same-one}
 
 -- ---- three corners
 
+-- how many of the three corners have a number, corner by corner
 pub corner_uses-is : (x : Indices) (v : ℕ) → corner_uses x v ≡ same x.apex v + same x.v0 v + same x.v1 v
 unfolding corner_uses
 corner_uses-is x v = refl
 
+-- the number of the apex is used by a corner
 pub uses-apex : (x : Indices) → 1 ≤ corner_uses x x.apex
 uses-apex x = let is = corner_uses-is x x.apex in let one = same-one x.apex x.apex refl in omega arith
 
+-- and so is that of v0
 pub uses-v0 : (x : Indices) → 1 ≤ corner_uses x x.v0
 uses-v0 x = let is = corner_uses-is x x.v0 in let one = same-one x.v0 x.v0 refl in omega arith
 
+-- and that of v1
 pub uses-v1 : (x : Indices) → 1 ≤ corner_uses x x.v1
 uses-v1 x = let is = corner_uses-is x x.v1 in let one = same-one x.v1 x.v1 refl in omega arith
 
@@ -38,42 +42,51 @@ shown-stay ps qs us x used stay =
 
 -- ---- lists of corners
 
+-- without triangles no corner has the number
 pub uses_in-none : (v : ℕ) → uses_in [] v ≡ 0
 unfolding uses_in
 uses_in-none v = refl
 
+-- how many corners have the number with one triangle more at the beginning
 pub uses_in-cons : (x : Indices) (xs : List Indices) (v : ℕ) → uses_in (x ∷ xs) v ≡ corner_uses x v + uses_in xs v
 unfolding uses_in
 uses_in-cons x xs v = sum_by-cons (λ y. corner_uses y v) x xs
 
+-- the same with one triangle more at the end
 pub uses_in-push : (xs : List Indices) (x : Indices) (v : ℕ) → uses_in (xs ++ x ∷ []) v ≡ uses_in xs v + corner_uses x v
 unfolding uses_in
 uses_in-push xs x v = sum_by_push (λ y. corner_uses y v) xs x
 
+-- the same with the triangle at place k replaced by another
 pub uses_in-set : (xs : List Indices) (k : ℕ) (x d : Indices) (v : ℕ) → k < length xs
     → uses_in (set xs k x) v + corner_uses (get_or xs k d) v ≡ uses_in xs v + corner_uses x v
 unfolding uses_in
 uses_in-set xs k x d v inside = sum_by-set (λ y. corner_uses y v) xs k x d inside
 
+-- the same with the triangle at place k taken out
 pub uses_in-swap_remove : (xs : List Indices) (k : ℕ) (d : Indices) (v : ℕ) → k < length xs
     → uses_in (swap_remove xs k d) v + corner_uses (get_or xs k d) v ≡ uses_in xs v
 unfolding uses_in
 uses_in-swap_remove xs k d v inside = sum_by-swap_remove (λ y. corner_uses y v) xs k d inside
 
+-- one triangle uses a number no more often than all together
 pub uses_in-at : (xs : List Indices) (k : ℕ) (d : Indices) (v : ℕ) → k < length xs →
     corner_uses (get_or xs k d) v ≤ uses_in xs v
 unfolding uses_in
 uses_in-at xs k d v inside = get_or-le-sum_by (λ y. corner_uses y v) xs k d inside
 
+-- where nothing waits, no corner has the number
 pub waiting_uses-none : (v : ℕ) → waiting_uses [] v ≡ 0
 unfolding waiting_uses
 waiting_uses-none v = refl
 
+-- how many corners of what waits have the number, with one triangle more
 pub waiting_uses-push : (ws : List Waiting) (w : Waiting) (v : ℕ)
     → waiting_uses (ws ++ w ∷ []) v ≡ waiting_uses ws v + corner_uses w.corners v
 unfolding waiting_uses
 waiting_uses-push ws w v = sum_by_push (λ (y : Waiting). corner_uses y.corners v) ws w
 
+-- one triangle that waits uses a number no more often than all together
 pub waiting_uses-at : (ws : List Waiting) (k : ℕ) (d : Waiting) (v : ℕ) → k < length ws
     → corner_uses (get_or ws k d).corners v ≤ waiting_uses ws v
 unfolding waiting_uses
@@ -89,6 +102,7 @@ map-shown ps qs us (x ∷ xs) used stay =
 
 -- ---- three numbers
 
+-- three corners are taken where the apex's number, v0's and v1's are taken one after the other
 pub taken-three : (a b c d : VertexState) (places : Indices) (apex v0 v1 : ℕ) → IsTaken a b places.apex apex
     → IsTaken b c places.v0 v0 → IsTaken c d places.v1 v1
     → AreTaken a d places (record { apex = apex; v0 = v0; v1 = v1 })

@@ -29,6 +29,7 @@ is_busy-le u = ⊎_elim
     (λ (h : u ≤ 0). let none = is_busy-none u (omega arith) in omega arith)
     (cases_lt 0 u)
 
+-- without numbers, none is in use and none is free
 pub busy-none : busy [] + length {A = ℕ} [] ≡ length {A = ℕ} []
 unfolding busy
 busy-none = refl
@@ -41,6 +42,7 @@ busy-push : (us : List ℕ) (u : ℕ) → busy (us ++ u ∷ []) ≡ busy us + is
 unfolding busy is_busy
 busy-push us u = sum_by_push (λ u. is_busy u) us u
 
+-- there are no more numbers in use than uses
 pub busy-le-sum : (us : List ℕ) → busy us ≤ sum us
 unfolding busy is_busy
 busy-le-sum us = sum_by-le-sum_by (λ u. is_busy u) (λ u. u) us is_busy-le
@@ -62,12 +64,15 @@ busy-some us v some =
 
 -- ---- sums
 
+-- the sum with the entry at v replaced by u
 pub sum-set : (us : List ℕ) (v u : ℕ) → v < length us → sum (set us v u) + get_or us v 0 ≡ sum us + u
 sum-set us v u within = sum_by-set (λ u. u) us v u 0 within
 
+-- the sum with one entry more at the end
 pub sum-push : (us : List ℕ) (u : ℕ) → sum (us ++ u ∷ []) ≡ sum us + u
 sum-push us u = sum_by_push (λ u. u) us u
 
+-- no entry is greater than the sum
 pub use-le-sum : (us : List ℕ) (v : ℕ) → get_or us v 0 ≤ sum us
 use-le-sum us v = ⊎_elim
     (λ (h : v < length us). get_or-le-sum_by (λ u. u) us v 0 h)
@@ -76,12 +81,15 @@ use-le-sum us v = ⊎_elim
 
 -- ---- reads after a change
 
+-- at the place that was set stands what was set there
 pub set-here : (us : List ℕ) (v u w : ℕ) → v < length us → w ≡ v → get_or (set us v u) w 0 ≡ u
 set-here us v u w within e = ap (λ k. get_or (set us v u) k 0) e ∙ get_or-set_same us v u 0 within
 
+-- behind the old end stands what was put there
 pub push-here : (us : List ℕ) (u w : ℕ) → w ≡ length us → get_or (us ++ u ∷ []) w 0 ≡ u
 push-here us u w e = get_or_push us u 0 w (sym e)
 
+-- and at each other place what stood there
 pub push-other : (us : List ℕ) (u w : ℕ) → w ≢ length us → get_or (us ++ u ∷ []) w 0 ≡ get_or us w 0
 push-other us u w apart = ⊎_elim
     (λ (h : w < length us). get_or_append_left us (u ∷ []) 0 w h)
@@ -172,14 +180,17 @@ module _ (us free rest : List ℕ) (v : ℕ) (vacant : AreFree us free) (split :
   last-long : length free ≡ length rest + 1
   last-long = ap length split ∙ length_push rest v
 
+  -- it is one of the numbers
   pub last-low : v < length us
   last-low = let long = last-long in let read = last-read in omega (arith, vacant.low (length rest) (omega arith))
 
+  -- it is not in use
   pub last-unused : get_or us v 0 ≡ 0
   last-unused =
       let long = last-long in
       ap (λ k. get_or us k 0) (sym last-read) ∙ vacant.unused (length rest) (omega arith)
 
+  -- once it is in use, the others are the free ones
   pub AreFree-give : AreFree (set us v 1) rest
   AreFree-give =
       let long = last-long in
@@ -210,6 +221,7 @@ pub all-busy : (us free : List ℕ) → AreFree us free → free ≡ [] → leng
 all-busy us free vacant none =
     let empty : length free ≡ 0 = ap length none in let count = vacant.count in omega (arith, busy-le-sum us)
 
+-- with the next number in use, still none is free
 pub AreFree-new : (us free none : List ℕ) → AreFree us free → free ≡ [] → none ≡ [] → AreFree (us ++ 1 ∷ []) none
 AreFree-new us free none vacant is_free is_none =
     let empty : length none ≡ 0 = ap length is_none in

@@ -28,6 +28,7 @@ rest_coarse n pairs first [] chain coarse some = absurd (omega (arith, some))
 rest_coarse n pairs first (second ∷ rest) chain coarse some =
     next_coarse n pairs first.0 second.0 (numbers rest) chain coarse
 
+-- what is known of the slots is so of all but the first
 pub rest_task : (n : ℕ) (pairs : List ℕ) (room splits : ℕ) (slots : List Slot) (first : Slot) (rest : List Slot) →
     slots ≡ first ∷ rest → IsTask n pairs room splits slots → IsTask n pairs room splits rest
 rest_task n pairs room splits slots first rest is task =
@@ -46,6 +47,7 @@ pub record IsTurn (n : ℕ) (old mid : List ℕ) (s : ℕ) : Type 0 where
   pub leaf : HasLeaf mid s
   pub level : 1 ≤ mate_of (address_at mid s) → has_children mid (mate_of (address_at mid s) / 2) ≡ true
 
+-- once the rest of the chain is split, the first slot's triangle is still a leaf there, and any mate of it is live
 pub turn : (n : ℕ) (old mid : List ℕ) (s : ℕ) (rest : List ℕ) → IsPool n old → has_children mid 1 ≡ true →
     IsChain old (s ∷ rest) → IsChained n old rest (split_set mid) →
     ((r : ℕ) → IsLive old r → address_at mid r ≡ address_at old r) → IsTurn n old mid s
@@ -71,6 +73,7 @@ turn n old mid s rest pool root chain h kept =
           (cases_lt (mate_of (address_at mid s)) 4);
     }
 
+-- a split of the first slot's triangle, after the rest of the chain, makes the set that of the whole chain
 pub task_step : (n : ℕ) (old mid new : List ℕ) (slots : List Slot) (first : Slot) (rest : List Slot) (room splits : ℕ) →
     slots ≡ first ∷ rest → IsPool n old → IsTask n old room splits slots →
     IsChained n old (numbers rest) (split_set mid) → address_at mid first.0 ≡ address_at old first.0 →
@@ -84,11 +87,13 @@ task_step n old mid new slots first rest room splits is pool task h same split =
 
 -- ---- the answers
 
+-- a slot that was given out is one of those given out after more splits
 pub born_old : (answers more : List Born) (r : ℕ) → IsBornOf answers r → IsBornOf (answers ++ more) r
 born_old [] more r h = absurd h
 born_old (born ∷ answers) more r (inl here) = inl here
 born_old (born ∷ answers) more r (inr there) = inr (born_old answers more r there)
 
+-- and so is a slot that the last split gave out
 pub born_new : (answers : List Born) (born : Born) (r : ℕ) → IsBorn born r → IsBornOf (answers ++ (born ∷ [])) r
 born_new [] born r h = inl h
 born_new (other ∷ answers) born r h = inr (born_new answers born r h)
@@ -100,6 +105,7 @@ diamond_small a =
     ⊎_elim (λ few. let one = size_one a (let none : mate_of a ≡ 0 = omega arith in none) in omega arith)
     (λ some. let two = size_two a some in omega arith) (cases_lt (mate_of a) 1)
 
+-- at most two triangles are split for each slot
 pub size_small : (pairs : List ℕ) (slots : List Slot) → chain_size pairs (numbers slots) ≤ 2 * length slots
 size_small pairs [] = omega arith
 size_small pairs (s ∷ rest) =
@@ -138,10 +144,12 @@ answers_kept old mid new (s ∷ rest) answers chain kept h = (
   answer_kept old mid new s h.1 chain.0.live kept h.4,
 )
 
+-- without slots there are no answers
 pub no_answers : (old new : List ℕ) (slots : List Slot) → length slots ≡ 0 → AreAnswers old new (numbers slots) []
 no_answers old new [] none = refl
 no_answers old new (s ∷ rest) none = absurd (omega (arith, none))
 
+-- the answer of the first slot comes behind those of the rest
 pub answers_step : (old mid new : List ℕ) (slots : List Slot) (first : Slot) (rest : List Slot) (more : List Born)
     (born : Born) → slots ≡ first ∷ rest → IsChain old (numbers slots) →
     AreAnswers old mid (numbers rest) more → ((r : ℕ) → IsLive mid r → address_at new r ≡ address_at mid r) →

@@ -16,6 +16,7 @@ use Rattle.force_split.specs.Chain.{IsNextInChain, IsChain, IsLow, IsChained}
 
 -- ---- the sets along a chain
 
+-- the set after the splits of a chain is closed and has all members of that before
 pub chained_closed : (n : ℕ) (pairs slots : List ℕ) (now : ℕ → Bool) → IsPool n pairs → IsChained n pairs slots now →
     IsClosed n now × IsSubset (split_set pairs) now
 chained_closed n pairs [] now pool h =

@@ -18,6 +18,7 @@ set_here [] s = refl
 set_here (x ∷ xs) zero = refl
 set_here (x ∷ xs) (suc s) = set_here xs s
 
+-- a mark that was set before stays
 pub set_stays : (xs : List Bool) (s r : ℕ) → get_or xs r true ≡ true → get_or (set xs s true) r true ≡ true
 set_stays [] s r is = refl
 set_stays (x ∷ xs) zero zero is = refl

@@ -32,6 +32,7 @@ more a w = grind arith
 twice : (a w : ℕ) → 2 * a * w ≡ 2 * (a * w)
 twice a w = mul_assoc 2 a w
 
+-- the share of a triangle of a level below 22 has two halves, its left child's and behind it its right child's
 pub halved : (a : ℕ) → 2 ≤ a → level_of a < 22 → AreHalved a
 halved a low coarse =
     let w : ℕ = 2 ^ (22 - (level_of a + 1)) in
@@ -88,6 +89,7 @@ shifted_first a x l low deep is level =
     let e : x * 2 ^ (22 - l) ≡ first_of a = ap (λ k. k * 2 ^ (22 - l)) is ∙ ap (λ k. a * 2 ^ (22 - k)) level in
     ap (λ k. k % 4294967296) e ∙ whole (first_of a) (omega arith)
 
+-- the same of the end
 pub shifted_end : (a x l : ℕ) → 2 ≤ a → level_of a ≤ 22 → x ≡ a → l ≡ level_of a →
     (x + 1) * 2 ^ (22 - l) % 4294967296 ≡ end_of a
 shifted_end a x l low deep is level =
@@ -112,6 +114,7 @@ pub run-apart : (t b : ℕ) (more : List ℕ) → end_of t ≤ first_of b → ru
 run-apart t b more behind =
     cond-false (nat_lt (first_of b) (end_of t)) (1 + run_length t more) 0 (le-ltb (first_of b) (end_of t) behind)
 
+-- a list that begins with triangles behind t has no run
 pub run-behind : (t : ℕ) (xs more : List ℕ) → 1 ≤ length xs → ((b : ℕ) → IsIn b xs → end_of t ≤ first_of b) →
     run_length t (xs ++ more) ≡ 0
 run-behind t [] more some each = absurd (omega arith)
@@ -156,5 +159,6 @@ pub run_over : (t : ℕ) (xs : List ℕ) (k d : ℕ) → k < length xs → end_o
 run_over t xs k d within behind =
     ap (run_length t) (drop-cons xs k d within) ∙ run-apart t (get_or xs k d) (drop (suc k) xs) behind
 
+-- past the end of the list there is no run
 pub run_out : (t : ℕ) (xs : List ℕ) (k : ℕ) → length xs ≤ k → run_length t (drop k xs) ≡ 0
 run_out t xs k past = ap (run_length t) (drop_past xs k past)

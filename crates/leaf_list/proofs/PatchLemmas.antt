@@ -28,6 +28,7 @@ pub record IsRead (t : ℕ) (own more rest : List ℕ) : Type 0 where
   pub taken : take (run_length t rest) rest ≡ own
   pub dropped : drop (run_length t rest) rest ≡ more
 
+-- where what follows does not begin before the end of t, the run of t is just the old leaves at and below t
 pub read_own : (levels : ℕ) (before : ℕ → Bool) (t : ℕ) (more rest : List ℕ) → 2 ≤ t → level_of t + levels ≤ 22 →
     rest ≡ leaves_under levels before t ++ more → run_length t more ≡ 0 →
     IsRead t (leaves_under levels before t) more rest

@@ -29,6 +29,7 @@ pub record AreBelow (n : ℕ) (pairs : List ℕ) (levels s left right : ℕ) : T
       ≡ length (leaves_under (levels - 1) (split_set pairs) (address_at pairs left))
       + length (leaves_under (levels - 1) (split_set pairs) (address_at pairs right))
 
+-- the slots of a split triangle's children are live, a level deeper, and its leaves are theirs, left before right
 pub slots_below : (n : ℕ) (pairs : List ℕ) (levels s left right : ℕ) → IsPool n pairs → IsLive pairs s →
     level_of (address_at pairs s) + levels ≡ 2 * n → has_children pairs (address_at pairs s) ≡ true →
     address_at pairs left ≡ 2 * address_at pairs s → address_at pairs right ≡ 2 * address_at pairs s + 1 →
@@ -68,6 +69,7 @@ put_both w middle after left right all is one two =
     ∙ ap (λ (xs : List ℕ). record w { leaves = w.leaves ++ all; come = xs }) (append_assoc w.come left right
     ∙ ap (λ xs. w.come ++ xs) (sym is))
 
+-- the leaves of a set are those of the lower half of the square, and behind them those of the upper half
 pub leaves_halves : (n : ℕ) (has : ℕ → Bool) →
     leaves_of n has ≡ leaves_under (2 * n) has 2 ++ leaves_under (2 * n) has 3
 unfolding leaves_of
@@ -86,6 +88,7 @@ pub record AreHalves (n : ℕ) (pairs : List ℕ) (levels : ℕ) : Type 0 where
       ≡ length (leaves_under levels (split_set pairs) (address_at pairs 0))
       + length (leaves_under levels (split_set pairs) (address_at pairs 1))
 
+-- where slots 0 and 1 have the halves of the square, the leaves are those at the one and then at the other
 pub halves_of : (n : ℕ) (pairs : List ℕ) (levels : ℕ) → address_at pairs 0 ≡ 2 → address_at pairs 1 ≡ 3 →
     levels ≡ 2 * n → AreHalves n pairs levels
 halves_of n pairs levels lower upper all =

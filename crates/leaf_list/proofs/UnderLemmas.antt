@@ -45,6 +45,7 @@ Lies a b = (first_of a ≤ first_of b) × (first_of b < end_of a)
 lies-self : (a b : ℕ) → a ≡ b → Lies a b
 lies-self a b same = subst (Lies a) same (let e = first-end a in (omega arith, e))
 
+-- each leaf at or below a begins where a begins, or behind, and before the end of a
 pub leaves-within : (levels : ℕ) (has : ℕ → Bool) (a : ℕ) → 2 ≤ a → level_of a + levels ≤ 22 →
     (b : ℕ) → IsIn b (leaves_under levels has a) → (first_of a ≤ first_of b) × (first_of b < end_of a)
 leaves-within zero has a low deep b (inl same) = lies-self a b same

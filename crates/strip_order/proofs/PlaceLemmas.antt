@@ -74,6 +74,7 @@ pub record IsStrip (n : ℕ) (has : ℕ → Bool) (order : List ℕ) : Type 0 wh
   pub shared : (i d : ℕ) → i + 1 < length order → SharesEdge n (get_or order i d) (get_or order (i + 1) d)
   pub differ : (i j d : ℕ) → i < j → j < length order → get_or order i d ≢ get_or order j d
 
+-- the strip of a closed set has two entries or more, all leaves and all different, each sharing an edge with the next
 pub IsStrip-strip_of : (n : ℕ) (has : ℕ → Bool) → n ≤ 11 → IsClosed n has → IsStrip n has (strip_of n has)
 IsStrip-strip_of n has small closed =
     let ring = IsRing-strip_of n has closed in

@@ -128,6 +128,7 @@ IsArranged-single has levels a rest run single e = record {
   is = e ∙ ap (λ (xs : List ℕ). xs ++ rest) (single.leaves ∙ sym single.faces);
 }
 
+-- a run that begins with a itself has a as its one leaf there, and is in order as it is
 pub IsArranged-leaf : (levels : ℕ) (has : ℕ → Bool) (a d : ℕ) (rest run : List ℕ) → a ≡ get_or run 0 d →
     IsFront levels has a rest run → IsArranged levels has a rest run 1
 IsArranged-leaf zero has a d rest run first front =
@@ -148,6 +149,7 @@ pub record IsParted (levels : ℕ) (has : ℕ → Bool) (a : ℕ) (rest run : Li
   pub forked : IsForked below has a
   pub left : IsFront below has (2 * a) (leaves_under below has (2 * a + 1) ++ rest) run
 
+-- a run of a's leaves that begins with another triangle has the leaves of a's left child and then of its right one
 pub IsParted-other : (levels : ℕ) (has : ℕ → Bool) (a d : ℕ) (rest run : List ℕ) → a ≢ get_or run 0 d →
     IsFront levels has a rest run → IsParted levels has a rest run
 IsParted-other zero has a d rest run other front = absurd (other (sym (ap (λ (xs : List ℕ). get_or xs 0 d) front.is)))

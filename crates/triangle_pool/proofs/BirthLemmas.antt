@@ -29,6 +29,7 @@ fresh pairs k a r pair left right live = elim (cases_eq (r / 2) k) [
   | inr apart ↦ inl (let z = address-old pairs k a r apart in omega arith)
 ]
 
+-- a split at the border gives out the two slots of the pair k, for the children of its triangle
 pub birth_one : (n : ℕ) (pairs after : List ℕ) (s k : ℕ) (pair : Slot × Slot) →
     MaySplit n pairs s k (address_at pairs s) → mate_of (address_at pairs s) ≡ 0 →
     after ≡ set pairs k (address_at pairs s) → pair.0.0 ≡ 2 * k → pair.1.0 ≡ 2 * k + 1 →
@@ -42,6 +43,7 @@ birth_one n pairs after s k pair o none is left right =
           (address_at pairs s) r pair left right live) [ inl old ↦ inl old | inr new ↦ inr (inl new) ];
     })
 
+-- a split in a diamond gives out those of the pairs k and j, for the children of its triangle and of the mate
 pub birth_two : (n : ℕ) (pairs after : List ℕ) (s t k j : ℕ) (pair other : Slot × Slot) →
     MaySplit n pairs s k (address_at pairs s) → MaySplitMate pairs t k j (address_at pairs s) →
     after ≡ set (set pairs k (address_at pairs s)) j (mate_of (address_at pairs s)) → pair.0.0 ≡ 2 * k →
@@ -78,6 +80,7 @@ room_one n pairs after s k o none is =
     ∙ ap (λ t. room_of (set pairs k (address_at pairs s)) + t) (size_one (address_at pairs s) none)
     ∙ room-set pairs k (address_at pairs s) o.within o.free (omega arith)
 
+-- the same where the mate is split too
 pub room_two : (n : ℕ) (pairs after : List ℕ) (s t k j : ℕ) → MaySplit n pairs s k (address_at pairs s) →
     MaySplitMate pairs t k j (address_at pairs s) →
     after ≡ set (set pairs k (address_at pairs s)) j (mate_of (address_at pairs s)) →

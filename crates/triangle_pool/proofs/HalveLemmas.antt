@@ -18,6 +18,7 @@ use Rattle.edge_laws.proofs.SlotLemmas.{child_at, has_children-added, has_childr
 use Rattle.triangle_pool.proofs.RelinkLemmas.{edge-base, edge-left, edge-right, edge_low, relinked_turn}
 use Rattle.bintree_laws.proofs.LevelLemmas.{level_of-left, level_of-right}
 
+-- the slots of sound pairs are those of a tree, whatever the nodes
 pub tree_of : (pairs : List ℕ) (nodes : List Node) → ArePairs pairs → IsTree (net_of pairs nodes)
 tree_of pairs nodes h = let t = h.tree in record { root = t.root; parent = t.parent; live = t.live; once = t.once }
 
@@ -54,6 +55,7 @@ address-new pairs k a r within here =
     ap (λ t. get_or (set pairs k a) t 0) here ∙ get_or-set_same pairs k a 0 within in
     omega arith
 
+-- slots outside the pair k keep their addresses
 pub address-old : (pairs : List ℕ) (k a r : ℕ) → r / 2 ≢ k → address_at (set pairs k a) r ≡ address_at pairs r
 address-old pairs k a r apart =
     let z : get_or (set pairs k a) (r / 2) 0 ≡ get_or pairs (r / 2) 0 = get_or-set_other pairs k (r / 2) a 0 apart in
@@ -64,6 +66,7 @@ address-free pairs k r free here =
     let z : get_or pairs (r / 2) 0 ≡ 0 = ap (λ t. get_or pairs t 0) here ∙ free in
     omega arith
 
+-- a live slot is in no free pair
 pub live_apart : (pairs : List ℕ) (k r : ℕ) → get_or pairs k 0 ≡ 0 → IsLive pairs r → r / 2 ≢ k
 live_apart pairs k r free live here = let z = address-free pairs k r free here in omega arith
 
@@ -368,6 +371,7 @@ module _ (pairs parents : List ℕ) (before after : List Node) (s k a mate : ℕ
 
 -- ---- what the code does to the nodes
 
+-- once both legs and the inner edges are linked and the two nodes are in their places, the nodes are renewed
 pub renewed_by : (pairs : List ℕ) (n0 n1 n2 n3 n4 : List Node) (s k a mate : ℕ) (one two : Node) →
     MayHalve pairs s k a mate →
     IsRelinked pairs n0 n1 (2 * a) (2 * k) → IsRelinked pairs n1 n2 (2 * a + 1) (2 * k + 1) →
@@ -424,6 +428,7 @@ mate_within pairs s k a mate ready given =
     ⊎_elim (λ w. w) (λ past. absurd (let z = get_or_past pairs mate 0 past in omega arith))
     (cases_lt mate (length pairs))
 
+-- one leg of each child of the mate, linked to the new child of a across it, gives the inner links
 pub inner_linked : (pairs : List ℕ) (n0 n1 n2 : List Node) (s k a mate : ℕ) → ArePairs pairs →
     MayHalve pairs s k a mate → mate ≢ nowhere →
     length n0 ≡ 2 * length pairs → length n1 ≡ length n0 →
@@ -492,6 +497,7 @@ inner_linked pairs n0 n1 n2 s k a mate h ready given count count_1 is_1 is_2 =
       children = λ r. r2.children r ∙ r1.children r;
     }
 
+-- where the mate's children have no pair, there are no inner links to set
 pub inner_alone : (pairs : List ℕ) (nodes : List Node) (k a mate : ℕ) → mate ≡ nowhere →
     AreInnerLinks pairs nodes nodes k a mate
 inner_alone pairs nodes k a mate none = record {

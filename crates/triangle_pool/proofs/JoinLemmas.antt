@@ -40,6 +40,7 @@ pair_once pairs i k a h low at_i at_k =
     omega arith in
     let same : 2 * i ≡ 2 * k = h.tree.once (2 * i) (2 * k) (omega arith) (x ∙ sym y) in omega arith
 
+-- once the pair k has no triangle, its two slots are free
 pub gone_low : (pairs : List ℕ) (k r : ℕ) → k < length pairs → r / 2 ≡ k → address_at (set pairs k 0) r < 2
 gone_low pairs k r within here = let z = address-new pairs k 0 r within here in omega arith
 
@@ -262,6 +263,7 @@ forest_joined pairs parents n0 n1 n2 n3 s k a f bare r1 r2 again same_count =
 
 -- ---- merging
 
+-- in a closed set, a triangle that may be merged may be joined: its address is below 2 ^ 23
 pub bare_of : (n : ℕ) (pairs : List ℕ) (s k a : ℕ) → n ≤ 11 → IsClosed n (split_set pairs) →
     MayMerge pairs s k a → MayJoin pairs s k a
 bare_of n pairs s k a high closed h =
@@ -290,6 +292,7 @@ base_across_child n pairs parents nodes r e forest closed low at =
     (read_link (net_of pairs nodes) r e (whole_of n pairs parents nodes forest closed) forest.linked (omega arith)
     (owner-split (has_children pairs) e live ∙ sym at))
 
+-- the base of a's left child is linked to the leaf across it, or on the border to nowhere
 pub left_child : (n : ℕ) (pairs parents : List ℕ) (nodes : List Node) (s k a : ℕ) → IsForest pairs parents nodes →
     IsClosed n (split_set pairs) → MayMerge pairs s k a →
     IsAcross pairs (2 * a) (node_at nodes (2 * k)).base
@@ -299,6 +302,7 @@ left_child n pairs parents nodes s k a forest closed h =
     base_across_child n pairs parents nodes (2 * k) (2 * a) forest closed (omega arith)
     (let z : get_or pairs ((2 * k) / 2) 0 ≡ a = ap (λ t. get_or pairs t 0) half ∙ h.pair in omega arith)
 
+-- the same of a's right child
 pub right_child : (n : ℕ) (pairs parents : List ℕ) (nodes : List Node) (s k a : ℕ) → IsForest pairs parents nodes →
     IsClosed n (split_set pairs) → MayMerge pairs s k a →
     IsAcross pairs (2 * a + 1) (node_at nodes (2 * k + 1)).base
@@ -307,6 +311,7 @@ right_child n pairs parents nodes s k a forest closed h =
     base_across_child n pairs parents nodes (2 * k + 1) (2 * a + 1) forest closed (omega arith)
     (child_at pairs k a 1 (omega arith) h.pair)
 
+-- a closed set is closed without a and b if no child of these is a member and neither has a mate but the other
 pub closed_less : (n : ℕ) (has less : ℕ → Bool) (a b : ℕ) → IsClosed n has → less a ≡ false → less b ≡ false →
     ((p : ℕ) → p ≢ a → p ≢ b → less p ≡ has p) →
     ((p : ℕ) → has p ≡ true → (p / 2 ≢ a) × (p / 2 ≢ b)) → ((p : ℕ) → IsSplittable n p → IsMate n p a → p ≡ b) →
@@ -408,6 +413,7 @@ may_merge_second pairs s t k j a sound h some g =
       whole_right = has_children-left pairs k a (2 * mate_of a + 1) within h.pair no_child_of.1 ∙ g.whole_right;
     }
 
+-- once a's children are gone, the base of each child of its mate is still linked to the leaf across, or to nowhere
 pub leg_less : (n : ℕ) (pairs parents less_parents : List ℕ) (nodes less : List Node) (s t k j a side : ℕ) → side < 2 →
     IsForest pairs parents nodes → IsClosed n (split_set pairs) → MayMerge pairs s k a →
     1 ≤ mate_of a → MayMerge pairs t j (mate_of a) → IsForest (set pairs k 0) less_parents less →
@@ -436,6 +442,7 @@ leg_less n pairs parents less_parents nodes less s t k j a side small forest clo
     (omega arith) (owner-split (has_children pairs) (2 * mate_of a + side) up ∙ sym at) (omega arith)
     (owner-split (has_children (set pairs k 0)) (2 * mate_of a + side) less_up ∙ sym less_at))
 
+-- once a's children are gone, its mate may be joined
 pub bare_second : (n : ℕ) (pairs : List ℕ) (s t k j a : ℕ) → n ≤ 11 → IsClosed n (split_set pairs) → ArePairs pairs →
     MayMerge pairs s k a → 1 ≤ mate_of a → MayMerge pairs t j (mate_of a) →
     MayJoin (set pairs k 0) t j (mate_of a)

@@ -44,6 +44,7 @@ edge_link_words n pairs a e link pool short leaf edge read =
 
 -- ---- the three edges of a leaf
 
+-- the link across a leaf's base, from v0 to v1, is nowhere just at the border, and else the slot of the leaf across
 pub base_words : (n : ℕ) (pairs : List ℕ) (s link : ℕ) → IsPool n pairs → length pairs < 2 ^ 31 → IsLive pairs s →
     has_children pairs (address_at pairs s) ≡ false → IsAcross pairs (address_at pairs s) link →
     IsLeafLink n pairs (address_at pairs s) (corners_of n (address_at pairs s)).v0
@@ -52,6 +53,7 @@ base_words n pairs s link pool short live leaf read =
     edge_link_words n pairs (address_at pairs s) (address_at pairs s) link pool short
     (IsLeafOf-slot pairs s live leaf) (inl refl) read
 
+-- the same of its left leg, from the apex to v0
 pub left_words : (n : ℕ) (pairs : List ℕ) (s link : ℕ) → IsPool n pairs → length pairs < 2 ^ 31 → IsLive pairs s →
     has_children pairs (address_at pairs s) ≡ false → IsAcross pairs (2 * address_at pairs s) link →
     IsLeafLink n pairs (address_at pairs s) (corners_of n (address_at pairs s)).apex
@@ -63,6 +65,7 @@ left_words n pairs s link pool short live leaf read =
     subst (λ c. IsLeafLink n pairs a c.v0 c.v1 link) ends
     (edge_link_words n pairs a (2 * a) link pool short (IsLeafOf-slot pairs s live leaf) (inr half) read)
 
+-- the same of its right leg, from v1 to the apex
 pub right_words : (n : ℕ) (pairs : List ℕ) (s link : ℕ) → IsPool n pairs → length pairs < 2 ^ 31 → IsLive pairs s →
     has_children pairs (address_at pairs s) ≡ false → IsAcross pairs (2 * address_at pairs s + 1) link →
     IsLeafLink n pairs (address_at pairs s) (corners_of n (address_at pairs s)).v1

@@ -27,6 +27,7 @@ pub children_pair : (pairs : List ℕ) (a k : ℕ) → AreChildrenAt pairs a k �
 children_pair pairs a k children is_split =
     ⊎_elim (λ none. absurd (true≢false (sym is_split ∙ none.1))) (λ some. some.1) children
 
+-- the link to the children is nowhere just where the triangle is not split
 pub children_none : (pairs : List ℕ) (a k : ℕ) → 1 ≤ a → AreChildrenAt pairs a k →
     (k ≡ nowhere → has_children pairs a ≡ false) × (has_children pairs a ≡ false → k ≡ nowhere)
 children_none pairs a k low children = (
@@ -71,6 +72,7 @@ two_leaves_by pairs a k l r low children given left right =
 
 -- ---- what is asked of a merge
 
+-- a triangle at a live slot whose two children are leaves may be merged
 pub may_merge_of : (pairs : List ℕ) (s k : ℕ) → IsLive pairs s → AreChildrenAt pairs (address_at pairs s) k →
     HasTwoLeaves pairs (address_at pairs s) → MayMerge pairs s k (address_at pairs s)
 may_merge_of pairs s k live children two_leaves =
@@ -82,6 +84,7 @@ may_merge_of pairs s k live children two_leaves =
       whole_right = two_leaves.right;
     }
 
+-- the same of the triangle b, at the slot t
 pub may_merge_mate : (pairs : List ℕ) (t j b : ℕ) → address_at pairs t ≡ b → 2 ≤ b →
     AreChildrenAt pairs (address_at pairs t) j → HasTwoLeaves pairs b → MayMerge pairs t j b
 may_merge_mate pairs t j b at low children two_leaves =
@@ -119,6 +122,7 @@ freed pairs k a low pair once =
       ];
     }
 
+-- at the border, to free the pair of a's children is to merge a
 pub IsMerge-alone : (n : ℕ) (pairs after : List ℕ) (s k a : ℕ) → IsPool n pairs → MayMerge pairs s k a → mate_of a ≡ 0 →
     after ≡ set pairs k 0 → IsMerge pairs after a
 IsMerge-alone n pairs after s k a pool h none is =
@@ -149,6 +153,7 @@ second_once n pairs s t k j a pool h some g =
       ]),
     )
 
+-- in a diamond, to free the pairs of a's children and of its mate's is to merge a
 pub IsMerge-both : (n : ℕ) (pairs after : List ℕ) (s t k j a : ℕ) → IsPool n pairs → MayMerge pairs s k a →
     1 ≤ mate_of a → MayMerge pairs t j (mate_of a) →
     after ≡ set (set pairs k 0) j 0 → IsMerge pairs after a
@@ -179,6 +184,7 @@ IsMerge-both n pairs after s t k j a pool h some g is =
 
 -- ---- free pairs
 
+-- there is space for the pair k among those that were given back, and with it the free pairs are right again
 pub pairs_back : (most : ℕ) (pairs : List ℕ) (free after : FreeState) (k a : ℕ) → HasPairs most pairs free → 2 ≤ a →
     get_or pairs k 0 ≡ a → (length free.returned < free.unused)
     × (after.returned ≡ free.returned ++ (k ∷ []) → after.unused ≡ free.unused → after.pairs ≡ free.pairs →
@@ -195,6 +201,7 @@ pairs_back most pairs free after k a h low pair =
       }),
     )
 
+-- the same of the pair j of the mate's children, after the pair k was given back
 pub pairs_back_two : (n most : ℕ) (pairs : List ℕ) (free mid after : FreeState) (s t k j a : ℕ) →
     HasPairs most pairs free → IsPool n pairs → MayMerge pairs s k a → 1 ≤ mate_of a → MayMerge pairs t j (mate_of a) →
     mid.returned ≡ free.returned ++ (k ∷ []) → mid.unused ≡ free.unused → mid.pairs ≡ free.pairs →
@@ -210,6 +217,7 @@ pairs_back_two n most pairs free mid after s t k j a h pool c some g is same all
 
 -- ---- what is read at a slot
 
+-- both children are leaves just where the nodes at their slots have no children
 pub two_leaves_read : (pairs : List ℕ) (s k l r : ℕ) → IsLive pairs s → AreChildrenAt pairs (address_at pairs s) k →
     k ≢ nowhere → AreChildrenAt pairs (address_at pairs (2 * k)) l →
     AreChildrenAt pairs (address_at pairs (2 * k + 1)) r →
@@ -226,6 +234,7 @@ two_leaves_read pairs s k l r live children given left right =
     two_leaves_by pairs (address_at pairs s) k l r live children given (subst (λ x. AreChildrenAt pairs x l) at_l left)
     (subst (λ x. AreChildrenAt pairs x r) at_r right)
 
+-- a triangle that is no half of the square has its parent at the slot that is noted for its pair
 pub parent_link : (pairs parents : List ℕ) (s link : ℕ) → IsLive pairs s →
     length parents ≡ length pairs → length pairs < 2 ^ 31 →
     ((k : ℕ) → 2 ≤ get_or pairs k 0 → address_at pairs (get_or parents k 0) ≡ get_or pairs k 0) →
@@ -241,6 +250,7 @@ parent_link pairs parents s link live count short upward deep read =
     let at : address_at pairs link ≡ get_or pairs (s / 2) 0 = ap (address_at pairs) is ∙ upward (s / 2) two in
     (((λ none. absurd (linked_small pairs link short (omega arith) none)), (λ low. omega arith)), (λ _. omega arith))
 
+-- where the link to the mate is not nowhere, there is a mate, and its slot is live
 pub partner_live : (pairs : List ℕ) (s link : ℕ) → IsLive pairs s →
     (mate_of (address_at pairs s) ≡ 0 → link ≡ nowhere) →
     (link ≢ nowhere → address_at pairs link ≡ mate_of (address_at pairs s)) → link ≢ nowhere →
@@ -259,6 +269,7 @@ back_one pairs after s k a h none is =
     let same : room_of after ≡ room_of (set pairs k 0) = ap room_of is in
     let size = size_one a none in omega arith
 
+-- the same where the mate is merged too
 pub back_two : (n : ℕ) (pairs after : List ℕ) (s t k j a : ℕ) → IsPool n pairs → MayMerge pairs s k a → 1 ≤ mate_of a →
     MayMerge pairs t j (mate_of a) → after ≡ set (set pairs k 0) j 0 →
     room_of after ≡ room_of pairs + diamond_size a

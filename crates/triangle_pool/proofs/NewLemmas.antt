@@ -160,6 +160,7 @@ module _ (pairs parents : List ℕ) (nodes : List Node) (h : IsFirst pairs paren
         (λ n. let z = h.rest k n in omega arith) (cases_eq k 0));
   }
 
+-- at first no triangle of the grid is split, so the set is closed
 pub first_closed : (n : ℕ) (pairs parents : List ℕ) (nodes : List Node) → IsFirst pairs parents nodes →
     IsClosed n (split_set pairs)
 first_closed n pairs parents nodes h =
@@ -172,6 +173,7 @@ first_closed n pairs parents nodes h =
       mate = λ p q y m. absurd (none p y);
     }
 
+-- the first pairs, parents and nodes are a mesh
 pub first_mesh : (n : ℕ) (pairs parents : List ℕ) (nodes : List Node) → 1 ≤ n → n ≤ 11 → IsFirst pairs parents nodes →
     IsMesh n pairs parents nodes
 first_mesh n pairs parents nodes low high h = record {
@@ -182,6 +184,7 @@ first_mesh n pairs parents nodes low high h = record {
       first_closed n pairs parents nodes h;
 }
 
+-- zeros with a 1 at pair 0, and nodes with the two halves of the square at slots 0 and 1, are the first ones
 pub first_of : (how_many : ℕ) (zeros parents : List ℕ) (raw : List Node) (one two : Node) →
     1 ≤ how_many → how_many < 2 ^ 20 →
     zeros ≡ replicate how_many 0 → length parents ≡ how_many → length raw ≡ 2 * how_many →
@@ -230,6 +233,7 @@ first_room pairs how_many count some one rest =
     let same : room_of pairs ≡ room_of (set (replicate how_many 0) 0 1) = ap room_of is in
     omega arith
 
+-- at first all pairs but 0 are free
 pub first_free : (pairs : List ℕ) (free : FreeState) (how_many : ℕ) → length pairs ≡ how_many →
     1 ≤ how_many → get_or pairs 0 0 ≡ 1 →
     ((i : ℕ) → i ≢ 0 → get_or pairs i 0 ≡ 0) →
@@ -246,6 +250,7 @@ first_free pairs free how_many count some one rest none unused all =
       distinct = λ i j p q e. absurd (omega arith);
     }
 
+-- so what is known of a pool's pairs is so of the first ones
 pub first_pairs : (most : ℕ) (pairs : List ℕ) (free : FreeState) → 2 ≤ most → most ≤ MOST_LEAVES →
     length pairs ≡ most - 1 →
     get_or pairs 0 0 ≡ 1 → ((i : ℕ) → i ≢ 0 → get_or pairs i 0 ≡ 0) →

@@ -37,6 +37,7 @@ node_at-read n pairs seen parents nodes s node m e live is =
 
 -- ---- free pairs
 
+-- where a free pair gets a triangle, there is one free pair fewer
 pub room-set : (pairs : List ℕ) (k a : ℕ) → k < length pairs → get_or pairs k 0 ≡ 0 → 1 ≤ a →
     room_of (set pairs k a) + 1 ≡ room_of pairs
 room-set pairs k a within free some =
@@ -78,6 +79,7 @@ next_vacant pairs before after k h some next =
     ((omega arith), h.fresh k (omega arith)))
     next
 
+-- once the next pair is given out and a triangle has it, the others are still the free pairs
 pub free_less : (pairs : List ℕ) (before after : FreeState) (k a : ℕ) → IsFree pairs before → 1 ≤ room_of pairs →
     IsGivenOut before after k → after.pairs ≡ before.pairs → 1 ≤ a → IsFree (set pairs k a) after
 free_less pairs before after k a h some next same_pairs low =
@@ -141,6 +143,7 @@ base_across n pairs parents nodes s h live =
     × (address_at pairs t ≡ owner (has_children pairs) (mate_of (address_at pairs s))))) link
     (read_link (net_of pairs nodes) s (address_at pairs s) whole h.forest.linked live own)
 
+-- a leaf that is not at the finest level may be split into the pair that is given out next
 pub may_split_of : (n : ℕ) (pairs : List ℕ) (free after : FreeState) (s k : ℕ) → n ≤ 11 →
     IsFree pairs free → IsLive pairs s →
     has_children pairs (address_at pairs s) ≡ false → level_of (address_at pairs s) < 2 * n → 1 ≤ room_of pairs →
@@ -165,6 +168,7 @@ second_vacant pairs free mid after k j h some first same second =
     ap (λ t. get_or (set pairs k 1) t 0) e ∙ get_or-set_same pairs k 1 0 within in let y = next.1 in omega arith in
     ((omega arith), sym (get_or-set_other pairs k j 1 0 apart) ∙ next.1, apart)
 
+-- its mate, at the slot t, may be split into the pair that is given out second
 pub second_of : (pairs : List ℕ) (free mid after : FreeState) (s t k j : ℕ) → IsFree pairs free →
     1 ≤ mate_of (address_at pairs s) →
     address_at pairs t ≡ owner (has_children pairs) (mate_of (address_at pairs s)) →
@@ -181,6 +185,7 @@ second_of pairs free mid after s t k j h mate link same some first same_pairs se
       apart = next.2;
     }
 
+-- what is known of the pool's pairs stays so once the next pair is given out and a triangle has it
 pub pairs_one : (most : ℕ) (pairs : List ℕ) (free mid : FreeState) (k a : ℕ) (after : List ℕ) →
     HasPairs most pairs free → 1 ≤ room_of pairs → IsGivenOut free mid k → mid.pairs ≡ free.pairs → 1 ≤ a →
     after ≡ set pairs k a → HasPairs most after mid
@@ -195,6 +200,7 @@ pairs_one most pairs free mid k a after h some next same low after_is =
           subst (λ t. IsFree t mid) (sym after_is) (free_less pairs free mid k a h.vacancies some next same low);
     }
 
+-- the same of two pairs, one after the other
 pub pairs_two : (most : ℕ) (pairs : List ℕ) (free mid last : FreeState) (k j a b : ℕ) (after : List ℕ) →
     HasPairs most pairs free → 2 ≤ room_of pairs → IsGivenOut free mid k → mid.pairs ≡ free.pairs →
     IsGivenOut mid last j → last.pairs ≡ mid.pairs → 1 ≤ a → 1 ≤ b → after ≡ set (set pairs k a) j b →
@@ -205,6 +211,7 @@ pairs_two most pairs free mid last k j a b after h some first same second same_l
     let room = room-set pairs k a top.0 top.1 low_a in
     pairs_one most (set pairs k a) mid last j b after one (omega arith) second same_last low_b after_is
 
+-- a forest whose set is closed is a mesh if there was one in this grid before
 pub mesh_by : (n : ℕ) (pairs parents : List ℕ) (nodes : List Node) (pairs' parents' : List ℕ) (nodes' : List Node) →
     IsMesh n pairs parents nodes → IsForest pairs' parents' nodes' →
     IsClosed n (split_set pairs') → IsMesh n pairs' parents' nodes'
@@ -235,6 +242,7 @@ next_small most pairs free after k h some next =
     let pair_count = h.pair_count in
     omega arith
 
+-- the leaf at s may be split where the grid and the pairs that a caller sees allow it
 pub may_split_seen : (n most : ℕ) (pairs : List ℕ) (free after : FreeState) (s k : ℕ) (seen_n : ℕ) (seen : List ℕ) →
     n ≡ seen_n → pairs ≡ seen → n ≤ 11 → HasPairs most pairs free → IsLive seen s →
     has_children seen (address_at seen s) ≡ false → level_of (address_at seen s) < 2 * seen_n → 1 ≤ room_of seen →
@@ -260,6 +268,7 @@ mate_room pairs s t seen e_pairs link given room =
     ap (λ t. mate_of (address_at t s)) e_pairs in let y = found.0 in omega arith in
     let two = room mate in ((omega arith), mate, found.0, found.1)
 
+-- where the base is linked to a slot, the mate there may be split too, and two pairs are free
 pub second_seen : (most : ℕ) (pairs : List ℕ) (free mid after : FreeState) (s t k j : ℕ) (seen : List ℕ) →
     pairs ≡ seen → HasPairs most pairs free →
     ((mate_of (address_at pairs s) ≡ 0) × (t ≡ nowhere)) ⊎ ((1 ≤ mate_of (address_at pairs s))
@@ -277,6 +286,7 @@ second_seen most pairs free mid after s t k j seen e_pairs h link given level ro
 
 -- ---- what a split does
 
+-- at the border, to give the free pair k to the triangle at s is to split it
 pub IsSplit-alone : (n : ℕ) (pairs after : List ℕ) (s k : ℕ) → MaySplit n pairs s k (address_at pairs s) →
     mate_of (address_at pairs s) ≡ 0 → after ≡ set pairs k (address_at pairs s) →
     IsSplit pairs after (address_at pairs s)
@@ -292,6 +302,7 @@ IsSplit-alone n pairs after s k o none is =
       slots = λ r live. address-old pairs k a r (live_apart pairs k r o.free live);
     })
 
+-- in a diamond, to give a free pair to the triangle at s and one to its mate is to split it
 pub IsSplit-both : (n : ℕ) (pairs after : List ℕ) (s t k j : ℕ) → MaySplit n pairs s k (address_at pairs s) →
     MaySplitMate pairs t k j (address_at pairs s) →
     after ≡ set (set pairs k (address_at pairs s)) j (mate_of (address_at pairs s)) →
@@ -319,6 +330,7 @@ IsSplit-both n pairs after s t k j o two is =
           address-old (set pairs k a) j (mate_of a) r (live_apart (set pairs k a) j r free (omega arith)) ∙ first;
     })
 
+-- a triangle whose base is linked to nowhere has its base on the border
 pub border_of : (most : ℕ) (pairs : List ℕ) (free : FreeState) (s t : ℕ) → HasPairs most pairs free → IsLive pairs s →
     ((mate_of (address_at pairs s) ≡ 0) × (t ≡ nowhere)) ⊎ ((1 ≤ mate_of (address_at pairs s))
     × (address_at pairs t ≡ owner (has_children pairs) (mate_of (address_at pairs s)))) → t ≡ nowhere →
@@ -332,6 +344,7 @@ border_of most pairs free s t h live link none root = ⊎_elim (λ v. v.0)
 
 -- ---- a pair is freed
 
+-- a pair in use that is freed is one free pair more
 pub room-free : (pairs : List ℕ) (k : ℕ) → k < length pairs → 1 ≤ get_or pairs k 0 →
     room_of (set pairs k 0) ≡ room_of pairs + 1
 room-free pairs k within used =
@@ -340,6 +353,7 @@ room-free pairs k within used =
     let old : f (get_or pairs k 0) ≡ 0 = rw (ne_eqb (get_or pairs k 0) 0 (λ z. omega arith)) refl in
     omega arith
 
+-- there is space for a pair in use among those that were given back, and with it the free pairs are right again
 pub free_more : (pairs : List ℕ) (before after : FreeState) (k : ℕ) → IsFree pairs before → k < length pairs →
     1 ≤ get_or pairs k 0 → (length before.returned < before.unused)
     × (after.returned ≡ before.returned ++ (k ∷ []) → after.unused ≡ before.unused → after.pairs ≡ before.pairs →

@@ -15,17 +15,21 @@ use Rattle.triangle_pool.specs.Links.{blank_node, node_at, edge_link, with_link,
 
 -- ---- edges of a node
 
+-- the link across the edge a of the triangle a is that of the base
 pub edge-base : (node : Node) (a e : ℕ) → e ≡ a → edge_link node a e ≡ node.base
 edge-base node a e h = rw (eq-eqb e a h, edge_link) refl
 
+-- across another edge that is even, it is that of the left leg
 pub edge-left : (node : Node) (a e : ℕ) → e ≢ a → e % 2 ≡ 0 → edge_link node a e ≡ node.left
 edge-left node a e h k = rw (ne_eqb e a h, eq-eqb (e % 2) 0 k, edge_link) refl
 
+-- and across another that is odd, that of the right leg
 pub edge-right : (node : Node) (a e : ℕ) → e ≢ a → e % 2 ≡ 1 → edge_link node a e ≡ node.right
 edge-right node a e h k = rw (ne_eqb e a h, ne_eqb (e % 2) 0 (λ z. omega arith), edge_link) refl
 
 -- ---- slots
 
+-- an edge of a live triangle is at least 2
 pub edge_low : (pairs : List ℕ) (r e : ℕ) → IsLive pairs r → owner (has_children pairs) e ≡ address_at pairs r → 2 ≤ e
 edge_low pairs r e live own =
     elim (owner_cases (has_children pairs) e) [
@@ -33,12 +37,14 @@ edge_low pairs r e live own =
       | inr v ↦ let o = v.1 in omega arith
     ]
 
+-- what is linked across f is nowhere or a live slot, which has the leaf across
 pub across_live : (pairs : List ℕ) (f x : ℕ) → ArePairs pairs → 4 ≤ f → IsAcross pairs f x → x ≢ nowhere →
     IsLive pairs x × (1 ≤ mate_of f) × (address_at pairs x ≡ owner (has_children pairs) (mate_of f))
 across_live pairs f x h low is some = ⊎_elim (λ v. absurd (some v.1))
     (λ v. let two = mate_of-low f (omega arith) v.0 in
     let o = owner-low (has_children pairs) (mate_of f) h.tree.root two in let at = v.1 in (omega arith, v.0, v.1)) is
 
+-- where no leaf lies across f, the edge is relinked with no change
 pub relinked_nowhere : (pairs : List ℕ) (nodes : List Node) (f to : ℕ) → ArePairs pairs → 4 ≤ f →
     IsAcross pairs f nowhere →
     IsRelinked pairs nodes nodes f to
@@ -109,6 +115,7 @@ with_link-children node true even to = refl
 with_link-children node false true to = refl
 with_link-children node false false to = refl
 
+-- an edge is the base or a leg of the triangle that owns it
 pub owned : (pairs : List ℕ) (e c : ℕ) → owner (has_children pairs) e ≡ c → (e ≡ c) ⊎ (e / 2 ≡ c)
 owned pairs e c own =
     elim (owner_cases (has_children pairs) e) [
@@ -116,6 +123,7 @@ owned pairs e c own =
       | inr v ↦ let o = v.1 in inr (omega arith)
     ]
 
+-- one link set in the node of the leaf across f, its base's if that leaf is as fine as f, else a leg's, relinks f
 pub relinked_turn : (pairs : List ℕ) (nodes after : List Node) (x f to : ℕ) (finer even : Bool) → ArePairs pairs →
     4 ≤ f → IsAcross pairs f x → x ≢ nowhere →
     x < length nodes → finer ≡ nat_eq (level_of (address_at pairs x)) (level_of f) → even ≡ nat_eq (f % 2) 0 →

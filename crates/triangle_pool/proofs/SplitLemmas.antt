@@ -24,6 +24,7 @@ use Rattle.triangle_pool.proofs.HalveLemmas.{tree_of, child_shut, address-old, l
 
 -- ---- the set of split triangles
 
+-- in a forest with a closed set, what is split has its children in slots, and is closed under mates
 pub whole_of : (n : ℕ) (pairs parents : List ℕ) (nodes : List Node) → IsForest pairs parents nodes →
     IsClosed n (split_set pairs) → IsWhole (net_of pairs nodes)
 whole_of n pairs parents nodes forest closed = record {
@@ -39,6 +40,7 @@ whole_of n pairs parents nodes forest closed = record {
 
 -- ---- the links of a leaf's legs
 
+-- the left leg of a leaf is linked to the leaf across it, or on the border to nowhere
 pub left_across : (n : ℕ) (pairs parents : List ℕ) (nodes : List Node) (s a : ℕ) → IsForest pairs parents nodes →
     IsClosed n (split_set pairs) →
     address_at pairs s ≡ a → 2 ≤ a → has_children pairs a ≡ false → IsAcross pairs (2 * a) (node_at nodes s).left
@@ -50,6 +52,7 @@ left_across n pairs parents nodes s a forest closed is low leaf =
     (whole_of n pairs parents nodes forest closed) forest.linked (omega arith)
     (owner-whole (has_children pairs) (2 * a) (ap (has_children pairs) half ∙ leaf) ∙ half ∙ sym is))
 
+-- the same of its right leg
 pub right_across : (n : ℕ) (pairs parents : List ℕ) (nodes : List Node) (s a : ℕ) → IsForest pairs parents nodes →
     IsClosed n (split_set pairs) →
     address_at pairs s ≡ a → 2 ≤ a → has_children pairs a ≡ false → IsAcross pairs (2 * a + 1) (node_at nodes s).right
@@ -78,6 +81,7 @@ mate_shut n pairs parents nodes s k a forest closed o =
     (true≢false (sym (ap (has_children pairs) (sym back) ∙ whole.mate (mate_of a) two yes (omega arith)) ∙ o.leaf)))
     (λ no. no) (cases_Bool (has_children pairs (mate_of a)))
 
+-- a leaf that may be split may be halved while its mate's children have no pair
 pub ready_first : (n : ℕ) (pairs parents : List ℕ) (nodes : List Node) (s k a : ℕ) → IsForest pairs parents nodes →
     IsClosed n (split_set pairs) → MaySplit n pairs s k a →
     MayHalve pairs s k a nowhere
@@ -100,6 +104,7 @@ ready_first n pairs parents nodes s k a forest closed o =
 
 -- ---- the second half of a diamond
 
+-- once a is halved into the pair k, its mate may be halved into the pair j
 pub ready_second : (n : ℕ) (pairs parents : List ℕ) (nodes : List Node) (s t k j a : ℕ) → IsForest pairs parents nodes →
     IsClosed n (split_set pairs) → MaySplit n pairs s k a →
     MaySplitMate pairs t k j a → MayHalve (set pairs k a) t j (mate_of a) k
@@ -156,6 +161,7 @@ leg_second n pairs parents more_parents nodes more s t k j a e forest closed o t
     (omega arith) (owner-whole (has_children (set pairs k a)) e (ap (has_children (set pairs k a)) half ∙ shut_more)
     ∙ half ∙ sym at_more)
 
+-- once a is halved, the left leg of its mate is still linked to the leaf across it, or on the border to nowhere
 pub left_second : (n : ℕ) (pairs parents more_parents : List ℕ) (nodes more : List Node) (s t k j a : ℕ) →
     IsForest pairs parents nodes → IsClosed n (split_set pairs) → MaySplit n pairs s k a →
     MaySplitMate pairs t k j a → IsForest (set pairs k a) more_parents more →
@@ -168,6 +174,7 @@ left_second n pairs parents more_parents nodes more s t k j a forest closed o tw
     (edge-left (node_at more t) (address_at (set pairs k a) t) (2 * mate_of a) (λ w. omega arith) (omega arith))
     (leg_second n pairs parents more_parents nodes more s t k j a (2 * mate_of a) forest closed o two f (omega arith))
 
+-- the same of its right leg
 pub right_second : (n : ℕ) (pairs parents more_parents : List ℕ) (nodes more : List Node) (s t k j a : ℕ) →
     IsForest pairs parents nodes → IsClosed n (split_set pairs) → MaySplit n pairs s k a →
     MaySplitMate pairs t k j a → IsForest (set pairs k a) more_parents more →
@@ -189,6 +196,7 @@ up_set n pairs s a h at deep =
     has_children-set pairs (a / 2) (omega arith)
     (ap (λ t. has_children pairs (t / 2)) (sym at) ∙ h.tree.live s (omega arith))
 
+-- a split at the border leaves the set closed
 pub closed_one : (n : ℕ) (pairs parents : List ℕ) (nodes : List Node) (s k a : ℕ) → IsForest pairs parents nodes →
     IsClosed n (split_set pairs) → MaySplit n pairs s k a →
     mate_of a ≡ 0 → IsClosed n (split_set (set pairs k a))
@@ -205,6 +213,7 @@ closed_one n pairs parents nodes s k a forest closed o none =
     splittable splittable (λ deep. up_set n pairs s a forest.sound o.address deep)
     (λ deep. up_set n pairs s a forest.sound o.address deep) no_mate no_mate
 
+-- and so does that of a diamond
 pub closed_two : (n : ℕ) (pairs parents : List ℕ) (nodes : List Node) (s t k j a : ℕ) → IsForest pairs parents nodes →
     IsClosed n (split_set pairs) → MaySplit n pairs s k a →
     MaySplitMate pairs t k j a → IsClosed n (split_set (set (set pairs k a) j (mate_of a)))
@@ -234,6 +243,7 @@ closed_two n pairs parents nodes s t k j a forest closed o two =
     (λ q m. sym (mate_of-IsMate n a q low (omega arith) m))
     (λ q m. sym (mate_of-IsMate n (mate_of a) q b (omega arith) m) ∙ back)
 
+-- once a has its pair, its mate is still at its slot
 pub second_address : (n : ℕ) (pairs : List ℕ) (s t k j a : ℕ) → MaySplit n pairs s k a → MaySplitMate pairs t k j a →
     address_at (set pairs k a) t ≡ mate_of a
 second_address n pairs s t k j a o two =
