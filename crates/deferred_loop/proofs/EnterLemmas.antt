@@ -33,43 +33,6 @@ pub record IsEntering (w : DeferredFrame) (r : Readings) (odometer : ℕ) (befor
   pub most : more + length now.fresh ≤ count + length before.fresh
   pub least : more < 2 ^ 64 - 1 → count + length before.fresh ≤ more + length now.fresh
 
--- at first
-pub entering_first : (w : DeferredFrame) (r : Readings) (odometer : ℕ) (s : SeenMesh) (count : ℕ) → HasTrueKeys w s →
-    IsEntering w r odometer s s count count
-entering_first w r odometer s count sound = record {
-  set = refl;
-  sound = sound;
-  rest = λ a i. i;
-  known = λ a. refl;
-  stamp = λ a out. sym (cond-false (among s.fresh a) (Some (stamp_now r odometer a)) (s.stamps a) out);
-  most = omega arith;
-  least = λ small. omega arith;
-}
-
--- at the end
-pub entering_last : (w : DeferredFrame) (r : Readings) (odometer : ℕ) (before now : SeenMesh) (count more : ℕ) →
-    IsEntering w r odometer before now count more →
-    now.fresh ≡ [] → IsCaughtUp w r odometer before now × (more ≤ count + length before.fresh)
-    × (more < 2 ^ 64 - 1 → count + length before.fresh ≤ more)
-entering_last w r odometer before now count more e none =
-    let out : (a : ℕ) → among now.fresh a ≡ false = λ a. ap (λ (l : List ℕ). among l a) none in
-    let size : length now.fresh ≡ 0 = ap (λ (l : List ℕ). length l) none in
-    let most = e.most in (
-      record {
-        set = e.set;
-        settled = record {
-          grid = e.sound.grid;
-          valid = e.sound.valid;
-          fresh = none;
-          keys = λ a entry. e.sound.keys a entry (out a);
-        };
-        known = e.known;
-        stamp = λ a. e.stamp a (out a);
-      },
-      omega arith,
-      λ small. let least = e.least small in omega arith,
-    )
-
 module _ (w : DeferredFrame) (r : Readings) (odometer : ℕ) (now after : SeenMesh) (t : ℕ) (reading : Reading)
     (entered : IsEntered now after t reading odometer)
     (slack : reading.slack ≡ r.slack t) (upper : reading.hi.p ≡ r.upper t) (lower : reading.lo.p ≡ r.lower t) where

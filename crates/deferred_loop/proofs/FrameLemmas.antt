@@ -55,15 +55,6 @@ module _ (w : DeferredFrame) (is : IsDeferredFrame w) where
       let size = length-entries w.n w.start in
       omega (arith, c.total, leaves_small w.n w.start is.set, length-members w.n w.start is.set)
 
-  -- the run at the end
-  pub end_run : (s mid after : SeenMesh) (evaluations added removed count : ℕ) →
-      IsCharged w evaluations s added removed count → mid.set ≡ s.set → after.set ≡ mid.set →
-      IsFinished w.n w.budget w.priority s.set.members →
-      IsFrameRun w.n w.budget w.priority w.start after.set.members added removed
-  end_run s mid after evaluations added removed count c asked forgotten finished =
-      subst (λ (z : PoolSet). IsFrameRun w.n w.budget w.priority w.start z.members added removed)
-      (sym (forgotten ∙ asked)) record { run = c.run; finished = finished }
-
   -- the evaluations
   pub end_most : (s : SeenMesh) (evaluations added removed count : ℕ) → IsCharged w evaluations s added removed count →
       (all_open : List ℕ) → ((a : ℕ) → IsOpen w a → IsTrue (among all_open a)) →

@@ -5,26 +5,11 @@ use Rattle.mesh_defs.specs.ClosedSet.{among}
 use Rattle.deferred_loop.specs.Seen.{PoolSet, IsCountedBy}
 use Rattle.deferred_loop.specs.Log.{Log, IsListed, emptied, IsLogged, IsFrameLog}
 
--- no step adds nothing
-logged_none : (s : PoolSet) (log : Log) → IsLogged s s log log
-logged_none s log = record {
-  kept = λ a h. h;
-  listed = λ a. inl refl;
-  room = refl;
-  rises = omega arith;
-  few = λ list is. (list, is, omega arith);
-  fits = λ first is room. (first, is);
-}
-
 -- where the set and the log stay, what steps added before is what they added
 pub logged_on : (start now after : PoolSet) (old new end : Log) → IsLogged start now old new → after ≡ now → end ≡ new →
     IsLogged start after old end
 logged_on start now after old new end is set log =
     subst (λ z. IsLogged start z old end) (sym set) (subst (λ z. IsLogged start now old z) (sym log) is)
-
--- at the start
-pub logged_start : (start now : PoolSet) (old new : Log) → now ≡ start → new ≡ old → IsLogged start now old new
-logged_start start now old new set log = logged_on start start now old old new (logged_none start old) set log
 
 -- steps after steps
 pub logged_then : (a b c : PoolSet) (x y z : Log) → IsLogged a b x y → IsLogged b c y z → IsLogged a c x z

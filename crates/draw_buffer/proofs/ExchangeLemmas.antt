@@ -79,15 +79,6 @@ module _ (n : ℕ) (places : PlaceState) (vertices : VertexState) (corners : Lis
       let here = ap (λ y. corner_uses y v) is_x in
       omega (arith, whole.used v)
 
-  -- there is room for three uses more
-  pub whole-room : length waiting < places.most → sum vertices.uses + 3 ≤ vertices.most
-  whole-room some =
-      let long = whole-long in
-      let total = whole.total in
-      let few = whole.few in
-      let most = whole.point_most in
-      omega arith
-
   -- a triangle comes, and waits
   pub whole-admit : (after : VertexState) (x : Waiting) (s' : ℕ) → s ≤ s' → x.tri < places.end
       → AreTaken vertices after (grid_indices n x.tri) x.corners

@@ -14,25 +14,6 @@ moved : (ps : List ℕ) (s t k : ℕ) → s ≡ t → (t < length ps) × (get_or
     (s < length ps) × (get_or ps s 0 ≡ k)
 moved ps s t k e h = (omega (arith, h.0), ap (λ j. get_or ps j 0) e ∙ h.1)
 
--- the triangle that stands at a place after the last took that of another
-pub swap_remove-same : (ts : List ℕ) (k d e : ℕ) → k < length ts → swap_remove ts k d ≡ swap_remove ts k e
-swap_remove-same ts k d e within =
-    ap (λ t. take (length ts - 1) (set ts k t)) (get_or_default ts (length ts - 1) d e (omega arith))
-
--- at the place that is taken out stands then what was last
-pub swap_remove-here : (ts : List ℕ) (k : ℕ) → k < length ts - 1 →
-    get_or (swap_remove ts k 0) k 0 ≡ get_or ts (length ts - 1) 0
-swap_remove-here ts k within =
-    get_or-take (length ts - 1) (set ts k (get_or ts (length ts - 1) 0)) k 0 within
-    ∙ get_or-set_same ts k (get_or ts (length ts - 1) 0) 0 (omega arith)
-
--- and at each other place what stood there
-pub swap_remove-other : (ts : List ℕ) (k j : ℕ) → j < length ts - 1 → j ≢ k →
-    get_or (swap_remove ts k 0) j 0 ≡ get_or ts j 0
-swap_remove-other ts k j within apart =
-    get_or-take (length ts - 1) (set ts k (get_or ts (length ts - 1) 0)) j 0 within
-    ∙ get_or-set_other ts k j (get_or ts (length ts - 1) 0) 0 apart
-
 module _ (ts ps : List ℕ) (linked : IsPlaceOfEach ts ps) where
   -- the place of a triangle that stands somewhere
   pub linked-place : (a : ℕ) → 0 < times ts a →
@@ -89,33 +70,3 @@ module _ (ts ps : List ℕ) (linked : IsPlaceOfEach ts ps) where
             (apart t k away h) ∙ (linked k h).1,
       ))
       (cases_eq k (length ts))
-
-  -- the last goes
-  pub IsLinked-last : (at : ℕ) → at < length ts → length ts ≤ at + 1 → IsPlaceOfEach (swap_remove ts at 0) ps
-  IsLinked-last at inside last k hk =
-      let short = length-swap_remove ts at 0 inside in
-      moved ps (get_or (swap_remove ts at 0) k 0) (get_or ts k 0) k
-      (swap_remove-other ts at k (omega arith) (omega arith)) (linked k (omega arith))
-
-  -- another goes, and the last takes its place
-  pub IsLinked-close : (at last : ℕ) → at + 1 < length ts → last ≡ get_or (swap_remove ts at 0) at 0
-      → IsPlaceOfEach (swap_remove ts at 0) (set ps last at)
-  IsLinked-close at last inside is_last k hk =
-      let short = length-swap_remove ts at 0 (omega arith) in
-      let end : ℕ = length ts - 1 in
-      let here : last ≡ get_or ts end 0 = is_last ∙ swap_remove-here ts at (omega arith) in
-      let low = moved ps last (get_or ts end 0) end here (linked end (omega arith)) in
-      ⊎_elim
-      (λ (e : k ≡ at). moved (set ps last at) (get_or (swap_remove ts at 0) k 0) last k
-      (ap (λ j. get_or (swap_remove ts at 0) j 0) e ∙ sym is_last)
-      (omega (arith, length-set ps last at, low.0), get_or-set_same ps last at 0 low.0 ∙ sym e))
-      (λ (u : k ≢ at).
-      let h : k < length ts = omega arith in
-      let not_last : k ≢ end = omega arith in
-      moved (set ps last at) (get_or (swap_remove ts at 0) k 0) (get_or ts k 0) k
-      (swap_remove-other ts at k (omega arith) u) (
-        omega (arith, length-set ps last at, (linked k h).0),
-        get_or-set_other ps last (get_or ts k 0) at 0 (λ f. distinct k end h (omega arith) not_last (f ∙ here))
-            ∙ (linked k h).1,
-      ))
-      (cases_eq k at)

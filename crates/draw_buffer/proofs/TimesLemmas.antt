@@ -23,11 +23,6 @@ pub same-other : (t a : ℕ) → t ≢ a → same t a ≡ 0
 unfolding same
 same-other t a u = ap (λ b. cond b 1 0) (ne_eqb t a u)
 
--- two numbers count at most 1
-pub same-le : (t a : ℕ) → same t a ≤ 1
-same-le t a =
-    ⊎_elim (λ e. let h = same-one t a e in omega arith) (λ u. let h = same-other t a u in omega arith) (cases_eq t a)
-
 -- ---- a list and its changes
 
 -- no number stands in the empty list

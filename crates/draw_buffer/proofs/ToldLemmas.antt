@@ -103,14 +103,6 @@ told-gap e f at x inside long told triangles corners =
     told-close e f at x inside long (λ k none. fewer e.written at k (rw (← told) none))
     (λ k low none. apart e.written at k (rw (← told) none)) triangles corners
 
--- the last goes, and no place is told
-pub told-last : (e f : ExchangeState) (at : ℕ) (x : Indices) → at < length e.triangles → length e.triangles ≤ at + 1
-    → length e.corners ≡ length e.triangles
-    → f.written ≡ e.written → f.triangles ≡ swap_remove e.triangles at 0 →
-    f.corners ≡ swap_remove e.corners at x → KeepsUntold e f
-told-last e f at x inside last long told triangles corners =
-    told-close e f at x inside long (λ k none. rw (← told) none) (λ k low none. omega arith) triangles corners
-
 -- ---- numbers that were given out
 
 -- where nothing changes, each number keeps its point

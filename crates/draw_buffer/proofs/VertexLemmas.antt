@@ -72,13 +72,6 @@ sum-set us v u within = sum_by-set (λ u. u) us v u 0 within
 pub sum-push : (us : List ℕ) (u : ℕ) → sum (us ++ u ∷ []) ≡ sum us + u
 sum-push us u = sum_by_push (λ u. u) us u
 
--- no entry is greater than the sum
-pub use-le-sum : (us : List ℕ) (v : ℕ) → get_or us v 0 ≤ sum us
-use-le-sum us v = ⊎_elim
-    (λ (h : v < length us). get_or-le-sum_by (λ u. u) us v 0 h)
-    (λ (h : length us ≤ v). let none = get_or_past us v 0 h in omega arith)
-    (cases_lt v (length us))
-
 -- ---- reads after a change
 
 -- at the place that was set stands what was set there

@@ -144,18 +144,6 @@ pub below-step : (n : ℕ) (p : ℕ → ℕ) (low : ℕ) (has next : ℕ → Boo
 below-step n p low has next t needed outer above least k less =
     needed-step n k p has next t (needed k less) outer (omega arith) least
 
--- it makes the log longer, and there is an end to that
-pub longer-step : (n : ℕ) (flags next : List Bool) (log more : List ℕ) (t : ℕ) → HasLog n flags log →
-    HasLog n next more → IsOuter n (is_flagged flags) t →
-    IsLeastClosed n (with_triangle (is_flagged flags) t) (is_flagged next) →
-    (length log < length more) × (length more + 2 ≤ 2 * 4 ^ n)
-longer-step n flags next log more t g h outer least =
-    let one = counted n flags log g in
-    let two = counted n next more h in
-    let grown = step-grown n (is_flagged flags) (is_flagged next) t g.closed outer least in
-    let most = leaves-most n (is_flagged next) in
-    (omega arith, omega arith)
-
 -- the beginning
 
 -- the empty set has the two halves of the square as leaves

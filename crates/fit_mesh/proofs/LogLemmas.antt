@@ -131,14 +131,6 @@ log-below flags room count t same most logged new below =
 
 -- longer logs
 
--- a log extends itself
-pub extends-self : (log : List ℕ) → Extends log log
-extends-self log = ([], sym (append-nil log))
-
--- and what it extends, all that this one does
-pub extends-through : (one two three : List ℕ) → Extends one two → Extends two three → Extends one three
-extends-through one two three p q = (p.0 ++ q.0, q.1 ∙ ap (λ l. l ++ q.0) p.1 ∙ append_assoc one p.0 q.0)
-
 -- so the set has no less
 pub extends-subset : (flags next : List Bool) (log more : List ℕ) → IsLog flags log →
     IsLog next more → Extends log more →

@@ -69,19 +69,6 @@ pending-init n p old new log next t items closed before after extends least wait
         (among-in b extends.0 late))
         (IsIn-append b log extends.0 listed)
 
--- at the end none is left
-pub pending-end : (n : ℕ) (p : ℕ → ℕ) (has : ℕ → Bool) (log : List ℕ) (items : List (ℕ × ℕ)) →
-    IsPending n p has (drop (length log) log) items →
-    IsWaiting n p has items
-pending-end n p has log items pending = record {
-  ordered = pending.ordered;
-  entries = pending.entries;
-  leaves = λ a leaf some. ⊎_elim
-      (λ there. there)
-      (λ late. absurd (false≢true (subst (λ (l : List ℕ). IsTrue (among l (a / 2))) (drop-length log) late.1)))
-      (pending.leaves a leaf some);
-}
-
 -- the children of one member
 pub pending-step : (n : ℕ) (p : ℕ → ℕ) (has : ℕ → Bool) (log : List ℕ) (place t : ℕ) (old new : List (ℕ × ℕ)) →
     place < length log → t ≡ get_or log place t → IsTrue (has t) → IsHeap pair_cmp new → AreKept old new →

@@ -36,36 +36,6 @@ module _ (n : ℕ) (e : ℕ → ℕ) (tolerance : ℕ) (has : ℕ → Bool) (t :
 
 -- the children of a member
 
--- of two children, each that is above the tolerance is a member
-pub pair-settled : (e : ℕ → ℕ) (tolerance t left right : ℕ) (first second : ℕ → Bool) →
-    left ≡ 2 * t → right ≡ 2 * t + 1 →
-    (tolerance < e left → IsTrue (first left)) → IsSubset first second → (tolerance < e right → IsTrue (second right)) →
-    (a : ℕ) → 2 ≤ a → a / 2 ≡ t → tolerance < e a → IsTrue (second a)
-pair-settled e tolerance t left right first second is_left is_right one more two a low half above = ⊎_elim
-    (λ even.
-    let same : left ≡ a = omega arith in
-    more a (subst (λ z. tolerance < e z → IsTrue (first z)) same one above))
-    (λ odd.
-    let same : right ≡ a = omega arith in
-    subst (λ z. tolerance < e z → IsTrue (second z)) same two above)
-    (cases_lt (a % 2) 1)
-
--- nothing was asked yet but 2 and 3
-pub asked-init : (n : ℕ) (e : ℕ → ℕ) (tolerance : ℕ) (has : ℕ → Bool) → (tolerance < e 2 → IsTrue (has 2)) →
-    (tolerance < e 3 → IsTrue (has 3)) →
-    AreSettled n e tolerance has []
-asked-init n e tolerance has lower upper a address parent above = ⊎_elim
-    (λ (small : a < 4). ⊎_elim
-    (λ (less : a < 3).
-    let same : 2 ≡ a = (let l = address.low in omega arith) in
-    subst (λ z. tolerance < e z → IsTrue (has z)) same lower above)
-    (λ (more : 3 ≤ a).
-    let same : 3 ≡ a = omega arith in
-    subst (λ z. tolerance < e z → IsTrue (has z)) same upper above)
-    (cases_lt a 3))
-    (λ big. absurd (false≢true (parent big)))
-    (cases_lt a 4)
-
 -- one member more was asked
 pub asked-next : (n : ℕ) (e : ℕ → ℕ) (tolerance : ℕ) (flags next : List Bool) (log more : List ℕ) (place t : ℕ) →
     IsLog flags log → IsLog next more →

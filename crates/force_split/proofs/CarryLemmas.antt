@@ -144,11 +144,6 @@ answers_kept old mid new (s ∷ rest) answers chain kept h = (
   answer_kept old mid new s h.1 chain.0.live kept h.4,
 )
 
--- without slots there are no answers
-pub no_answers : (old new : List ℕ) (slots : List Slot) → length slots ≡ 0 → AreAnswers old new (numbers slots) []
-no_answers old new [] none = refl
-no_answers old new (s ∷ rest) none = absurd (omega (arith, none))
-
 -- the answer of the first slot comes behind those of the rest
 pub answers_step : (old mid new : List ℕ) (slots : List Slot) (first : Slot) (rest : List Slot) (more : List Born)
     (born : Born) → slots ≡ first ∷ rest → IsChain old (numbers slots) →

@@ -106,10 +106,6 @@ shared xs ys = filter (among ys) xs
 pub shared-apart : (xs ys : List ℕ) → ((b : ℕ) → IsIn b xs → IsIn b ys → ⊥) → shared xs ys ≡ []
 shared-apart xs ys apart = filter_none (among ys) xs (λ b is. absent b ys (apart b is))
 
--- a list shares all entries with itself
-pub shared-self : (xs : List ℕ) → shared xs xs ≡ xs
-shared-self xs = filter_all (among xs) xs (λ b is. among-in b xs is)
-
 -- lists in two parts share what the first parts share and then what the second parts share, if none share crosswise
 pub shared-both : (l r m s : List ℕ) → ((b : ℕ) → IsIn b l → IsIn b s → ⊥) → ((b : ℕ) → IsIn b r → IsIn b m → ⊥) →
     shared (l ++ r) (m ++ s) ≡ shared l m ++ shared r s

@@ -26,12 +26,6 @@ set_stays (x ∷ xs) zero (suc r) is = is
 set_stays (x ∷ xs) (suc s) zero is = is
 set_stays (x ∷ xs) (suc s) (suc r) is = set_stays xs s r is
 
--- where all have marks, each has
-pub all_marked : (n r : ℕ) → get_or (replicate n true) r true ≡ true
-all_marked zero r = refl
-all_marked (suc n) zero = refl
-all_marked (suc n) (suc r) = all_marked n r
-
 -- what lies at or above a triangle is it, or lies at or above its parent
 above_cases : (v t : ℕ) → IsUnder v t → (v ≡ t) ⊎ ((4 ≤ t) × IsUnder v (t / 2))
 above_cases v t self = inl refl
@@ -108,14 +102,3 @@ marked_by n pairs t w middle after None pool deep parent there absent same =
 marked_by n pairs t w middle after (Some r) pool deep parent there absent same =
     subst (λ (z : WalkState). IsPathMarked pairs t w.touched z.touched) (sym there.1)
     (marked_child n pairs t r.0 w.touched middle.touched pool deep there.0 parent)
-
--- where what is above each triangle of a list has marks, what has none has not changed
-pub untouched_by : (pairs changed : List ℕ) (touched : List Bool) (before : ℕ → Bool) →
-    IsCovered before (split_set pairs) changed →
-    ((b r : ℕ) → Contains changed b → IsLive pairs r → is_at_or_below (address_at pairs r) b ≡ true →
-    get_or touched r true ≡ true) →
-    AreUntouched pairs touched before
-untouched_by pairs changed touched before covered above r live unmarked b under = ⊎_elim
-    (λ same. same)
-    (λ listed. absurd (both_ways (get_or touched r true) unmarked (above b r listed live under)))
-    (covered b)

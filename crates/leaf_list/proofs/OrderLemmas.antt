@@ -137,28 +137,8 @@ pub begins-in : (t : ℕ) (xs more : List ℕ) → 1 ≤ length xs → begins_wi
 begins-in t [] more some begins = absurd (omega arith)
 begins-in t (x ∷ xs) more some begins = inl (eqb-true x t begins)
 
--- behind the end there is nothing
-drop_past : (xs : List ℕ) (k : ℕ) → length xs ≤ k → drop k xs ≡ []
-drop_past [] zero past = refl
-drop_past [] (suc k) past = refl
-drop_past (x ∷ xs) zero past = absurd (omega arith)
-drop_past (x ∷ xs) (suc k) past = drop_past xs k (omega arith)
-
--- the run behind a place, by one step of a search
-pub run_more : (t : ℕ) (xs : List ℕ) (k d : ℕ) → k < length xs → first_of (get_or xs k d) < end_of t →
-    run_length t (drop k xs) ≡ 1 + run_length t (drop (k + 1) xs)
-run_more t xs k d within before =
-    ap (run_length t) (drop-cons xs k d within)
-    ∙ cond-true (nat_lt (first_of (get_or xs k d)) (end_of t)) (1 + run_length t (drop (suc k) xs)) 0
-    (lt-ltb (first_of (get_or xs k d)) (end_of t) before)
-    ∙ ap (λ j. 1 + run_length t (drop j xs)) (let e : suc k ≡ k + 1 = omega arith in e)
-
 -- and its end
 pub run_over : (t : ℕ) (xs : List ℕ) (k d : ℕ) → k < length xs → end_of t ≤ first_of (get_or xs k d) →
     run_length t (drop k xs) ≡ 0
 run_over t xs k d within behind =
     ap (run_length t) (drop-cons xs k d within) ∙ run-apart t (get_or xs k d) (drop (suc k) xs) behind
-
--- past the end of the list there is no run
-pub run_out : (t : ℕ) (xs : List ℕ) (k : ℕ) → length xs ≤ k → run_length t (drop k xs) ≡ 0
-run_out t xs k past = ap (run_length t) (drop_past xs k past)

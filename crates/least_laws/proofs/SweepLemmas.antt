@@ -146,33 +146,6 @@ swept_at_last n wanted has s = record {
 
 -- one visit, by what it marks
 
--- a triangle without a parent marks nothing
-pub parent_marked-base : (t : ℕ) (has : ℕ → Bool) → t < 4 → IsParentMarked t has has
-parent_marked-base t has small = record { keeps = λ a h. h; parent = λ big. absurd (omega arith); only = λ a h. inl h }
-
--- another marks its parent
-pub parent_marked : (t p : ℕ) (has next : ℕ → Bool) → 4 ≤ t → p ≡ t / 2 → ((a : ℕ) → next a ≡ with_triangle has p a) →
-    IsParentMarked t has next
-parent_marked t p has next big half added = record {
-  keeps = λ a h. added a ∙ with-old has p a h;
-  parent = λ _. subst (λ z. IsTrue (next z)) half (added p ∙ with-new has p);
-  only = λ a h. ⊎_elim (λ old. inl old) (λ same. inr (big, sym same ∙ half)) (with-cases has p a (sym (added a) ∙ h));
-}
-
--- a visit of a triangle without a mate
-pub marked-alone : (n k : ℕ) (has next : ℕ → Bool) → ((b : ℕ) → IsMate n k b → ⊥) →
-    IsParentMarked k has next → IsMarked n k has next
-marked-alone n k has next alone p = record {
-  keeps = p.keeps;
-  marks = marks;
-  only = λ a h. ⊎_elim (λ old. inl old) (λ new. inr (own_parent new.0 new.1)) (p.only a h);
-}
-  where
-    marks : (a : ℕ) → NewMark n k a → IsTrue (next a)
-    marks a (own_parent big e) = subst (λ z. IsTrue (next z)) (sym e) (p.parent big)
-    marks a (own_mate mate) = absurd (alone a mate)
-    marks a (mate_parent b mate big e) = absurd (alone b mate)
-
 -- a visit of a triangle with a mate u: its parent, u, the parent of u
 pub marked-pair : (n k u : ℕ) (has first half next : ℕ → Bool) → IsAddress n k → IsMate n k u →
     IsParentMarked k has first →

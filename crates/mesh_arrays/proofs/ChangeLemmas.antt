@@ -92,14 +92,6 @@ pub record IsAloneSoFar (these those start : List ℕ) (seen passed count : ℕ)
   pub counted : count ≡ length (alone (take seen these) those)
   pub written : out ≡ with_first (alone (take seen these) those) start
 
--- before the first of them
-pub so_far-none : (these those start : List ℕ) → IsAloneSoFar these those start 0 0 0 start
-so_far-none these those start = record {
-  behind = λ k j below later end. absurd (omega arith);
-  counted = refl;
-  written = refl;
-}
-
 -- What was passed on the way to one triangle more ends before it, and before all that follow it.
 record IsPassed (these those : List ℕ) (seen passed t : ℕ) : Type 0 where
   before : (k : ℕ) → k < passed → end_of (get_or those k 0) < end_of t

@@ -204,10 +204,6 @@ module _ (n : ℕ) where
   same : eqb (2 ^ n) (2 ^ n) ≡ true
   same = eq-eqb (2 ^ n) (2 ^ n) refl
 
-  -- the numbers of the four vertices
-  vertex_number-1 : vertex_number (square_corners n) (point 0 0) ≡ 1
-  vertex_number-1 = refl
-
   vertex_number-2 : vertex_number (square_corners n) (point (2 ^ n) 0) ≡ 2
   vertex_number-2 = number_by-2 (eqb (2 ^ n) 0 && eqb 0 0) (eqb (2 ^ n) (2 ^ n) && eqb 0 0)
       (eqb (2 ^ n) 0 && eqb 0 (2 ^ n)) (eqb (2 ^ n) (2 ^ n) && eqb 0 (2 ^ n))

@@ -114,10 +114,6 @@ columns-held c y s all left base held a one two three x =
 
 -- ---- values along columns
 
--- none yet
-pub greatest-none : (f : ℕ → ℕ) → IsGreatestAlong 0 f 0
-greatest-none f = record { bound = λ k below. absurd (omega arith); reached = inl refl }
-
 -- one more
 pub greatest-next : (count : ℕ) (f : ℕ → ℕ) (most value : ℕ) → value ≡ f count → IsGreatestAlong count f most →
     IsGreatestAlong (count + 1) f (max most value)

@@ -30,10 +30,6 @@ off_plane-gap n heights a r address =
     let swap : area * (2 ^ n * surface) ≡ 2 ^ n * (area * surface) = omega arith in
     left ∙ rw (swap, exactly) (sym right)
 
--- a division keeps the order
-div-le : (area i j k : ℕ) → 0 < area → area * i ≤ k → area * j ≡ k → i ≤ j
-div-le area i j k some le e = le_of_mul-le-mul_left {k = area} (omega arith) some
-
 -- the greatest gap over some points of a triangle, times 2^n over twice the area, is the greatest way off the plane
 pub IsMost-off_plane : (n : ℕ) (heights : List ℕ) (a : ℕ) (P : Point → Type 0) (m area most : ℕ) → IsAddress n a →
     m ≡ 2 ^ n → area ≡ area_of (corners_of n a) → IsMost P (gap_of (corners_of n a) (height_of n heights)) most →

@@ -130,11 +130,6 @@ reached-rows c bounds f end most last h = ⊎_elim
     ))
     h.reached
 
--- no row
-pub IsMost-rows_start : (c : Corners) (bounds : Bounds) (f : Point → ℕ) → IsMost (IsInRows c bounds bounds.low) f 0
-IsMost-rows_start c bounds f =
-    IsMost-none (IsInRows c bounds bounds.low) f (λ r h. let from = h.low in let before = h.before in omega arith)
-
 -- one row more
 pub IsMost-rows_next : (c : Corners) (bounds : Bounds) (y : ℕ) (f : Point → ℕ) (i j : ℕ) → bounds.low ≤ y →
     IsMost (IsInRows c bounds y) f i →

@@ -60,9 +60,6 @@ right-corners n t big odd =
 
 -- the corners of a left child, from its parent's face
 module _ (n t : ℕ) (numbers : List ℕ) (f : Face) (big : 4 ≤ t) (of : f.tri ≡ t / 2) (face : IsFace n numbers f) where
-  at_corner : (c d : Point) (k : Corner) → c ≡ d → IsCornerAt n numbers c k → IsCornerAt n numbers d k
-  at_corner c d k same is = subst (λ p. IsCornerAt n numbers p k) same is
-
   left_is : t % 2 ≡ 0 → corners_of n t ≡ child 0 (corners_of n f.tri)
   left_is even = left-corners n t big even ∙ ap (λ a. child 0 (corners_of n a)) (sym of)
 

@@ -34,23 +34,6 @@ put-written before mid now page page' piece text x same empty put appends = reco
       );
 }
 
--- a page of which the sink got a part
-pub cut-written : {T E : Type 0} (before mid now : Option (List ℕ)) (page text : List ℕ) (e : E) →
-    IsPut before mid page text →
-    Appends {T = T} {E = E} mid now page (Err e) → IsWrittenInPart before now text
-cut-written before mid now page text e put appends = record {
-  holds = λ all is.
-      let p = put.holds all is in
-      let cut = appends.failed (all ++ p.0) p.1 in (
-        p.0 ++ cut.0,
-        record {
-          back = cut.1.back;
-          joined = p.2 ∙ ap (λ l. p.0 ++ l) cut.1.joined ∙ sym (append_assoc p.0 cut.0 cut.1.back);
-        },
-        cut.2 ∙ ap (λ l. Some l) (append_assoc all p.0 cut.0),
-      );
-}
-
 -- a prefix of the text is one of a longer text
 pub cut-longer : (before now : Option (List ℕ)) (text more whole : List ℕ) → whole ≡ text ++ more →
     IsWrittenInPart before now text → IsWrittenInPart before now whole
@@ -66,27 +49,10 @@ cut-longer before now text more whole is_whole cut = record {
       );
 }
 
--- what that is for a call that appends the text
-pub appends-put : {T E : Type 0} (before now : Option (List ℕ)) (text : List ℕ) (x : T) → IsPut before now [] text →
-    Appends {T = T} {E = E} before now text (Ok x)
-appends-put before now text x put = record {
-  ok = λ all is. let p = put.holds all is in p.1 ∙ ap (λ l. Some (all ++ l)) (sym (p.2 ∙ append-nil p.0));
-  failed = tt;
-}
-
 pub appends-cut : {T E : Type 0} (before now : Option (List ℕ)) (text : List ℕ) (e : E) →
     IsWrittenInPart before now text →
     Appends {T = T} {E = E} before now text (Err e)
 appends-cut before now text e cut = record { ok = tt; failed = cut.holds }
-
--- the last page
-pub appends-rest : {T E : Type 0} (before mid now : Option (List ℕ)) (page text : List ℕ) (answer : Result T E) →
-    IsPut before mid page text →
-    Appends mid now page answer → Appends before now text answer
-appends-rest before mid now page text (Ok x) put appends =
-    appends-put before now text x (put-written before mid now page [] page text x refl refl put appends)
-appends-rest before mid now page text (Err e) put appends =
-    appends-cut before now text e (cut-written before mid now page text e put appends)
 
 -- texts of the entries of a list, one after the other
 

@@ -194,25 +194,6 @@ module _ (start reader : reading.HeaderProgress) (piece : List ℕ) (begun : IsO
         limit = begins.limit;
       }
 
--- nothing was taken
-pub taken-nothing : (start : reading.HeaderProgress) (piece : List ℕ) → IsOpenHeader start →
-    HasTaken start start piece 0
-taken-nothing start piece begun = record { means = λ more. refl; counted = omega arith; goes_on = begun }
-
--- one byte more was taken
-pub taken-more : (start reader new : reading.HeaderProgress) (piece : List ℕ) (i : ℕ) → i < length piece →
-    HasTaken start reader piece i
-    → ((more : List ℕ) → reading.resume_header reader (get_or piece i 0 ∷ more) ≡ reading.resume_header new more)
-    → reading.header_taken new ≡ reading.header_taken reader + 1 → IsOpenHeader new → HasTaken start new piece (i + 1)
-taken-more start reader new piece i below so_far means counted free = record {
-  means = λ more.
-      ap (λ p. reading.resume_header start (p ++ more)) (take_more piece i 0 below)
-      ∙ ap (reading.resume_header start) (append_assoc (take i piece) (get_or piece i 0 ∷ []) more)
-      ∙ so_far.means (get_or piece i 0 ∷ more) ∙ means more;
-  counted = counted ∙ omega (arith, so_far.counted);
-  goes_on = free;
-}
-
 -- A reader that is new.
 
 -- a reader of headers that has taken no byte and may still refuse one is in a header that goes on
@@ -259,19 +240,6 @@ unfolding resume
 begins-refused header at reader rest fault means refusal more =
     ap (grid_answer header) (sym (means (rest ++ more))) ∙ refusal more
 
--- a raster of which no byte has come
-pub raster-begun : OnlyWantedSamplesAreRead →
-    (header : Header) (at : ℕ) (reader : samples.RasterProgress) → IsHeader header
-    → ((more : List ℕ) → samples.resume_raster reader more ≡ samples_at header at more)
-    → samples.next_place reader ≤ 2 ^ 28 → IsReaderFor header reader
-raster-begun laws header at reader valid means small = record {
-  valid = valid;
-  wanted = λ more. subst (λ (answer : samples.RasterAnswer).
-      IfOk answer (λ heights. (length heights ≡ point_count header.n) × All (λ h. h ≤ header.maxval) heights))
-      (sym (means more)) (laws (form_of header.plain header.maxval) (point_count header.n) header.maxval at more);
-  small = small;
-}
-
 -- The end of a file.
 
 -- a file that ends in its header is truncated
@@ -290,21 +258,6 @@ pub end-raster : (header : Header) (reader : samples.RasterProgress) (answer : s
     → resume (InRaster header reader) [] ≡ grid_answer header answer
 unfolding resume
 end-raster header reader answer e = ap (grid_answer header) e
-
--- the samples of a whole raster are heights of a grid
-pub whole-field : (header : Header) (reader : samples.RasterProgress) (heights : List ℕ) → IsReaderFor header reader
-    → samples.resume_raster reader [] ≡ Ok heights → IsHeightField (grid_with header heights)
-whole-field header reader heights before e =
-    let found = IfOk-at_ok (λ (hs : List ℕ). (length hs ≡ point_count header.n) × All (λ h. h ≤ header.maxval) hs) e
-    (before.wanted []) in
-    record {
-      n_low = before.valid.level.low;
-      n_high = before.valid.level.high;
-      maxval_low = before.valid.maxval.low;
-      maxval_high = before.valid.maxval.high;
-      count = found.0;
-      bounded = found.1;
-    }
 
 -- Answers of calls.
 

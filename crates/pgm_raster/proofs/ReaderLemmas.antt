@@ -87,11 +87,6 @@ closed r self fault v e =
     sym v
     ∙ ap (λ (o : Option RasterFault). raster_progress_of o (ReadingSamples r.limits r.heights.items r.part r.at)) e
 
--- what holds of the fields of a reader that has refused no byte
-pub opened-fields : (r : Inside) → IsRasterReader r.refused r.limits r.heights r.part r.at → r.refused ≡ None →
-    IsRasterReader None r.limits r.heights r.part r.at
-opened-fields r valid e = subst (λ (o : Option RasterFault). IsRasterReader o r.limits r.heights r.part r.at) e valid
-
 -- fields without a refusal are those of a reader that has refused nothing
 pub opened-refusal : (r : Inside) (self : RasterProgress) →
     raster_progress_of r.refused (ReadingSamples r.limits r.heights.items r.part r.at) ≡ self →

@@ -33,14 +33,6 @@ not_positive p h = ⊎_elim
 
 -- picking
 
--- nothing is below 2
-pub IsPicked-nothing : (priority : ℕ → ℕ) (ranks : List Rank) → ranks ≡ [] → IsPicked priority 2 ranks
-IsPicked-nothing priority ranks e = subst (λ (l : List Rank). IsPicked priority 2 l) (sym e) record {
-  valued = All-nil (λ (r : Rank). r.p ≡ priority r.tri);
-  once = λ a low below. absurd (omega arith);
-  only = λ a some. absurd (omega arith);
-}
-
 -- one more at the end
 count-push : (a : ℕ) (ranks : List Rank) (r : Rank) →
     count_of a (ranked_triangles (ranks ++ r ∷ [])) ≡ count_of a (ranked_triangles ranks) + one_if (eqb r.tri a)

@@ -477,9 +477,3 @@ raised-down maxval h (negsuc k) bound down =
     ⊎_elim (λ l. let none : h - suc k ≡ 0 = omega arith in none ∙ sym (ap at (lt-ltb h (suc k) l)))
     (λ l. let some : h - suc k ≡ min (h - suc k) maxval = omega arith in some ∙ sym (ap at (le-ltb h (suc k) l)))
     (cases_lt h (suc k))
-
--- a step up never goes below 0
-pub raised-up : (maxval h : ℕ) (delta : ℤ) → (delta <ℤ pos 0 → ⊥) →
-    min (h + unsigned_abs delta) maxval ≡ raised maxval delta h
-raised-up maxval h (pos k) up = refl
-raised-up maxval h (negsuc k) up = absurd (up (omega (arith, ints)))

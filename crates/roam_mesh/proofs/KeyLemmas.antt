@@ -145,10 +145,6 @@ sure_keys e sure = by_cases e.known e.stamped e.exact e.upper e.lower sure
     by_cases true stamped exact upper lower sure = refl
     by_cases false stamped exact upper lower sure = eqb-true (cond stamped upper 0) (cond stamped lower 0) sure
 
--- an entry that is not sure was not told
-unsure_unknown : (e : Entry) → is_sure e ≡ false → e.known ≡ false
-unsure_unknown e unsure = (or_parts e.known (nat_eq (cond e.stamped e.upper 0) (cond e.stamped e.lower 0)) unsure).0
-
 -- the key of a diamond is that of each of its slots
 diamond_same : (parts : PartsState) (s b : ℕ) → IsLive parts.pool.pairs s → IsOfDiamond parts s b →
     diamond_rank parts (address_at parts.pool.pairs b) ≡ diamond_rank parts (chief_of (address_at parts.pool.pairs s))

@@ -189,16 +189,6 @@ chosen t a x y z same other = ⊎_elim
     (λ apart. other apart ∙ sym (ap (λ b. cond b y z) (ne_eqb t a apart)))
     (cases_eq t a)
 
-unstamped : (e : Entry) → e.stamped ≡ false → stamp_in e ≡ None
-unstamped e none = ap (λ b. cond b
-    (Some (record {
-      odometer = e.odometer;
-      slack = e.slack;
-      upper = e.upper;
-      lower = e.lower;
-      expired = e.expired;
-    })) None) none
-
 -- and expires the stamp of its triangle alone
 pub expired_stamps : (parts : PartsState) (log : Log) (s t : ℕ) → IsWhole parts → IsParts parts
     → IsLive parts.pool.pairs s → address_at parts.pool.pairs s ≡ t → (a : ℕ) →

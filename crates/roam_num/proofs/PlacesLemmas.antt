@@ -253,28 +253,6 @@ decimal-items old middle new count n same over power is first second =
     ∙ ap (λ (k : ℕ). old ++ (decimal (k / over) ++ digits k over)) is
     ∙ ap (λ (m : ℕ). old ++ (decimal (count / m) ++ digits count m)) power
 
--- the point and the digits behind it
-pub fraction-items : (old middle new : List ℕ) (most rest over : ℕ) → 0 < most → 0 < rest → middle ≡ old ++ 46 ∷ []
-    → new ≡ middle ++ fraction_digits most rest over → new ≡ old ++ behind_point (fraction_digits most rest over)
-fraction-items old middle new most rest over some left first second =
-    let one = fraction-some most rest over some left in
-    let digits : List ℕ = fraction_digits (most - 1) (10 * rest % over) over in
-    let digit : ℕ = 48 + 10 * rest / over in
-    second
-    ∙ ap (λ (l : List ℕ). l ++ fraction_digits most rest over) first
-    ∙ append_assoc old (46 ∷ []) (fraction_digits most rest over)
-    ∙ ap (λ (l : List ℕ). old ++ 46 ∷ l) one
-    ∙ ap (λ (l : List ℕ). old ++ behind_point l) (sym one)
-
--- there are no digits, and no point
-pub fraction-nothing : (old : List ℕ) (most rest over : ℕ) → (most ≡ 0) ⊎ (rest ≡ 0) →
-    old ≡ old ++ behind_point (fraction_digits most rest over)
-fraction-nothing old most rest over (inl none) =
-    sym (ap (λ (k : ℕ). old ++ behind_point (fraction_digits k rest over)) none ∙ append-nil old)
-fraction-nothing old most rest over (inr none) =
-    sym (ap (λ (k : ℕ). old ++ behind_point (fraction_digits most k over)) none
-    ∙ ap (λ (l : List ℕ). old ++ behind_point l) (fraction-none most over) ∙ append-nil old)
-
 -- one digit of the loop more, or none because nothing is left
 pub next-digit : (all old new : List ℕ) (most place rest over : ℕ) → place < most → 0 < rest
     → old ++ fraction_digits (most - place) rest over ≡ all → new ≡ old ++ (48 + 10 * rest / over) ∷ []

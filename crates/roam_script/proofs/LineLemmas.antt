@@ -78,11 +78,6 @@ fault-of_within number _ _ NoneIsLeft = refl
 fault-of_within number _ _ (IsAndMore range ranges field fields v is within more) =
     fault-passed number range ranges field fields v is within ∙ fault-of_within (number + 1) ranges fields more
 
--- there are as many of them as ranges
-count-within : (ranges : List Range) (fields : List (List ℕ)) → AreWithin ranges fields → length fields ≡ length ranges
-count-within _ _ NoneIsLeft = refl
-count-within _ _ (IsAndMore range ranges field fields v is within more) = ap suc (count-within ranges fields more)
-
 -- what as many fields as ranges come to: they all pass, or one fails first
 abbrev pub FieldsCome : ℕ → List Range → List (List ℕ) → Option ScriptFault → Type 0
 FieldsCome number ranges fields None = AreWithin ranges fields

@@ -43,14 +43,6 @@ of-budget show engine = by_parts show.criterion show.order show.output engine
         no-engine : false ≡ true → ⊥
         no-engine e = cc
 
--- the change that is counted where an engine makes the frames is that of the steps of a frame
-is-run : (show : Show) (state : State) (before after : List ℕ) (splits merges : ℕ) → IsTrue (is_of_engine show)
-    → IsChangeFor show.criterion state before after splits merges
-    → IsFrameRun state.grid.n state.budget (priority_in state) before after splits merges
-is-run show state before after splits merges engine change =
-    let P : Criterion → Type 0 = λ c. IsChangeFor c state before after splits merges in
-    subst P (of-budget show engine) change
-
 -- the counts are determined
 IsChangeFor-unique : RunsAreUnique → (criterion : Criterion) (state : State) (before after : List ℕ) (i j k l : ℕ)
     → IsChangeFor criterion state before after i k → IsChangeFor criterion state before after j l → (i ≡ j) × (k ≡ l)

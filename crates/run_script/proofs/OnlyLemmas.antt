@@ -68,27 +68,6 @@ module _ {T E : Type 0} (before now : Moment) where
     report_in_time = did.report_in_time;
   }
 
--- bytes were taken, and then more
-pub takes-then : (before middle now : Moment) (answer : Result (Unit {0}) Stop) → OnlyTakes before middle taken
-    → OnlyTakes middle now answer → OnlyTakes before now answer
-takes-then before middle now answer one two =
-    let none = one.faults.others (λ e. cc) in
-    record {
-      shelf = two.shelf ∙ one.shelf;
-      shelf_faults = two.shelf_faults ∙ one.shelf_faults;
-      shelf_late = two.shelf_late ∙ one.shelf_late;
-      idle = λ not. two.idle not ∙ one.idle (λ e. cc);
-      faults =
-          subst (λ (k : ℕ). StopsHaveCause k now.sinks.mesh_faults before.sinks.report_faults now.sinks.report_faults
-          answer) none.meshes_same
-          (subst (λ (k : ℕ). StopsHaveCause middle.sinks.mesh_faults now.sinks.mesh_faults k now.sinks.report_faults
-          answer) none.report_same two.faults);
-      meshes_in_time =
-          λ not_late no_fault. two.meshes_in_time (one.meshes_in_time not_late no_fault) (none.meshes_same ∙ no_fault);
-      report_in_time =
-          λ not_late no_fault. two.report_in_time (one.report_in_time not_late no_fault) (none.report_same ∙ no_fault);
-    }
-
 -- a script ended with its bytes
 pub ends-taken : (before now : Moment) → OnlyTakes before now taken → OnlyEnds before now ends.Done
 ends-taken before now takes = record {

@@ -63,13 +63,6 @@ fields-cut (byte ∷ bytes) (suc n) positive within none ends =
     ∙ fields-run byte (take n bytes) (drop n bytes) (All-head IsOther byte (take n bytes) none)
     (All-tail IsOther byte (take n bytes) none) ends
 
--- the bytes from a separating one on have the fields of those behind it
-pub fields-drop_gap : (bytes : List ℕ) (i : ℕ) → i < length bytes → is_gap (get_or bytes i 0) ≡ true →
-    fields_of (drop (i + 1) bytes) ≡ fields_of (drop i bytes)
-fields-drop_gap bytes i within gap =
-    rw add-one
-    (sym (ap fields_of (drop-cons bytes i 0 within) ∙ fields-gap (get_or bytes i 0) (drop (suc i) bytes) gap))
-
 -- the bytes from a place on begin with a separating byte where that at the place is one
 pub begins-drop : (bytes : List ℕ) (i : ℕ) (v : Bool) → i < length bytes → is_gap (get_or bytes i 0) ≡ v →
     begins_with_gap (drop i bytes) ≡ v

@@ -110,11 +110,6 @@ level-under v x (below y h u) =
     let rest : level_of v ≤ level_of (y / 2) = level-under v (y / 2) u in
     omega arith
 
--- what lies below an address of the grid comes from it
-pub low-under : (v x : ℕ) → 2 ≤ v → IsUnder v x → 2 ≤ x
-low-under v x low self = low
-low-under v x low (below y h u) = omega arith
-
 -- below what lies below
 pub IsUnder-trans : (v w x : ℕ) → IsUnder v w → IsUnder w x → IsUnder v x
 IsUnder-trans v w x u self = u

@@ -496,12 +496,3 @@ inner_linked pairs n0 n1 n2 s k a mate h ready given count count_1 is_1 is_2 =
       others = λ r e live own x y. r2.others r e live own x ∙ r1.others r e live own y;
       children = λ r. r2.children r ∙ r1.children r;
     }
-
--- where the mate's children have no pair, there are no inner links to set
-pub inner_alone : (pairs : List ℕ) (nodes : List Node) (k a mate : ℕ) → mate ≡ nowhere →
-    AreInnerLinks pairs nodes nodes k a mate
-inner_alone pairs nodes k a mate none = record {
-  there = λ r e live own given. absurd (given none);
-  others = λ r e live own x y. refl;
-  children = λ r. refl;
-}

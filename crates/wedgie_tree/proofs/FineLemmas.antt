@@ -53,13 +53,6 @@ middle-at laws n a p coarse at =
     let even : HasEvenBase c = laws.even n a coarse in
     rw (at.v0, at.v1) (place-halfway (2 ^ n) c.v0.x c.v0.y c.v1.x c.v1.y w.v0_y w.v1_y even.x even.y)
 
--- it lies within the list
-pub middle-within : AddressLaws → (g : HeightField) (a : ℕ) (p : Places) → IsHeightField g →
-    IsAt g.n (corners_of g.n a) p →
-    (p.v0 + p.v1) / 2 < length g.heights
-middle-within laws g a p valid at =
-    let w : AreWithin p (length g.heights) = AreWithin-at laws g a p valid at in omega (arith, w.v0, w.v1)
-
 -- the places of the children
 pub IsAt-left : AddressLaws → (n a : ℕ) (p : Places) → 2 ≤ a → level_of a < 2 * n → IsAt n (corners_of n a) p →
     IsAt n (corners_of n (2 * a)) (record { apex = (p.v0 + p.v1) / 2; v0 = p.apex; v1 = p.v0 })
