@@ -1,5 +1,5 @@
 -- The mesh that is kept, in room for every mesh of its grid. This project's own words.
--- Words: FitMesh, heap_room, IsKeptForFit.
+-- Words: FitMesh, IsKeptForFit.
 use Rattle.std.specs.Prelude.{◌≡◌, ℕ, ◌+◌, ◌*◌, ◌^◌, ◌<◌, ◌≤◌, Bool, List, length, take}
 use Rattle.mesh_defs.specs.HeightField.{side_of}
 use Rattle.mesh_defs.specs.Tiling.{IsConforming}

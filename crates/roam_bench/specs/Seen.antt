@@ -1,5 +1,5 @@
 -- What a gauge over made heights tells, and its readings.
--- Words: spacing, view_of, told_from, slack_from, readings_from.
+-- Words: told_from, far_from, readings_from.
 use Rattle.std.specs.Prelude.{ℕ, ◌+◌, ◌-◌, ◌/◌, List, []}
 use Rattle.mesh_defs.specs.BoundingBox.{CameraAt, box_of, distance_of}
 use Rattle.mesh_defs.specs.Thickness.{thickness_of}

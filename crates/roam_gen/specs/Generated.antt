@@ -1,7 +1,7 @@
 -- A grid and a script that are made from a level and a seed. This project's own.
 --
--- Words: plus, product, mixed, octave_base, lattice_from, lattice, between, octave, octaves, made_height, made_heights,
--- made_grid, camera_line, edit_line, frame_lines, made_lines.
+-- Words: plus, product, mixed, octave_base, lattice_from, lattice, between, octave, octaves, made_height,
+-- height_of_place, made_grid, camera_line, edit_line, frame_lines, made_lines.
 use Rattle.std.specs.Prelude.{ℕ, zero, suc, ◌+◌, ◌-◌, ◌*◌, ◌/◌, ◌%◌, ◌^◌, ◌==◌, if◌then◌else◌, List, [], ◌∷◌, ◌++◌, map}
 use Rattle.std.specs.Prelude.{pos}
 use Rattle.std.specs.List.{range_with_len, flat_map}

@@ -1,5 +1,5 @@
 -- How far a script was carried out, and what its next bytes do: the words of the calls within a run.
--- Words: Place, HasCome, Refuses, Cuts, TakesPiece.
+-- Words: Place, HasCome, Refuses, Cuts.
 use Rattle.std.specs.Prelude.{◌≡◌, ℕ, List, [], ◌++◌, None, IsSome}
 use Rattle.run_laws.specs.Walk.{Walk, walk_of, AreWhole, HasBegun}
 use Rattle.word_laws.specs.Words.{Show}
