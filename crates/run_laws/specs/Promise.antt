@@ -105,8 +105,8 @@ may_end (Some command) Rejected = is_check command
 may_end (Some command) _ = true
 
 -- How many files were opened, of so many that the words name: all where the run was done or its script refused, one
--- where the grid is refused, none for words that are no command, and else at most all: at least one where a read failed,
--- or a write if any is named, and at least two where a check rejects. (Which ones they are is said by the outcome.)
+-- where the grid is refused, none for words that are no command, and else at most all: at least one where a read
+-- failed, or a write if any is named, and at least two where a check rejects. (Which ones is said by the outcome.)
 pub record OpensForStatus (before now files : ℕ) (status : Status) : Type 0 where
   pub done : status ≡ Done → now ≡ before + files
   pub script_refused : status ≡ ScriptRefused → now ≡ before + files

@@ -2,8 +2,8 @@
 -- (`now`), of the words of its command line or of the command that they are, of its status, and of the engine that it
 -- leaves. This project's own.
 -- Three words from elsewhere: `Grows old new more` says that what was told before is told with just `more` at its end,
--- and nothing of what is not told; `IsInTime` that an object which had not failed, and so was not called after a failure,
--- is not called after one now; and a count of faults is how often an object has failed, from its beginning on.
+-- and nothing of what is not told; `IsInTime` that an object which had not failed, and so was not called after a
+-- failure, is not called after one now; and a count of faults is how often an object has failed, from its beginning on.
 -- Words: KeepsBestMeshes, CertifiesMesh, TellsCertificates, DoesAll, IsCutOff, EndsByStatus, LeavesOutside, IsCaused.
 use Rattle.std.specs.Prelude.{◌≡◌, ◌≢◌, ◌⊎◌, ◌↔◌, ℕ, ◌+◌, ◌<◌, ◌≤◌, false, IsTrue, IsSome, is_some, List, All, Option}
 use Rattle.std.specs.Prelude.{Some, None}
@@ -78,8 +78,8 @@ pub record IsCutOff (before now : Moment) (command : Option Command) (files : Li
 
 -- With Done, Usage, the two refusals and Rejected all of an outcome was done, and with WriteFault it was cut off: where
 -- the shelf tells its files, or no file is named. With ReadFault what the run had done by then stands (at a script,
--- where the shelf tells its files), and with NoMemory nothing was written. (Where a sink tells nothing, of all this only
--- its count of faults is left.)
+-- where the shelf tells its files), and with NoMemory nothing was written. (Where a sink tells nothing, of all this
+-- only its count of faults is left.)
 pub record EndsByStatus (before now : Moment) (command : Option Command) (status : Status)
     (left : Option EngineEnd) : Type 0 where
   pub complete : IsTrue (is_complete status) → (files : List NamedFile)
@@ -113,8 +113,9 @@ pub record LeavesOutside (before now : Moment) (command : Option Command) (statu
 
 -- The causes.
 
--- The command may end so (`may_end`), and the status is Usage exactly where there is no command. It is ReadFault exactly where the shelf's
--- count of faults rose, and WriteFault exactly where that of the meshes or of the report rose. No count falls.
+-- The command may end so (`may_end`), and the status is Usage exactly where there is no command. It is ReadFault
+-- exactly where the shelf's count of faults rose, and WriteFault exactly where that of the meshes or of the report
+-- rose. No count falls.
 pub record IsCaused (before now : Moment) (command : Option Command) (status : Status) : Type 0 where
   pub allowed : IsTrue (may_end command status)
   pub usage : (status ≡ Usage) ↔ (command ≡ None)
