@@ -1,7 +1,8 @@
 //! Laws of the definitions, each a clause of a function with an empty body.
 
 ghost use Rattle.std.specs.Prelude.{◌≡◌, ℕ, ◌+◌, ◌*◌, ◌/◌, ◌^◌, ◌<◌, ◌≤◌, ◌↔◌, ◌⊎◌};
-ghost use Rattle.mesh_defs.specs.Triangle.{level_of, corners_of, child, midpoint, IsAddress, IsSplittable, IsMate, HasBorderBase};
+ghost use Rattle.mesh_defs.specs.Triangle.{level_of, corners_of, child, midpoint, IsAddress, IsSplittable, IsMate};
+ghost use Rattle.mesh_defs.specs.Triangle.{HasBorderBase};
 ghost use Rattle.bintree_laws.specs.Corners.{IsWithin, HasEvenBase, IsReversed};
 
 /// The level of an address by powers of 2, by its children and by its parent.

@@ -3,7 +3,8 @@
 ghost use Rattle.std.specs.Prelude.{◌≡◌, ℕ, ◌+◌, ◌*◌, ◌^◌, ◌<◌, ◌≤◌, IfSome};
 ghost use Rattle.mesh_defs.specs.declared.level.TheConstants.{GREATEST_LEVEL};
 ghost use Rattle.text_laws.specs.Fields.{fields_of};
-ghost use Rattle.cert_text.specs.CertLine.{line_word, camera_of, address_in, camera_fields, leaf_fields, reason_fields, word_line, cert_fields_line, read_cert_line, IsLineOf};
+ghost use Rattle.cert_text.specs.CertLine.{line_word, camera_of, address_in, camera_fields, leaf_fields, reason_fields};
+ghost use Rattle.cert_text.specs.CertLine.{word_line, cert_fields_line, read_cert_line, IsLineOf};
 
 use crate::line::{CertLine, Word};
 use bintree_addr::Tri;

@@ -1,6 +1,8 @@
 //! Laws of the definitions, each a clause of a function with an empty body.
 
-ghost use Rattle.std.specs.Prelude.{◌≡◌, ℕ, ◌+◌, ◌*◌, ◌/◌, ◌^◌, ◌<◌, ◌≤◌, ◌↔◌, ◌⊎◌, Bool, Option, Some, None, IfSome, IsNone, List, [], ◌∷◌, ◌++◌, length, get_or, All, Contains, IsTrue, count_by, nat_eq};
+ghost use Rattle.std.specs.Prelude.{◌≡◌, ℕ, ◌+◌, ◌*◌, ◌/◌, ◌^◌, ◌<◌, ◌≤◌, ◌↔◌, ◌⊎◌, Bool, Option, Some, None, IfSome};
+ghost use Rattle.std.specs.Prelude.{IsNone, List, [], ◌∷◌, ◌++◌, length, get_or, All, Contains, IsTrue, count_by};
+ghost use Rattle.std.specs.Prelude.{nat_eq};
 ghost use Rattle.mesh_defs.specs.Triangle.{IsAddress, IsSplittable};
 ghost use Rattle.mesh_defs.specs.Tiling.{IsConforming};
 ghost use Rattle.mesh_defs.specs.BoundingBox.{point};
@@ -28,7 +30,8 @@ pub fn closed_set_laws()
         leaves_of n has ≡ leaves_of n other }
     ensures more_leaves { (n : ℕ) (has other : ℕ → Bool) → IsSubset has other →
         length (leaves_of n has) ≤ length (leaves_of n other) }
-    ensures counted { (n : ℕ) (members : List ℕ) → ((a : ℕ) → IsTrue (among members a) → count_by (λ t. nat_eq t a) members ≡ 1) →
+    ensures counted { (n : ℕ) (members : List ℕ) →
+        ((a : ℕ) → IsTrue (among members a) → count_by (λ t. nat_eq t a) members ≡ 1) →
         IsClosed n (among members) → length (leaves_of n (among members)) ≡ length members + 2 }
 {}
 

@@ -23,7 +23,8 @@ fn ask<M: QueuedMesh, G: Gauge>(mesh: &mut M, gauge: &mut G, t: Located)
     ensures told { G.told gauge.new ≡ G.told gauge.old }
     ensures readings { G.readings gauge.new ≡ G.readings gauge.old }
     ensures log { M.log mesh.new ≡ M.log mesh.old }
-    ensures known { IsRated (M.seen mesh.old) (M.seen mesh.new) (record { p = (G.told gauge.old).of t.tri; tri = t.tri }) }
+    ensures known { IsRated (M.seen mesh.old) (M.seen mesh.new)
+        (record { p = (G.told gauge.old).of t.tri; tri = t.tri }) }
     ensures rises { G.count gauge.old ≤ G.count gauge.new }
     ensures most { G.count gauge.new ≤ G.count gauge.old + 1 }
 {
@@ -63,8 +64,8 @@ pub fn settle_first<M: QueuedMesh, G: Gauge>(mesh: &mut M, gauge: &mut G) -> Opt
 
 /// The last diamond in rank, if it meets the limit.
 ///
-/// The head's key is compared with the limit before anything of the diamond is asked. The key is a lower bound, so where it
-/// does not meet the limit no diamond does.
+/// The head's key is compared with the limit before anything of the diamond is asked. The key is a lower bound, so
+/// where it does not meet the limit no diamond does.
 pub fn settle_last<M: QueuedMesh, G: Gauge>(
     mesh: &mut M,
     gauge: &mut G,

@@ -8,7 +8,8 @@ ghost use Rattle.frame_steps.specs.Deferred.{DeferredFrame, IsDeferredFrame};
 ghost use Rattle.frame_steps.specs.Stamps.{ReadingsHold};
 ghost use Rattle.deferred_loop.specs.Seen.{SeenMesh, IsQuiet};
 ghost use Rattle.deferred_loop.specs.Log.{emptied};
-ghost use Rattle.deferred_loop.specs.Kept.{frame_priorities, IsFrameOf, HasTrueKeys, IsSettled, IsCharged, IsCaughtUp, IsStamped};
+ghost use Rattle.deferred_loop.specs.Kept.{frame_priorities, IsFrameOf, HasTrueKeys, IsSettled, IsCharged, IsCaughtUp};
+ghost use Rattle.deferred_loop.specs.Kept.{IsStamped};
 
 use crate::gauge::Gauge;
 use crate::queued::QueuedMesh;
@@ -27,7 +28,8 @@ pub fn enter_fresh<M: QueuedMesh, G: Gauge>(mesh: &mut M, gauge: &mut G, odomete
     ensures log { M.log mesh.new ≡ M.log mesh.old }
     ensures entered { IsCaughtUp w (G.readings gauge.old) odometer (M.seen mesh.old) (M.seen mesh.new) }
     ensures most { G.count gauge.new ≤ G.count gauge.old + length (M.seen mesh.old).fresh }
-    ensures least { G.count gauge.new < 2 ^ 64 - 1 → G.count gauge.old + length (M.seen mesh.old).fresh ≤ G.count gauge.new }
+    ensures least { G.count gauge.new < 2 ^ 64 - 1 →
+        G.count gauge.old + length (M.seen mesh.old).fresh ≤ G.count gauge.new }
 {
     'entering: loop {
         let Some(t) = mesh.next_fresh() else {
@@ -53,7 +55,8 @@ pub fn begin_frame<M: QueuedMesh, G: Gauge>(mesh: &mut M, gauge: &mut G, odomete
     ensures set { (M.seen mesh.new).set ≡ (M.seen mesh.old).set }
     ensures settled { IsSettled w (M.seen mesh.new) }
     ensures charged { IsCharged w (G.count gauge.old) (M.seen mesh.new) 0 0 (G.count gauge.new) }
-    ensures stamped { IsStamped (G.readings gauge.old) odometer (M.seen mesh.old) (G.count gauge.old) (M.seen mesh.new) (G.count gauge.new) }
+    ensures stamped { IsStamped (G.readings gauge.old) odometer (M.seen mesh.old) (G.count gauge.old) (M.seen mesh.new)
+        (G.count gauge.new) }
 {
     mesh.begin(odometer);
     enter_fresh(mesh, gauge, odometer);

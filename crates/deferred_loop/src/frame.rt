@@ -53,7 +53,8 @@ fn advance_over<M: QueuedMesh, G: Gauge>(
     requires far { odometer ≤ LONGEST_WAY }
     requires counted { G.count gauge.old < CHANGES_AT_FRAME }
     requires room { HasRoom w.n (M.seen mesh.old).set.most w.budget }
-    requires counters { ((M.seen mesh.old).set.splits < CHANGES_AT_FRAME) × ((M.seen mesh.old).set.merges < CHANGES_AT_FRAME) }
+    requires counters { ((M.seen mesh.old).set.splits < CHANGES_AT_FRAME)
+        × ((M.seen mesh.old).set.merges < CHANGES_AT_FRAME) }
     ensures told { G.told gauge.new ≡ G.told gauge.old }
     ensures readings { G.readings gauge.new ≡ G.readings gauge.old }
     ensures log { IsLogged (M.seen mesh.old).set (M.seen mesh.new).set (emptied (M.log mesh.old)) (M.log mesh.new) }
@@ -65,7 +66,8 @@ fn advance_over<M: QueuedMesh, G: Gauge>(
     ensures frame { IsFrame w.n w.budget w.priority (among (M.seen mesh.new).set.members) result.worst result.blocked }
     ensures most { (all_open : List ℕ) → ((a : ℕ) → IsOpen w a → IsTrue (among all_open a)) →
         G.count gauge.new ≤ G.count gauge.old + 2 * length all_open + 6 * (result.splits + result.merges) }
-    ensures stamped { IsStamped (G.readings gauge.old) odometer (M.seen mesh.old) (G.count gauge.old) (M.seen mesh.new) (G.count gauge.new) }
+    ensures stamped { IsStamped (G.readings gauge.old) odometer (M.seen mesh.old) (G.count gauge.old) (M.seen mesh.new)
+        (G.count gauge.new) }
 {
     begin_frame(mesh, gauge, odometer);
     let mut splits = 0;
@@ -89,9 +91,9 @@ fn advance_over<M: QueuedMesh, G: Gauge>(
 
 /// Makes the mesh of one frame from that of the frame before, which may be any closed set, also one over the budget.
 ///
-/// `run` and `frame`: the set is the rank closure of the budget, reached by the steps of the frame. `sparing`: it changes no
-/// more than it must. `most` and `least`: how often the gauge was asked. `stamps`: each entry has a stamp that is not due.
-/// `changed`: the log has each triangle whose membership differs.
+/// `run` and `frame`: the set is the rank closure of the budget, reached by the steps of the frame. `sparing`: it
+/// changes no more than it must. `most` and `least`: how often the gauge was asked. `stamps`: each entry has a stamp
+/// that is not due. `changed`: the log has each triangle whose membership differs.
 pub fn advance<M: QueuedMesh, G: Gauge>(
     mesh: &mut M,
     gauge: &mut G,
@@ -103,7 +105,8 @@ pub fn advance<M: QueuedMesh, G: Gauge>(
     requires far { odometer ≤ LONGEST_WAY }
     requires counted { G.count gauge.old < CHANGES_AT_FRAME }
     requires room { HasRoom (M.seen mesh.old).set.n (M.seen mesh.old).set.most budget }
-    requires counters { ((M.seen mesh.old).set.splits < CHANGES_AT_FRAME) × ((M.seen mesh.old).set.merges < CHANGES_AT_FRAME) }
+    requires counters { ((M.seen mesh.old).set.splits < CHANGES_AT_FRAME)
+        × ((M.seen mesh.old).set.merges < CHANGES_AT_FRAME) }
     requires falls { IsFalling (G.told gauge.old).n (G.told gauge.old).of }
     requires readings { ReadingsHold (G.told gauge.old).n (G.told gauge.old).of
         odometer (G.readings gauge.old) }

@@ -20,8 +20,8 @@ pub struct Reading {
 
 /// Tells priorities and bounds, and counts how often it was asked; at 2^64 - 1 the count stands still.
 ///
-/// What it tells stays the same. That priorities fall from parent to child and lie between their bounds is asked where a
-/// frame begins.
+/// What it tells stays the same. That priorities fall from parent to child and lie between their bounds is asked
+/// where a frame begins.
 pub trait Gauge {
     ghost told: { Self → Priorities };
 

@@ -1,8 +1,8 @@
 //! One frame of the two queues over deferred priorities, over any gauge and any mesh that has the queues.
 //!
-//! A frame begins with the mesh of the frame before, and splits and merges one diamond at a time until it is the mesh of the
-//! budget. Most priorities are bounds of earlier frames; one is asked only where its bound leaves its place open. The loop
-//! names no heap, sees no heights and no camera, and takes no memory.
+//! A frame begins with the mesh of the frame before, and splits and merges one diamond at a time until it is the mesh
+//! of the budget. Most priorities are bounds of earlier frames; one is asked only where its bound leaves its place
+//! open. The loop names no heap, sees no heights and no camera, and takes no memory.
 
 #![tactic(auto)]
 

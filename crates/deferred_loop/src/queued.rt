@@ -1,5 +1,5 @@
-//! A mesh as the loop sees it: its set, with the room and the counts of its pool, the heads of its queues, the stamps of its
-//! entries, the priorities that were told in this frame, and the entries that are still fresh.
+//! A mesh as the loop sees it: its set, with the room and the counts of its pool, the heads of its queues, the stamps
+//! of its entries, the priorities that were told in this frame, and the entries that are still fresh.
 
 ghost use Rattle.std.specs.Prelude.{◌≡◌, ℕ, ◌+◌, ◌<◌, ◌≤◌, ◌∷◌, ◌^◌, List, [], false, Contains, IfSome, MatchOption};
 ghost use Rattle.mesh_defs.specs.declared.counters.TheConstants.{LONGEST_WAY, MOST_CHANGES};
@@ -9,7 +9,8 @@ ghost use Rattle.mesh_defs.specs.GridSet.{IsForced, IsGain};
 ghost use Rattle.closure_laws.specs.Diamond.{CanMerge};
 ghost use Rattle.frame_steps.specs.Steps.{leaf_count};
 ghost use Rattle.frame_steps.specs.Deferred.{IsEntry};
-ghost use Rattle.deferred_loop.specs.Seen.{SeenMesh, IsHead, IsLastHead, IsRated, IsEntered, IsSplitOf, IsMergeOf, IsBegun, IsForgotten, IsQuiet};
+ghost use Rattle.deferred_loop.specs.Seen.{SeenMesh, IsHead, IsLastHead, IsRated, IsEntered, IsSplitOf, IsMergeOf};
+ghost use Rattle.deferred_loop.specs.Seen.{IsBegun, IsForgotten, IsQuiet};
 ghost use Rattle.deferred_loop.specs.Log.{Log, emptied, IsLogged};
 
 use crate::gauge::Reading;
@@ -70,10 +71,10 @@ impl Last {
 
 /// A mesh with its queues and stamps.
 ///
-/// It learns a priority only where it is told one, so no clause speaks of a gauge. A leaf stands in the split queue under
-/// the best that its priority can be, a diamond in the merge queue under the worst; the fresh entries stand in neither. Its
-/// log lists the triangles that steps split or merge, from `begin` on. A head comes with its slot, which is handed back for a
-/// step, so that no triangle is searched for.
+/// It learns a priority only where it is told one, so no clause speaks of a gauge. A leaf stands in the split queue
+/// under the best that its priority can be, a diamond in the merge queue under the worst; the fresh entries stand in
+/// neither. Its log lists the triangles that steps split or merge, from `begin` on. A head comes with its slot, which
+/// is handed back for a step, so that no triangle is searched for.
 pub trait QueuedMesh {
     ghost seen: { Self → SeenMesh };
 

@@ -24,7 +24,8 @@ pub fn force(members: &mut Vec<Tri>, n: u32, t: Tri) -> Result<(), NoMemory>
     requires ascending { IsAscending members.old.items }
     requires closed { IsClosed n (among members.old.items) }
     ensures ascending { OnOk result (IsAscending members.new.items) }
-    ensures least { OnOk result (IsLeastClosed n (with_triangle (among members.old.items) t) (among members.new.items)) }
+    ensures least { OnOk result
+        (IsLeastClosed n (with_triangle (among members.old.items) t) (among members.new.items)) }
     ensures longer { OnOk result (length members.old.items ≤ length members.new.items) }
 {
     if contains(members, t) {

@@ -115,8 +115,10 @@ impl Split {
         ensures value { IfOk result (λ v. v.items ≡ leaves_of self.now.n (among self.now.members)) }
         ensures count { IfOk result (λ v. length v.items ≡ length self.now.members + 2) }
         ensures conforming { IfOk result (λ v. IsConforming self.now.n v.items) }
-        ensures closed { (others : List ℕ) → IsConforming self.now.n others → IsClosed self.now.n (ancestors_of others) }
-        ensures each_once { (others : List ℕ) → IsConforming self.now.n others → AreLeaves self.now.n (ancestors_of others) others }
+        ensures closed { (others : List ℕ) → IsConforming self.now.n others →
+            IsClosed self.now.n (ancestors_of others) }
+        ensures each_once { (others : List ℕ) → IsConforming self.now.n others →
+            AreLeaves self.now.n (ancestors_of others) others }
         ensures same_count { (others : List ℕ) → IsConforming self.now.n others
             → length (leaves_of self.now.n (ancestors_of others)) ≡ length others }
     {

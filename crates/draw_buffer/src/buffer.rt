@@ -1,6 +1,7 @@
 //! The drawing buffer.
 
-ghost use Rattle.std.specs.Prelude.{◌≡◌, ℕ, ◌+◌, ◌-◌, ◌*◌, ◌^◌, ◌<◌, ◌≤◌, ◌↔◌, ◌++◌, [], ◌∷◌, max, All, IfOk, IsTrue, length, map, slice_index};
+ghost use Rattle.std.specs.Prelude.{◌≡◌, ℕ, ◌+◌, ◌-◌, ◌*◌, ◌^◌, ◌<◌, ◌≤◌, ◌↔◌, ◌++◌, [], ◌∷◌, max, All, IfOk, IsTrue};
+ghost use Rattle.std.specs.Prelude.{length, map, slice_index};
 ghost use Rattle.mesh_defs.specs.Triangle.{level_of};
 ghost use Rattle.mesh_defs.specs.declared.level.TheConstants.{GREATEST_LEVEL};
 ghost use Rattle.draw_buffer.specs.Times.{times};
@@ -36,8 +37,8 @@ impl DrawBuffer {
 
     /// A buffer for a grid of side 2^n + 1, with room for so many triangles and none in it.
     ///
-    /// Memory: 4 bytes for each address and each point of the grid, about 20 * 4^n in all (5 MB at n = 9, 84 MB at n = 11), and 132
-    /// for each triangle that there is room for.
+    /// Memory: 4 bytes for each address and each point of the grid, about 20 * 4^n in all (5 MB at n = 9, 84 MB at
+    /// n = 11), and 132 for each triangle that there is room for.
     pub fn make(alloc: Global, n: u32, most: u32) -> Result<DrawBuffer, NoMemory>
         requires in_grid { (1 ≤ n) × (n ≤ GREATEST_LEVEL) }
         requires few { most ≤ MOST_TRIANGLES }
@@ -99,8 +100,8 @@ impl DrawBuffer {
         self.exchange.written()
     }
 
-    /// The grid point of each vertex number, as its place in the list of heights: rows from the top, each from left to right. Of a
-    /// number that no corner has it says nothing.
+    /// The grid point of each vertex number, as its place in the list of heights: rows from the top, each from left
+    /// to right. Of a number that no corner has it says nothing.
     pub fn points(&self) -> &[u32]
         ensures value { result.now ≡ self.now.points }
         ensures apart { (v w : ℕ) → 0 < uses_in self.now.corners v → 0 < uses_in self.now.corners w
@@ -118,9 +119,11 @@ impl DrawBuffer {
 
     /// Takes triangles out and puts others in.
     ///
-    /// A triangle that comes has the place of one that goes; what gaps are left the last ones close. A grid point keeps its number
-    /// while a triangle has it at a corner, those that come counted before those that go. A written place may be past the end.
-    /// Cost (not proved): a few steps for each triangle that goes, and a step a level for each that comes; takes no memory.
+    /// A triangle that comes has the place of one that goes; what gaps are left the last ones close. A grid point
+    /// keeps its number while a triangle has it at a corner, those that come counted before those that go. A written
+    /// place may be past the end.
+    /// Cost (not proved): a few steps for each triangle that goes, and a step a level for each that comes; takes no
+    /// memory.
     pub fn patch(&mut self, gone: &[Tri], come: &[Tri])
         requires levels { All (λ a. level_of a ≤ 2 * self.old.n) come.now }
         requires gone { (a : ℕ) → times gone.now a ≤ times self.old.triangles a }
@@ -177,7 +180,8 @@ fn leave_all(exchange: &mut Exchange, gone: &[Tri])
     ensures most { exchange.new.most ≡ exchange.old.most }
     ensures points { exchange.new.points ≡ exchange.old.points }
     ensures given { exchange.new.given ≡ exchange.old.given }
-    ensures total { (a : ℕ) → times exchange.new.triangles a + times (addresses_of exchange.new.waiting) a + times gone.now a
+    ensures total { (a : ℕ) →
+        times exchange.new.triangles a + times (addresses_of exchange.new.waiting) a + times gone.now a
         ≡ times exchange.old.triangles a + times (addresses_of exchange.old.waiting) a }
     ensures waiting { length exchange.new.waiting ≡ length exchange.old.waiting - length gone.now }
     ensures count { length exchange.new.triangles + length exchange.new.waiting + length gone.now

@@ -1,6 +1,8 @@
-//! A buffer in the middle of a patch: the triangles that came wait for a place, until one goes or all that go have gone.
+//! A buffer in the middle of a patch: the triangles that came wait for a place, until one goes or all that go have
+//! gone.
 
-ghost use Rattle.std.specs.Prelude.{◌≡◌, ℕ, ◌+◌, ◌-◌, ◌*◌, ◌^◌, ◌<◌, ◌≤◌, ◌↔◌, ◌++◌, [], ◌∷◌, IfOk, IsTrue, length, map, slice_index, sum};
+ghost use Rattle.std.specs.Prelude.{◌≡◌, ℕ, ◌+◌, ◌-◌, ◌*◌, ◌^◌, ◌<◌, ◌≤◌, ◌↔◌, ◌++◌, [], ◌∷◌, IfOk, IsTrue, length};
+ghost use Rattle.std.specs.Prelude.{map, slice_index, sum};
 ghost use Rattle.mesh_defs.specs.Triangle.{level_of};
 ghost use Rattle.mesh_defs.specs.declared.level.TheConstants.{GREATEST_LEVEL};
 ghost use Rattle.draw_buffer.specs.Times.{times, same};
@@ -15,7 +17,8 @@ use roam_errors::NoMemory;
 use std::alloc::Global;
 use std::marker::Model;
 
-/// The greatest number of triangles that a buffer may have room for: twice those of the finest mesh of the greatest grid.
+/// The greatest number of triangles that a buffer may have room for: twice those of the finest mesh of the greatest
+/// grid.
 pub const MOST_TRIANGLES: u32 = 1 << 24;
 
 /// A triangle that waits for a place, with its corners.

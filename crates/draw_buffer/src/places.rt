@@ -1,6 +1,7 @@
 //! Which triangle stands at which place.
 
-ghost use Rattle.std.specs.Prelude.{◌≡◌, ℕ, ◌+◌, ◌^◌, ◌<◌, ◌≤◌, ◌↔◌, ◌++◌, [], ◌∷◌, IfOk, IsTrue, length, slice_index, slice_set, swap_remove};
+ghost use Rattle.std.specs.Prelude.{◌≡◌, ℕ, ◌+◌, ◌^◌, ◌<◌, ◌≤◌, ◌↔◌, ◌++◌, [], ◌∷◌, IfOk, IsTrue, length, slice_index};
+ghost use Rattle.std.specs.Prelude.{slice_set, swap_remove};
 ghost use Rattle.draw_buffer.specs.Times.{times};
 
 use bintree_addr::Tri;

@@ -1,6 +1,7 @@
 //! Numbers for the grid points that are corners, each in use as often as it is a corner.
 
-ghost use Rattle.std.specs.Prelude.{◌≡◌, ◌≢◌, ℕ, ◌+◌, ◌^◌, ◌<◌, ◌≤◌, ◌++◌, [], ◌∷◌, IfOk, length, slice_index, sum, vec_capacity};
+ghost use Rattle.std.specs.Prelude.{◌≡◌, ◌≢◌, ℕ, ◌+◌, ◌^◌, ◌<◌, ◌≤◌, ◌++◌, [], ◌∷◌, IfOk, length, slice_index, sum};
+ghost use Rattle.std.specs.Prelude.{vec_capacity};
 ghost use Rattle.draw_buffer.specs.Times.{same};
 
 use roam_errors::NoMemory;

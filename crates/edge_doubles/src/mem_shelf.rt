@@ -1,6 +1,7 @@
 //! A shelf of files in memory.
 
-ghost use Rattle.std.specs.Prelude.{◌≡◌, ◌<◌, ◌≤◌, ℕ, [], ◌∷◌, ◌++◌, Some, true, false, IfOk, OnOk, OnErr, is_err, length, min};
+ghost use Rattle.std.specs.Prelude.{◌≡◌, ◌<◌, ◌≤◌, ℕ, [], ◌∷◌, ◌++◌, Some, true, false, IfOk, OnOk, OnErr, is_err};
+ghost use Rattle.std.specs.Prelude.{length, min};
 ghost use Rattle.roam_edge.specs.Fault.{HasCause, late_after, next_count};
 ghost use Rattle.roam_edge.specs.Shelf.{Opens, Reads, Ends};
 ghost use Rattle.edge_doubles.specs.MemShelf.{open_fails, after_open, read_fails, after_read};

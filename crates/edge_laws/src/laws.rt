@@ -1,14 +1,17 @@
 //! Laws of the definitions, each a clause of a function with an empty body.
 
-ghost use Rattle.std.specs.Prelude.{◌≡◌, ◌≢◌, ◌⊎◌, ◌↔◌, ℕ, ◌+◌, ◌*◌, ◌/◌, ◌^◌, ◌<◌, ◌≤◌, Bool, true, false, List, ◌∷◌, length};
+ghost use Rattle.std.specs.Prelude.{◌≡◌, ◌≢◌, ◌⊎◌, ◌↔◌, ℕ, ◌+◌, ◌*◌, ◌/◌, ◌^◌, ◌<◌, ◌≤◌, Bool, true, false, List, ◌∷◌};
+ghost use Rattle.std.specs.Prelude.{length};
 ghost use Rattle.mesh_defs.specs.declared.point.Point.{Point};
 ghost use Rattle.mesh_defs.specs.Triangle.{level_of, corners_of, IsMate, IsEdge, OnOneSide};
 ghost use Rattle.mesh_defs.specs.ClosedSet.{IsClosed, IsLeastClosed, leaves_of};
 ghost use Rattle.mesh_defs.specs.Greedy.{with_triangle};
 ghost use Rattle.bintree_laws.specs.Corners.{IsReversed};
 ghost use Rattle.edge_laws.specs.Edge.{mate_of, owner, with_square, IsEdgeOf};
-ghost use Rattle.edge_laws.specs.LeafAcross.{IsLeafOf, IsLeafAcross, IsAcrossEdge, IsGrown, AreAcrossChildren, AreAcrossMerged};
-ghost use Rattle.edge_laws.specs.Slots.{address_at, has_children, IsLive, split_set, room_of, IsPool, HasLeaf, IsSplit, IsMerge};
+ghost use Rattle.edge_laws.specs.LeafAcross.{IsLeafOf, IsLeafAcross, IsAcrossEdge, IsGrown, AreAcrossChildren};
+ghost use Rattle.edge_laws.specs.LeafAcross.{AreAcrossMerged};
+ghost use Rattle.edge_laws.specs.Slots.{address_at, has_children, IsLive, split_set, room_of, IsPool, HasLeaf, IsSplit};
+ghost use Rattle.edge_laws.specs.Slots.{IsMerge};
 ghost use Rattle.edge_laws.specs.Chain.{IsForcedFirst, IsForcedChain};
 
 /// The mate of a triangle, as arithmetic on addresses. An edge and its mate are one line in its two directions.

@@ -1,4 +1,5 @@
-//! Runs of an engine over small grids, whose numbers were found by hand; at the end of each the mesh is that from scratch.
+//! Runs of an engine over small grids, whose numbers were found by hand; at the end of each the mesh is that from
+//! scratch.
 
 use crate::grids::grid_with;
 use cull_marks::Plane;

@@ -3,7 +3,8 @@
 use bintree_addr::{Rank, Tri};
 use deferred_loop::Limit;
 
-/// Whether a diamond of this priority and address may be merged: after 5 of priority 7, where none is wanted, and over the budget.
+/// Whether a diamond of this priority and address may be merged: after 5 of priority 7, where none is wanted, and
+/// over the budget.
 fn met(p: u64, number: u32) -> Option<[bool; 3]> {
     let leaf = Limit::After(Rank {
         p: 7,

@@ -114,8 +114,8 @@ struct Frame {
     asked: u64,
 }
 
-/// A mesh from frame to frame, with bounds on the priorities of all frames from an odometer on: each stamp that may still be
-/// used there has them, or wider ones. No stamp reaches farther than `reach`.
+/// A mesh from frame to frame, with bounds on the priorities of all frames from an odometer on: each stamp that may
+/// still be used there has them, or wider ones. No stamp reaches farther than `reach`.
 #[derive(Drop)]
 struct Run {
     mesh: Mesh,
@@ -172,7 +172,8 @@ impl Run {
         ensures budget { (2 ≤ budget) × (budget ≤ self.now.mesh.pool.most) }
         ensures slack { slack ≤ 2 ^ 32 }
         ensures odometer { (self.now.since ≤ odometer) × (odometer ≤ LONGEST_WAY) }
-        ensures counters { (self.now.mesh.pool.splits < CHANGES_AT_FRAME) × (self.now.mesh.pool.merges < CHANGES_AT_FRAME) }
+        ensures counters { (self.now.mesh.pool.splits < CHANGES_AT_FRAME)
+            × (self.now.mesh.pool.merges < CHANGES_AT_FRAME) }
     {
         check_falling(rt, self.mesh.pool().n(), priorities);
         assert!(rt; is_below(self.lower.as_slice(), priorities), "lower bounds");
@@ -336,8 +337,8 @@ fn logged(mesh: &Mesh) -> Logged {
     Some((list.len(), bits))
 }
 
-/// What three frames tell, the sets after the first two, all splits and merges, whether the third asks at most twice, and what each
-/// logged.
+/// What three frames tell, the sets after the first two, all splits and merges, whether the third asks at most twice,
+/// and what each logged.
 type ThreeFrames = ([Told; 3], [u64; 2], (u64, u64), bool, [Logged; 3]);
 
 fn two_peaks(rt: &impl Abort, alloc: Global, run: &mut Run) -> Option<ThreeFrames> {
@@ -387,7 +388,8 @@ fn a_log_without_room_is_lost(rt: HostRuntime) {
     assert_eq!(rt; logs, Some([Some((7, sets)), None, Some((0, 0))]));
 }
 
-/// What three frames tell, the third after the stamp of 2 has expired; whether the second asks nothing, and the third something.
+/// What three frames tell, the third after the stamp of 2 has expired; whether the second asks nothing, and the third
+/// something.
 fn middle(rt: &impl Abort, alloc: Global, run: &mut Run) -> Option<([Told; 3], bool, bool)> {
     let own = [(2, 0), (4, 1322)];
     let first = next_frame(rt, alloc, run, &own, (123, 4, 0))?;
@@ -421,8 +423,8 @@ fn checkered(rt: &impl Abort, alloc: Global, run: &mut Run) -> Option<([Told; 2]
     Some(([first.0, second.0], second.1 <= 2 * 32 + 6 * 2))
 }
 
-/// Heights 0 where both coordinates are even, 10 where both are odd, and else 1, at n = 3, seen from (4, 4, 10000). No leaf straddles
-/// in the second frame, and 32 triangles of diamonds do.
+/// Heights 0 where both coordinates are even, 10 where both are odd, and else 1, at n = 3, seen from (4, 4, 10000).
+/// No leaf straddles in the second frame, and 32 triangles of diamonds do.
 fn checkered_frames(rt: &impl Abort, alloc: Global) -> Option<([Told; 2], bool)> {
     let lower = [(2, 0), (64, 128), (128, 11)];
     let upper = [(2, 0), (64, 164), (128, 14)];
@@ -454,8 +456,8 @@ fn three_rows(rt: &impl Abort, alloc: Global, run: &mut Run) -> Option<([Told; 3
     Some((told, members(run.mesh.pool())))
 }
 
-/// Rows of heights 0 3 0, 3 9 5 and 0 3 0 ten units apart, as they are read from (14, 23, 100). They are seen from (14, 23, 100),
-/// (12, 23, 100) and (16, 27, 100): only the last one shows other priorities, by that of 4.
+/// Rows of heights 0 3 0, 3 9 5 and 0 3 0 ten units apart, as they are read from (14, 23, 100). They are seen from
+/// (14, 23, 100), (12, 23, 100) and (16, 27, 100): only the last one shows other priorities, by that of 4.
 fn frames_of_three_rows(rt: &impl Abort, alloc: Global) -> Option<([Told; 3], u64)> {
     let lower = [(2, 0), (3, 15270), (4, 17815), (7, 3817), (8, 6362)];
     let upper = [(2, 0), (3, 19418), (4, 22654), (7, 4854), (8, 8090)];

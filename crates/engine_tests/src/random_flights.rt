@@ -131,7 +131,8 @@ fn is_scratch_told(alloc: Global, engine: &mut Engine, place: Place) -> Option<b
     Some(is_told(&before, engine) && is_from_scratch(alloc, engine, place)?)
 }
 
-/// Whether a frame has the mesh from scratch and tells what it changed, and the frame after it does nothing and asks nothing.
+/// Whether a frame has the mesh from scratch and tells what it changed, and the frame after it does nothing and asks
+/// nothing.
 fn is_right(alloc: Global, engine: &mut Engine, place: Place) -> Option<bool> {
     let scratch = is_scratch_told(alloc, engine, place)?;
     let before = engine.evaluations();

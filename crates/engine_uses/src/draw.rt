@@ -17,7 +17,8 @@ use std::alloc::Global;
 
 /// A drawing buffer of the engine's mesh, with room for each mesh that the engine may come to.
 ///
-/// Whatever its caller does with the engine between two frames, the buffer stays in step: only a frame changes the mesh.
+/// Whatever its caller does with the engine between two frames, the buffer stays in step: only a frame changes the
+/// mesh.
 pub fn buffer_of(alloc: Global, engine: &Engine) -> Result<DrawBuffer, NoMemory>
     ensures step { IfOk result (IsInStep engine.now) }
 {
@@ -40,8 +41,8 @@ fn room(n: u32, most: u32) -> u32
 
 /// Makes a frame, and patches the buffer, which is in step with the engine, so that it is so again.
 ///
-/// Hand the graphics card the places that `DrawBuffer::written` tells, and the points of the vertices that `DrawBuffer::given` tells:
-/// all else is as it was (`kept`).
+/// Hand the graphics card the places that `DrawBuffer::written` tells, and the points of the vertices that
+/// `DrawBuffer::given` tells: all else is as it was (`kept`).
 pub fn frame_and_patch(engine: &mut Engine, buffer: &mut DrawBuffer) -> Sight
     requires some { engine.old.frames < MOST_FRAMES }
     requires step { IsInStep engine.old buffer.old }

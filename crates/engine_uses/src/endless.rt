@@ -16,8 +16,8 @@ const LAST_WAY: u64 = LONGEST_WAY - (1 << 33);
 
 /// Goes to a place and makes a frame, and may do so for ever: it asks nothing of the engine.
 ///
-/// Where the engine has made all its frames, or the camera has gone all its way, it is renewed first. Its mesh stays, and
-/// this one frame evaluates the priorities of all its triangles.
+/// Where the engine has made all its frames, or the camera has gone all its way, it is renewed first. Its mesh stays,
+/// and this one frame evaluates the priorities of all its triangles.
 pub fn go_on(engine: &mut Engine, place: Camera) -> Sight
     ensures best { IsBestSeen (with_camera place engine.old.state) (mesh_seen engine.new) result }
     ensures state { engine.new.state ≡ with_camera place engine.old.state }

@@ -1,8 +1,8 @@
-//! Callers of the engine: a flight over terrain, one without an end, an edit under a camera that stands still, and a drawing buffer that
-//! stays in step with the mesh.
+//! Callers of the engine: a flight over terrain, one without an end, an edit under a camera that stands still, and a
+//! drawing buffer that stays in step with the mesh.
 //!
-//! They show how `frame_loop` is used, and what its public clauses give to a caller: each frame's mesh has no cracks, keeps to the
-//! budget, and none that does is better. Nothing here is called by the program.
+//! They show how `frame_loop` is used, and what its public clauses give to a caller: each frame's mesh has no cracks,
+//! keeps to the budget, and none that does is better. Nothing here is called by the program.
 
 #![tactic(auto)]
 

@@ -1,8 +1,8 @@
 //! Certificates of fitted meshes as text: a reader line after line, and a writer.
 //!
-//! The text has a line `tolerance D`, then a line `off A X Y` for each reason that makes the mesh, the line `mesh`, and then
-//! `off A X Y` for each reason behind it. What the writer writes is read back. Whether a certificate is sound is not
-//! looked at here.
+//! The text has a line `tolerance D`, then a line `off A X Y` for each reason that makes the mesh, the line `mesh`,
+//! and then `off A X Y` for each reason behind it. What the writer writes is read back. Whether a certificate is
+//! sound is not looked at here.
 
 #![tactic(auto)]
 

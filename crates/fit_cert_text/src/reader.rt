@@ -2,7 +2,8 @@
 
 ghost use Rattle.std.specs.Prelude.{◌≡◌, ◌≤◌, ◌++◌, ◌∷◌, [], ◌↔◌, ℕ, None, Some, Ok, Err, OnOk, OnErr, IfErr};
 ghost use Rattle.mesh_defs.specs.declared.level.TheConstants.{GREATEST_LEVEL};
-ghost use Rattle.fit_cert_text.specs.FitCertReader.{nothing_fit_read, fit_read_so_far, AreFewFitReasons, fit_line_taken, fit_line_in, fit_finished};
+ghost use Rattle.fit_cert_text.specs.FitCertReader.{nothing_fit_read, fit_read_so_far, AreFewFitReasons};
+ghost use Rattle.fit_cert_text.specs.FitCertReader.{fit_line_taken, fit_line_in, fit_finished};
 ghost use Rattle.fit_cert_text.specs.declared.fault.CertFault.{CertFault};
 
 use crate::fault::CertFault;
@@ -120,11 +121,13 @@ fn take(
     beyond: &mut Vec<Off>,
     line: FitLine,
 ) -> Result<(), CertFault>
-    ensures ok { OnOk result (fit_line_taken (fit_read_so_far tolerance.old mesh.old needed.old.items beyond.old.items) line
+    ensures ok { OnOk result (fit_line_taken
+        (fit_read_so_far tolerance.old mesh.old needed.old.items beyond.old.items) line
         ≡ Some (fit_read_so_far tolerance.new mesh.new needed.new.items beyond.new.items)) }
     ensures err { OnErr result (fit_read_so_far tolerance.new mesh.new needed.new.items beyond.new.items
         ≡ fit_read_so_far tolerance.old mesh.old needed.old.items beyond.old.items) }
-    ensures few { (n : ℕ) → AreFewFitReasons n needed.old.items beyond.old.items → AreFewFitReasons n needed.new.items beyond.new.items }
+    ensures few { (n : ℕ) → AreFewFitReasons n needed.old.items beyond.old.items →
+        AreFewFitReasons n needed.new.items beyond.new.items }
     ensures bad_line { (result ≡ Err CertFault.BadLine)
         ↔ (fit_line_taken (fit_read_so_far tolerance.old mesh.old needed.old.items beyond.old.items) line ≡ None) }
 {

@@ -3,7 +3,9 @@
 ghost use Rattle.std.specs.Prelude.{◌≡◌, ◌+◌, ◌*◌, ◌^◌, ◌≤◌};
 ghost use Rattle.mesh_defs.specs.declared.level.TheConstants.{GREATEST_LEVEL};
 ghost use Rattle.text_laws.specs.Fields.{fields_of};
-ghost use Rattle.fit_cert_text.specs.FitLine.{fit_line_word, number_below, fit_address_in, off_of, tolerance_line, tolerance_fields, off_fields, mesh_fields, fit_fields_line, read_fit_line};
+ghost use Rattle.fit_cert_text.specs.FitLine.{fit_line_word, number_below, fit_address_in, off_of, tolerance_line};
+ghost use Rattle.fit_cert_text.specs.FitLine.{tolerance_fields, off_fields, mesh_fields, fit_fields_line};
+ghost use Rattle.fit_cert_text.specs.FitLine.{read_fit_line};
 
 use crate::line::{FitLine, Word};
 use bintree_addr::Tri;

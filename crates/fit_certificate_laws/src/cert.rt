@@ -6,8 +6,8 @@ ghost use Rattle.fit_certificate_laws.specs.declared.limits.TheConstants.{MOST_R
 use crate::reason::Off;
 use std::marker::Model;
 
-/// A certificate of a fitted mesh: its tolerance, the reasons that make the mesh, and reasons why no mesh of a budget is
-/// off by less.
+/// A certificate of a fitted mesh: its tolerance, the reasons that make the mesh, and reasons why no mesh of a budget
+/// is off by less.
 ///
 /// Whether it is sound is for a checker to say.
 #[derive(Drop)]
@@ -30,7 +30,8 @@ impl Model for FitCert {
 }
 
 impl FitCert {
-    /// The certificate with these reasons before the mesh and behind it. The tolerance is in units of height, times 2^n.
+    /// The certificate with these reasons before the mesh and behind it. The tolerance is in units of height, times
+    /// 2^n.
     pub fn new(tolerance: u32, needed: Vec<Off>, beyond: Vec<Off>) -> FitCert
         requires few_needed { length needed.items ≤ MOST_REASONS }
         requires few_beyond { length beyond.items ≤ MOST_REASONS }

@@ -14,10 +14,11 @@ ghost use Rattle.fit_certificate_laws.specs.Making.{IsPossible};
 
 /// A certificate is sound only for the best mesh of its target, whoever made the two.
 ///
-/// `least` the mesh is the fewest triangles for the tolerance of the certificate, whatever the target; `error` so it is for
-/// the tolerance of the target; `budget` no conforming list within the budget has a lower greatest error. `order` the mesh
-/// stands depth first, and `certified` no checker that is exact says anything else of a sound certificate. `verdict` each
-/// certificate has a verdict, `one_verdict` and no other; `some` each target that is possible has a sound certificate.
+/// `least` the mesh is the fewest triangles for the tolerance of the certificate, whatever the target; `error` so it
+/// is for the tolerance of the target; `budget` no conforming list within the budget has a lower greatest error.
+/// `order` the mesh stands depth first, and `certified` no checker that is exact says anything else of a sound
+/// certificate. `verdict` each certificate has a verdict, `one_verdict` and no other; `some` each target that is
+/// possible has a sound certificate.
 pub fn fit_certificate_laws()
     ensures least { (n : ℕ) (heights : List ℕ) (target : Target) (cert : FitCertificate) (mesh : List ℕ) →
         IsFitSound n heights target cert mesh →

@@ -19,8 +19,8 @@ use std::alloc::Global;
 /// A sound certificate of the best mesh for an error or a budget: the mesh of `Fit::frame` of `fit_mesh`.
 ///
 /// Its tolerance is that of the target, or the deviation of the mesh.
-/// Cost (not proved): that of `Fit::frame` for a budget; a byte for each splittable triangle, and a few passes over all of
-/// them, in each the error of each leaf; 12 bytes for each reason.
+/// Cost (not proved): that of `Fit::frame` for a budget; a byte for each splittable triangle, and a few passes over
+/// all of them, in each the error of each leaf; 12 bytes for each reason.
 pub fn make(alloc: Global, grid: &Grid, target: Target) -> Result<FitCert, NoMemory>
     requires possible { IsPossible target }
     ensures sound { IfOk result (λ c. (mesh : List ℕ) × IsFitSound grid.now.n grid.now.heights target c mesh) }

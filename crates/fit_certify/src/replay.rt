@@ -1,6 +1,7 @@
 //! Reasons replayed, one after the other.
 
-ghost use Rattle.std.specs.Prelude.{◌≡◌, ℕ, ◌+◌, ◌*◌, ◌^◌, ◌<◌, ◌≤◌, ◌↔◌, IsTrue, IfSome, IfNone, length, Contains, slice_index_or};
+ghost use Rattle.std.specs.Prelude.{◌≡◌, ℕ, ◌+◌, ◌*◌, ◌^◌, ◌<◌, ◌≤◌, ◌↔◌, IsTrue, IfSome, IfNone, length, Contains};
+ghost use Rattle.std.specs.Prelude.{slice_index_or};
 ghost use Rattle.mesh_defs.specs.Triangle.{IsSplittable};
 ghost use Rattle.mesh_defs.specs.ClosedSet.{IsClosed, leaves_of};
 ghost use Rattle.least_laws.specs.Sweep.{is_flagged};
@@ -14,7 +15,8 @@ use fit_certificate_laws::Off;
 use mesh_measure::off_point;
 use pgm_grid::Grid;
 
-/// Splits each reason's triangle, with what that forces; or the number of the first reason that is none, counted from 1.
+/// Splits each reason's triangle, with what that forces; or the number of the first reason that is none, counted
+/// from 1.
 ///
 /// Cost (not proved): a plane height for each reason, and a few steps for each triangle that is split. Takes no memory.
 pub(crate) fn replay(

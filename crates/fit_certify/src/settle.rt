@@ -97,7 +97,8 @@ fn split_leaf(
     ensures more { IfOk result (λ is. is ≡ true →
         length (leaves_of grid.now.n (is_flagged flags.old)) < length (leaves_of grid.now.n (is_flagged flags.new))) }
     ensures none { IfOk result (λ is. is ≡ false → (flags.new ≡ flags.old) ×
-        (Contains (leaves_of grid.now.n (is_flagged flags.old)) t → error_of grid.now.n grid.now.heights t ≤ tolerance)) }
+        (Contains (leaves_of grid.now.n (is_flagged flags.old)) t →
+        error_of grid.now.n grid.now.heights t ≤ tolerance)) }
 {
     if !is_leaf(flags, t) {
         return Ok(false);

@@ -81,7 +81,8 @@ pub fn find_mesh(
         result.deviation ≤ tolerance → IsLeastMesh grid.now.n tolerance e (take result.triangles room.new) }
     ensures best { let e = error_of grid.now.n grid.now.heights in
         tolerance < result.deviation → IsBudgetMesh grid.now.n budget e (take result.triangles room.new) }
-    ensures order { leaves_of grid.now.n (ancestors_of (take result.triangles room.new)) ≡ take result.triangles room.new }
+    ensures order { leaves_of grid.now.n (ancestors_of (take result.triangles room.new))
+        ≡ take result.triangles room.new }
     ensures deviation { result.deviation
         ≡ deviation_of grid.now.n grid.now.heights (take result.triangles room.new) }
     ensures triangles { result.triangles ≡ length (take result.triangles room.new) }

@@ -1,6 +1,7 @@
 //! The leaves that wait for a split, the one with the greatest error first.
 
-ghost use Rattle.std.specs.Prelude.{◌≡◌, ℕ, ◌+◌, ◌*◌, ◌^◌, ◌/◌, ◌<◌, ◌≤◌, ◌⊎◌, IfSome, IfNone, [], Contains, slice_index_or};
+ghost use Rattle.std.specs.Prelude.{◌≡◌, ℕ, ◌+◌, ◌*◌, ◌^◌, ◌/◌, ◌<◌, ◌≤◌, ◌⊎◌, IfSome, IfNone, [], Contains};
+ghost use Rattle.std.specs.Prelude.{slice_index_or};
 ghost use Rattle.std.specs.BinaryHeap.{IsHeap, heap_items, heap_len, heap_capacity};
 ghost use Rattle.mesh_defs.specs.Triangle.{level_of, IsAddress, IsSplittable};
 ghost use Rattle.least_laws.specs.Sweep.{is_flagged};

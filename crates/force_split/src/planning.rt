@@ -1,6 +1,7 @@
 //! What a split forces.
 
-ghost use Rattle.std.specs.Prelude.{◌≡◌, ℕ, ◌+◌, ◌*◌, ◌/◌, ◌<◌, ◌≤◌, ◌++◌, ◌∷◌, List, length, slice_index, true, false, IsNone, IfSome};
+ghost use Rattle.std.specs.Prelude.{◌≡◌, ℕ, ◌+◌, ◌*◌, ◌/◌, ◌<◌, ◌≤◌, ◌++◌, ◌∷◌, List, length, slice_index, true, false};
+ghost use Rattle.std.specs.Prelude.{IsNone, IfSome};
 ghost use Rattle.arrayvec.specs.ArrayVec.{array_vec_len};
 ghost use Rattle.mesh_defs.specs.Triangle.{level_of};
 ghost use Rattle.mesh_defs.specs.ClosedSet.{among};
@@ -25,9 +26,11 @@ pub struct Chain {
 fn coarser(pool: &Pool, s: Slot) -> Option<Slot>
     requires leaf { HasLeaf pool.now.pairs s.0 }
     ensures none { IsNone result → IsMateLive pool.now.pairs (address_at pool.now.pairs s.0) }
-    ensures some { IfSome result (λ t. (1 ≤ mate_of (address_at pool.now.pairs s.0)) × (address_at pool.now.pairs t.0 ≡ mate_of (address_at pool.now.pairs s.0) / 2)) }
+    ensures some { IfSome result (λ t. (1 ≤ mate_of (address_at pool.now.pairs s.0))
+        × (address_at pool.now.pairs t.0 ≡ mate_of (address_at pool.now.pairs s.0) / 2)) }
     ensures leaf { IfSome result (λ t. HasLeaf pool.now.pairs t.0) }
-    ensures level { IfSome result (λ t. level_of (address_at pool.now.pairs t.0) < level_of (address_at pool.now.pairs s.0)) }
+    ensures level { IfSome result
+        (λ t. level_of (address_at pool.now.pairs t.0) < level_of (address_at pool.now.pairs s.0)) }
 {
     let base = pool.base(s)?;
     if pool.tri(base).level() < pool.tri(s).level() {
@@ -50,7 +53,8 @@ fn extend(pool: &Pool, s: Slot, levels: u32, slots: &mut ArrayVec<Slot, 24>) -> 
     requires leaf { HasLeaf pool.now.pairs s.0 }
     requires level { level_of (address_at pool.now.pairs s.0) ≤ levels }
     requires fits { array_vec_len slots.old + levels < 24 }
-    ensures chain { (rest : List ℕ) × (numbers slots.new.items ≡ numbers slots.old.items ++ (s.0 ∷ rest)) × IsChain pool.now.pairs (s.0 ∷ rest) × (result ≡ chain_size pool.now.pairs (s.0 ∷ rest)) }
+    ensures chain { (rest : List ℕ) × (numbers slots.new.items ≡ numbers slots.old.items ++ (s.0 ∷ rest))
+        × IsChain pool.now.pairs (s.0 ∷ rest) × (result ≡ chain_size pool.now.pairs (s.0 ∷ rest)) }
     ensures small { result ≤ 2 * levels + 2 }
     ensures count { array_vec_len slots.new ≤ array_vec_len slots.old + levels + 1 }
 {

@@ -15,10 +15,12 @@ pub struct Changes<'a> {
 }
 
 impl Engine {
-    /// What the last frame took out of the mesh and what it put in; nothing before the first frame, and after one that changed nothing.
+    /// What the last frame took out of the mesh and what it put in; nothing before the first frame, and after one
+    /// that changed nothing.
     ///
-    /// So a caller that keeps a copy of the mesh, as an index buffer, has to touch these triangles alone. Calls between frames change
-    /// no triangles, so they leave the lists as they are: ask once after each frame. Takes no memory.
+    /// So a caller that keeps a copy of the mesh, as an index buffer, has to touch these triangles alone. Calls
+    /// between frames change no triangles, so they leave the lists as they are: ask once after each frame. Takes no
+    /// memory.
     pub fn changes(&self) -> Changes<'_>
         ensures gone { result.gone.now ≡ self.now.changes.gone }
         ensures come { result.come.now ≡ self.now.changes.come }

@@ -70,18 +70,22 @@ impl Model for Engine {
 
     ghost view = { λ e. engine_of e.outlook e.budget e.most e.mesh e.odometer e.frames e.meter (changes_of e.list) };
 
-    ghost invariant = { λ e. IsEngine (engine_of e.outlook e.budget e.most e.mesh e.odometer e.frames e.meter (changes_of e.list))
-        × IsLeafList (engine_of e.outlook e.budget e.most e.mesh e.odometer e.frames e.meter (changes_of e.list)) e.list.leaves e.numbers
+    ghost invariant = { λ e. IsEngine
+        (engine_of e.outlook e.budget e.most e.mesh e.odometer e.frames e.meter (changes_of e.list))
+        × IsLeafList (engine_of e.outlook e.budget e.most e.mesh e.odometer e.frames e.meter
+        (changes_of e.list)) e.list.leaves e.numbers
         × (e.all_expired ≡ true → AreAllExpired e.mesh)
         × (e.list.most ≡ min e.most (2 * 4 ^ e.outlook.grid.n))
         × (length e.numbers ≡ side_of e.outlook.grid.n * side_of e.outlook.grid.n)
         × (e.vertices ≡ length (vertices_of e.outlook.grid.n e.list.leaves))
-        × ((note : FrameNote) → e.still ≡ Some note → IsStill (engine_of e.outlook e.budget e.most e.mesh e.odometer e.frames e.meter (changes_of e.list)) note) };
+        × ((note : FrameNote) → e.still ≡ Some note →
+        IsStill (engine_of e.outlook e.budget e.most e.mesh e.odometer e.frames e.meter
+        (changes_of e.list)) note) };
 }
 
 impl Engine {
-    /// The engine of a grid: seen from (0, 0, 0), no plane, the two halves of the square, of which none is split. All memory is taken
-    /// here: for as many leaves as the budget allows, or as the grid can have.
+    /// The engine of a grid: seen from (0, 0, 0), no plane, the two halves of the square, of which none is split. All
+    /// memory is taken here: for as many leaves as the budget allows, or as the grid can have.
     pub fn make(alloc: Global, grid: Grid, budget: u32, spacing: u32) -> Result<Engine, NoMemory>
         requires some { 2 ≤ budget }
         requires few { budget ≤ MOST_LEAVES }
@@ -218,7 +222,8 @@ impl Engine {
         self.meter.count()
     }
 
-    /// The pool of the mesh. `kept` and `only` tell of the stamps of its triangles, before the first frame and between frames.
+    /// The pool of the mesh. `kept` and `only` tell of the stamps of its triangles, before the first frame and
+    /// between frames.
     pub fn pool(&self) -> &Pool
         ensures pool { result.now ≡ self.now.mesh.pool }
         ensures n { result.now.n ≡ self.now.state.grid.n }
@@ -229,7 +234,8 @@ impl Engine {
         self.mesh.pool()
     }
 
-    /// The mesh of the last frame, or the two halves of the square before the first one, with the heights and planes as they are.
+    /// The mesh of the last frame, or the two halves of the square before the first one, with the heights and planes
+    /// as they are.
     pub fn view(&self) -> MeshView<'_>
         ensures leaves { result.leaves.now ≡ mesh_seen self.now }
         ensures wedges { result.wedges.now ≡ self.now.state.grid }

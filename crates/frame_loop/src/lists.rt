@@ -14,8 +14,8 @@ use roam_errors::NoMemory;
 use std::alloc::Global;
 use triangle_pool::Pool;
 
-/// Leaves and numbers are mended where at most one in so many of the leaves that there is room for was split or merged, and else made
-/// anew.
+/// Leaves and numbers are mended where at most one in so many of the leaves that there is room for was split or
+/// merged, and else made anew.
 const MENDED_SHARE: usize = 8;
 
 /// What stands where no change was listed yet.
@@ -36,7 +36,8 @@ pub(crate) struct Lists {
 }
 
 impl Lists {
-    /// The leaves of a pool, with room for so many, and a table of the vertices of a grid with this n, without a vertex.
+    /// The leaves of a pool, with room for so many, and a table of the vertices of a grid with this n, without a
+    /// vertex.
     pub(crate) fn make(alloc: Global, n: u32, pool: &Pool, room: u32) -> Result<Lists, NoMemory>
         requires in_grid { n ≤ GREATEST_LEVEL }
         requires root { slice_index pool.now.pairs 0 ≡ 1 }

@@ -15,13 +15,13 @@ use roam_mesh::Mesh;
 use view_priority::{Outlook, view_laws};
 
 impl Engine {
-    /// Puts a whole set of planes in force in the place of those before, and expires the stamps of those triangles alone that
-    /// were Outside or become Outside, and not both.
+    /// Puts a whole set of planes in force in the place of those before, and expires the stamps of those triangles
+    /// alone that were Outside or become Outside, and not both.
     ///
     /// All others keep their priorities, from every place. So planes that turn with the camera cost little, where
     /// `clear_planes` and `add_plane` expire all stamps.
-    /// Cost (not proved): a walk over the triangles of the mesh that are not Inside, nor Outside, both before and after, and
-    /// their children, with a mark of each by each set; none where no stamp is good.
+    /// Cost (not proved): a walk over the triangles of the mesh that are not Inside, nor Outside, both before and
+    /// after, and their children, with a mark of each by each set; none where no stamp is good.
     pub fn look(&mut self, planes: &Planes)
         ensures rest { self.new ≡ record self.old {
           state = with_planes planes.now self.old.state;
@@ -104,7 +104,8 @@ impl Turn {
     fn of(outlook: &Outlook, planes: &Planes, t: Tri) -> Turn
         requires level { level_of t ≤ 2 * outlook.now.grid.n }
         ensures own { result.is_turned ≡ is_turned outlook.now planes.now t }
-        ensures below { result.goes_on ≡ false → (a : ℕ) → is_at_or_below t a ≡ true → level_of a ≤ 2 * outlook.now.grid.n →
+        ensures below { result.goes_on ≡ false → (a : ℕ) → is_at_or_below t a ≡ true →
+            level_of a ≤ 2 * outlook.now.grid.n →
             is_turned outlook.now planes.now a ≡ false }
     {
         view_laws();

@@ -64,13 +64,14 @@ impl MarkCounts {
 
 /// How many leaves of a pool are inside all planes, cut by one, and outside of one.
 ///
-/// Cost (not proved): a step for each triangle of the pool, and a mark for each that is cut and for each child of one; nothing
-/// where no plane is in force.
+/// Cost (not proved): a step for each triangle of the pool, and a mark for each that is cut and for each child of
+/// one; nothing where no plane is in force.
 pub(crate) fn count_marks(outlook: &Outlook, pool: &Pool) -> MarkCounts
     requires n { pool.now.n ≡ outlook.now.grid.n }
     requires root { slice_index pool.now.pairs 0 ≡ 1 }
     requires short { pool.now.most < 2 ^ 31 }
-    ensures { HasMarks outlook.now (leaves_of pool.now.n (split_set pool.now.pairs)) result.inside result.cut result.outside }
+    ensures { HasMarks outlook.now
+        (leaves_of pool.now.n (split_set pool.now.pairs)) result.inside result.cut result.outside }
 {
     let leaves = pool.leaf_count();
     if outlook.planes.len() == 0 {
@@ -131,7 +132,8 @@ fn count_leaves(pool: &Pool, s: Slot, levels: u32) -> u32
 /// The mark of a triangle.
 fn mark(outlook: &Outlook, t: Tri) -> Mark
     requires level { level_of t ≤ 2 * outlook.now.grid.n }
-    ensures { result ≡ triangle_mark outlook.now.grid.n outlook.now.grid.heights outlook.now.view.spacing outlook.now.view.planes t }
+    ensures { result
+        ≡ triangle_mark outlook.now.grid.n outlook.now.grid.heights outlook.now.view.spacing outlook.now.view.planes t }
 {
     let cuboid = outlook.wedges.cuboid(t, outlook.spacing);
     outlook.planes.mark(&cuboid)

@@ -1,6 +1,7 @@
 //! The leaves of a pool with the numbers of their vertices, mended where some triangles were split and merged.
 
-ghost use Rattle.std.specs.Prelude.{◌≡◌, ◌*◌, ◌/◌, ◌≤◌, false, true, IsNone, IfSome, All, length, map, take, slice_index};
+ghost use Rattle.std.specs.Prelude.{◌≡◌, ◌*◌, ◌/◌, ◌≤◌, false, true, IsNone, IfSome, All, length, map, take};
+ghost use Rattle.std.specs.Prelude.{slice_index};
 ghost use Rattle.mesh_defs.specs.Triangle.{IsSplittable};
 ghost use Rattle.mesh_defs.specs.declared.level.TheConstants.{GREATEST_LEVEL};
 ghost use Rattle.edge_laws.specs.Slots.{address_at, split_set};
@@ -75,8 +76,8 @@ fn list_changes(pool: &Pool, changed: &[Tri], changes: &mut [VertexChange])
     }
 }
 
-/// Mends the list of leaves of a pool and the numbers of their vertices, where these triangles were split or merged; answers how many
-/// vertices there are.
+/// Mends the list of leaves of a pool and the numbers of their vertices, where these triangles were split or merged;
+/// answers how many vertices there are.
 ///
 /// Each triangle whose splitting has changed since list and numbers were made has to be among them; others may be, too.
 /// Cost (not proved): a step for each level of each of them, and those of `LeafList::patch` and `VertexTable::patch`.

@@ -10,8 +10,8 @@ use view_priority::Meter;
 impl Engine {
     /// Counts frames, evaluations, splits, merges and the way of the camera from 0 on again, and expires all stamps.
     ///
-    /// So an engine goes on for ever: a caller renews it behind 1,000,000 frames, or where `camera` would come too far. The
-    /// state and the triangles stay; the next frame asks all priorities anew.
+    /// So an engine goes on for ever: a caller renews it behind 1,000,000 frames, or where `camera` would come too
+    /// far. The state and the triangles stay; the next frame asks all priorities anew.
     /// Cost (not proved): that of `clear_planes`.
     pub fn renew(&mut self)
         ensures rest { self.new ≡ record self.old {

@@ -1,6 +1,7 @@
 //! Laws of the definitions, each a clause of a function with an empty body.
 
-ghost use Rattle.std.specs.Prelude.{◌≡◌, ℕ, ◌+◌, ◌*◌, ◌^◌, ◌<◌, ◌≤◌, ◌⊎◌, Bool, true, IsTrue, List, length, take, All, Contains, Option};
+ghost use Rattle.std.specs.Prelude.{◌≡◌, ℕ, ◌+◌, ◌*◌, ◌^◌, ◌<◌, ◌≤◌, ◌⊎◌, Bool, true, IsTrue, List, length, take, All};
+ghost use Rattle.std.specs.Prelude.{Contains, Option};
 ghost use Rattle.mesh_defs.specs.ClosedSet.{IsSubset, leaves_of, among};
 ghost use Rattle.mesh_defs.specs.Ranking.{RanksBefore, IsRanking, IsRankClosure, IsBefore};
 ghost use Rattle.mesh_defs.specs.Greedy.{IsFirstLeaf};
@@ -11,7 +12,8 @@ ghost use Rattle.closure_laws.specs.Diamond.{IsInDiamond};
 ghost use Rattle.bintree_addr.specs.declared.blocked.Blocked.{Blocked};
 ghost use Rattle.closure_laws.specs.Frame.{IsFrame};
 ghost use Rattle.frame_steps.specs.Lead.{IsLead};
-ghost use Rattle.frame_steps.specs.Steps.{leaf_count, IsSplitStep, IsMergeStep, IsFinished, StepRun, HoldsChosen, AreLoose, IsFrameRun};
+ghost use Rattle.frame_steps.specs.Steps.{leaf_count, IsSplitStep, IsMergeStep, IsFinished, StepRun, HoldsChosen};
+ghost use Rattle.frame_steps.specs.Steps.{AreLoose, IsFrameRun};
 ghost use Rattle.frame_steps.specs.Deferred.{LeafStraddles, DiamondStraddles, DeferredFrame, IsDeferredFrame};
 ghost use Rattle.frame_steps.specs.Keys.{upper_key, lower_key, IsLastKey};
 ghost use Rattle.frame_steps.specs.Stamps.{Stamp, Readings, HasStamps, StampsHold, ReadingsHold};
@@ -94,7 +96,8 @@ pub fn loop_laws()
         removed ≤ MOST_MEMBERS }
 {}
 
-/// What a loop over bounds has to ask straddles, so that it asks no more than the entries whose bound leaves their place open.
+/// What a loop over bounds has to ask straddles, so that it asks no more than the entries whose bound leaves their
+/// place open.
 ///
 /// `leaf`: where the leaves are within the budget, a leaf whose key comes first. `room`: a diamond whose lower bounds
 /// come after the first leaf in rank. `over`: one whose lower bounds come no earlier than the diamond merged next.
@@ -124,11 +127,13 @@ pub fn straddling_laws()
 pub fn queue_laws()
     ensures first { (w : DeferredFrame) → IsDeferredFrame w → (members : List ℕ) (known : ℕ → Bool) (f : ℕ) →
         Contains (leaves_of w.n (among members)) f → known f ≡ true → 0 < w.priority f →
-        ((l : ℕ) → Contains (leaves_of w.n (among members)) l → IsNoLater (upper_key w known f) f (upper_key w known l) l) →
+        ((l : ℕ) → Contains (leaves_of w.n (among members)) l →
+        IsNoLater (upper_key w known f) f (upper_key w known l) l) →
         IsFirstLeaf w.n w.priority (among members) f }
     ensures none { (w : DeferredFrame) → IsDeferredFrame w → (members : List ℕ) (known : ℕ → Bool) (f : ℕ) →
         upper_key w known f ≡ 0 →
-        ((l : ℕ) → Contains (leaves_of w.n (among members)) l → IsNoLater (upper_key w known f) f (upper_key w known l) l) →
+        ((l : ℕ) → Contains (leaves_of w.n (among members)) l →
+        IsNoLater (upper_key w known f) f (upper_key w known l) l) →
         All (λ a. w.priority a ≡ 0) (leaves_of w.n (among members)) }
     ensures last { (w : DeferredFrame) → IsDeferredFrame w → (members : List ℕ) (known : ℕ → Bool) (a c : ℕ) →
         IsGridSet w.n members → IsLastKey w members known a c →
@@ -141,9 +146,9 @@ pub fn queue_laws()
         (d : ℕ) → IsLead w.n w.priority (among members) d → 0 < w.priority d }
 {}
 
-/// From stamps to the bounds of a frame: where each stamp that is not due has the priority between its ranks, and so has
-/// each one of an address of the grid that would be taken now, the frame that counts what is due by the latter is one over
-/// bounds.
+/// From stamps to the bounds of a frame: where each stamp that is not due has the priority between its ranks, and so
+/// has each one of an address of the grid that would be taken now, the frame that counts what is due by the latter is
+/// one over bounds.
 pub fn stamp_laws()
     ensures { (w : DeferredFrame) (readings : Readings) (odometer : ℕ) (stamps : ℕ → Option Stamp) →
         IsRanking w.n w.priority w.ranking → IsFalling w.n w.priority →

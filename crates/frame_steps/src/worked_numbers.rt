@@ -1,4 +1,5 @@
-//! Worked examples of the definitions on the grid of 5 points a side: each was worked by hand, and the check computes it.
+//! Worked examples of the definitions on the grid of 5 points a side: each was worked by hand, and the check computes
+//! it.
 //!
 //! A function's clauses are the facts that its name tells; its body has nothing to do.
 
@@ -83,9 +84,11 @@ fn the_priorities_are_those_of_two_peaks()
 fn the_second_frame_of_two_peaks_takes_these_steps()
     ensures merge_17 { (step : IsMergeStep 2 9 (told_by FROM_UPPER_RIGHT) FIRST WITHOUT_17) × (step.diamond ≡ 17) }
     ensures split_6 { (step : IsSplitStep 2 9 (told_by FROM_UPPER_RIGHT) WITHOUT_17 WITH_6) × (step.leaf ≡ 6) }
-    ensures merge_8_with_11 { (step : IsMergeStep 2 9 (told_by FROM_UPPER_RIGHT) WITH_6 WITHOUT_8) × (step.diamond ≡ 8) }
+    ensures merge_8_with_11 { (step : IsMergeStep 2 9 (told_by FROM_UPPER_RIGHT) WITH_6 WITHOUT_8)
+        × (step.diamond ≡ 8) }
     ensures merge_5 { (step : IsMergeStep 2 9 (told_by FROM_UPPER_RIGHT) WITHOUT_8 WITHOUT_5) × (step.diamond ≡ 5) }
-    ensures split_12_with_15_and_7 { (step : IsSplitStep 2 9 (told_by FROM_UPPER_RIGHT) WITHOUT_5 WITH_12) × (step.leaf ≡ 12) }
+    ensures split_12_with_15_and_7 { (step : IsSplitStep 2 9 (told_by FROM_UPPER_RIGHT) WITHOUT_5 WITH_12)
+        × (step.leaf ≡ 12) }
     ensures merge_4 { (step : IsMergeStep 2 9 (told_by FROM_UPPER_RIGHT) WITH_12 WITHOUT_4) × (step.diamond ≡ 4) }
     ensures split_25 { (step : IsSplitStep 2 9 (told_by FROM_UPPER_RIGHT) WITHOUT_4 SECOND) × (step.leaf ≡ 25) }
     ensures blocked_by_4 { DoesNotFit 2 9 (told_by FROM_UPPER_RIGHT) SECOND 4 }
@@ -143,8 +146,9 @@ fn a_stamp_is_due_past_its_slack()
         (counted_stamp readings 13 (λ a. Some stamp) 4).upper ≡ 9 }
 {}
 
-/// After the second frame nothing has moved: of its leaves only 4, which blocks, straddles by its priority; and a leaf of
-/// priority 0 does by an upper bound of 436907. 17 is merged in that frame, so that its diamond straddles there.
+/// After the second frame nothing has moved: of its leaves only 4, which blocks, straddles by its priority; and a
+/// leaf of priority 0 does by an upper bound of 436907. 17 is merged in that frame, so that its diamond straddles
+/// there.
 fn what_straddles_in_the_frames_of_two_peaks()
     ensures blocking { LeafStraddles (told_by FROM_UPPER_RIGHT) RANKING 5 (told_by FROM_UPPER_RIGHT) 4 }
     ensures behind { LeafStraddles (told_by FROM_UPPER_RIGHT) RANKING 5 (told_by FROM_UPPER_RIGHT) 5 → ⊥ }

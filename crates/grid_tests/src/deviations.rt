@@ -1,5 +1,5 @@
-//! Deviations and thicknesses of meshes by `mesh_measure`: worked numbers, which a plain program over the definitions gave; and the
-//! deviation beside a plain loop over all triangles and all points.
+//! Deviations and thicknesses of meshes by `mesh_measure`: worked numbers, which a plain program over the definitions
+//! gave; and the deviation beside a plain loop over all triangles and all points.
 
 ghost use Rattle.std.specs.Prelude.{◌≡◌, ◌<◌, ◌≤◌};
 ghost use Rattle.mesh_defs.specs.declared.level.TheConstants.{GREATEST_LEVEL};
@@ -131,8 +131,8 @@ fn plain(alloc: Global, w: &Wedges, set: &Split) -> Result<u64, Fail> {
     Ok(most)
 }
 
-/// The deviation and the greatest thickness over this surface, and the deviation by the plain loop, of the least closed set that has the
-/// triangle with this address; 1 is the empty set.
+/// The deviation and the greatest thickness over this surface, and the deviation by the plain loop, of the least
+/// closed set that has the triangle with this address; 1 is the empty set.
 fn measured_by_both(
     alloc: Global,
     surface: Surface,

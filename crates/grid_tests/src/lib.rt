@@ -1,8 +1,10 @@
-//! Tests of the crates between a file of heights and the view of a terrain: grids, thicknesses, edits, measures, marks and priorities.
+//! Tests of the crates between a file of heights and the view of a terrain: grids, thicknesses, edits, measures,
+//! marks and priorities.
 //!
-//! For whoever changes one of them. They stand here, above those crates, so that each of those is proved without tests, and once. A test
-//! calls what is public, and shows what no clause says: that the definitions mean what numbers worked by hand say, that a call succeeds
-//! where there is memory, and what is printed. Nothing here runs outside tests.
+//! For whoever changes one of them. They stand here, above those crates, so that each of those is proved without
+//! tests, and once. A test calls what is public, and shows what no clause says: that the definitions mean what
+//! numbers worked by hand say, that a call succeeds where there is memory, and what is printed. Nothing here runs
+//! outside tests.
 
 #![tactic(auto)]
 

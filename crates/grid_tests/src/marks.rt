@@ -58,7 +58,8 @@ fn mark_under(cuboid: &Cuboid, slopes: &[Slopes]) -> Option<(u32, Mark)>
     Some((planes.len(), planes.mark(cuboid)))
 }
 
-/// Whether a corner of a box is outside a plane. The corner has the upper end along x, y and z where the bit of 1, 2 and 4 is set.
+/// Whether a corner of a box is outside a plane. The corner has the upper end along x, y and z where the bit of 1, 2
+/// and 4 is set.
 fn is_outside(slopes: Slopes, cuboid: &Cuboid, corner: u32) -> bool {
     let (a, b, c, d) = slopes;
     let x = if corner & 1 == 0 {

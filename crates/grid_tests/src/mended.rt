@@ -1,4 +1,5 @@
-//! Wedges after random edits, beside wedges made anew of the same heights: in grids all of whose levels the table leaves out, and in larger ones.
+//! Wedges after random edits, beside wedges made anew of the same heights: in grids all of whose levels the table
+//! leaves out, and in larger ones.
 
 ghost use Rattle.std.specs.Prelude.{◌≡◌, ◌≤◌, IfOk};
 ghost use Rattle.mesh_defs.specs.declared.level.TheConstants.{GREATEST_LEVEL};

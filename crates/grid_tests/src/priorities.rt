@@ -20,7 +20,8 @@ fn camera_at(place: Place) -> Result<Camera, Fail> {
     Ok(Camera::new(place.0, place.1, place.2).ok_or("a camera")?)
 }
 
-/// The priority of a triangle; none where it is not that of the triangle, or another number of evaluations is counted than one.
+/// The priority of a triangle; none where it is not that of the triangle, or another number of evaluations is counted
+/// than one.
 fn priority_of(
     wedges: &Wedges,
     place: Place,
@@ -114,7 +115,8 @@ fn bounds_are_the_priorities_at_both_ends_of_the_slack(rt: HostRuntime) -> Resul
     Ok(())
 }
 
-/// The slack of this part of the distance, the priorities at both ends of it of triangle 2, and how many evaluations are counted.
+/// The slack of this part of the distance, the priorities at both ends of it of triangle 2, and how many evaluations
+/// are counted.
 fn bounds_for_part(wedges: &Wedges, part: u64) -> Result<(u64, u64, u64, u64), Fail>
     requires { 1 ≤ part }
 {

@@ -222,8 +222,8 @@ fn a_raster_is_truncated_at_every_length(rt: HostRuntime) -> Result<(), Fail> {
     Ok(())
 }
 
-/// Feeds two words, of which the second is too large, in two pieces and a third that is empty: what each is answered, and where
-/// the next byte stands before and after each of the first two; and the answer at the end.
+/// Feeds two words, of which the second is too large, in two pieces and a third that is empty: what each is answered,
+/// and where the next byte stands before and after each of the first two; and the answer at the end.
 fn refused_word(
     alloc: Global,
 ) -> Result<([Result<(), RasterFault>; 3], [u64; 3], Option<RasterFault>), NoMemory> {
@@ -246,8 +246,8 @@ fn a_refusal_comes_with_its_byte_and_sticks(rt: HostRuntime) -> Result<(), Fail>
     Ok(())
 }
 
-/// Whether 3,000 samples, each the last two digits of its place, are read from a text in pieces of this length, and the first 99 is
-/// refused where it is too large.
+/// Whether 3,000 samples, each the last two digits of its place, are read from a text in pieces of this length, and
+/// the first 99 is refused where it is too large.
 fn are_rows_read(
     alloc: Global,
     form: RasterForm,

@@ -113,8 +113,8 @@ fn a_height_that_is_set_moves_the_thickness(rt: HostRuntime) -> Result<(), Fail>
     Ok(())
 }
 
-/// Whether the slope has these heights once a row of two is set from above the middle on, and then an empty row beyond the
-/// right border.
+/// Whether the slope has these heights once a row of two is set from above the middle on, and then an empty row
+/// beyond the right border.
 fn is_row_set(alloc: Global, heights: [u16; 9]) -> Result<bool, Fail> {
     let mut wedges = nine(alloc, &SLOPE, 65535)?;
     wedges.set_row(1, 2, &[7, 8]);

@@ -30,8 +30,8 @@ fn split(set: &mut Split, number: u32) -> Option<u32>
     set.split_forced(t).ok()
 }
 
-/// By how many members the set grows where 2, 4, 8 and 17 are split in turn, and by 11 then; its n, how many members it has, and a
-/// bit for each of them.
+/// By how many members the set grows where 2, 4, 8 and 17 are split in turn, and by 11 then; its n, how many members
+/// it has, and a bit for each of them.
 fn corner_set(alloc: Global) -> ([Option<u32>; 4], Option<u32>, u32, u32, u64) {
     let mut set = Split::base(alloc, 2);
     let gains = [

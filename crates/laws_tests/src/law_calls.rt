@@ -1,4 +1,5 @@
-//! The laws of each law crate can be called. A call of a law costs nothing, and its caller then knows the law's clauses.
+//! The laws of each law crate can be called. A call of a law costs nothing, and its caller then knows the law's
+//! clauses.
 
 #[test]
 fn laws_of_texts_are_calls() {

@@ -1,7 +1,8 @@
 //! Tests of the laws, of the worked numbers of their definitions, and of addresses and closed sets.
 //!
-//! For whoever changes a law crate, `bintree_addr` or `diamond_rel`: these crates have no tests of their own, since a crate with
-//! tests is proved twice. The worked numbers are computed by the check. There is no code here that another crate calls.
+//! For whoever changes a law crate, `bintree_addr` or `diamond_rel`: these crates have no tests of their own, since a
+//! crate with tests is proved twice. The worked numbers are computed by the check. There is no code here that another
+//! crate calls.
 
 #![tactic(auto)]
 

@@ -88,8 +88,8 @@ impl LeafList {
     /// The list is that of a pool, which was split and merged at these triangles alone since the list was made.
     ///
     /// Others may stand among them, too, and a triangle may stand there more than once. Takes no memory.
-    /// Cost (not proved): a step for each level of these triangles and for each leaf that goes or comes; a copy of the leaves that
-    /// stay, and of a byte for each slot.
+    /// Cost (not proved): a step for each level of these triangles and for each leaf that goes or comes; a copy of
+    /// the leaves that stay, and of a byte for each slot.
     pub fn patch(&mut self, pool: &Pool, changed: &[Tri])
         requires root { slice_index pool.now.pairs 0 ≡ 1 }
         requires room { pool.now.most ≤ self.old.most }

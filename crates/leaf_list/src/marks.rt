@@ -1,6 +1,7 @@
 //! Marks at the slots of triangles that may have changed, and of all above them.
 
-ghost use Rattle.std.specs.Prelude.{◌≡◌, ℕ, Bool, ◌*◌, ◌/◌, ◌≤◌, true, IsNone, IfSome, Contains, slice_index, slice_index_or, slice_set};
+ghost use Rattle.std.specs.Prelude.{◌≡◌, ℕ, Bool, ◌*◌, ◌/◌, ◌≤◌, true, IsNone, IfSome, Contains, slice_index};
+ghost use Rattle.std.specs.Prelude.{slice_index_or, slice_set};
 ghost use Rattle.edge_laws.specs.Slots.{address_at, split_set, IsLive};
 ghost use Rattle.leaf_list.specs.Below.{is_at_or_below};
 ghost use Rattle.leaf_list.specs.List.{IsCovered};
@@ -37,7 +38,8 @@ fn mark_each(walk: &mut Walk, pool: &Pool, changed: &[Tri])
     }
 }
 
-/// Marks the slots of a triangle and of all above it, as far as they are live; answers the slot of the triangle, where it is.
+/// Marks the slots of a triangle and of all above it, as far as they are live; answers the slot of the triangle,
+/// where it is.
 fn mark(walk: &mut Walk, pool: &Pool, t: Tri) -> Option<Slot>
     requires root { slice_index pool.now.pairs 0 ≡ 1 }
     requires most { pool.now.most ≤ walk.old.most }

@@ -1,6 +1,7 @@
 //! A walk over what may have changed.
 
-ghost use Rattle.std.specs.Prelude.{◌≡◌, ◌+◌, ◌*◌, ◌<◌, ◌≤◌, ◌++◌, ◌∷◌, [], true, false, cond, length, take, drop, slice_index};
+ghost use Rattle.std.specs.Prelude.{◌≡◌, ◌+◌, ◌*◌, ◌<◌, ◌≤◌, ◌++◌, ◌∷◌, [], true, false, cond, length, take, drop};
+ghost use Rattle.std.specs.Prelude.{slice_index};
 ghost use Rattle.mesh_defs.specs.Triangle.{level_of};
 ghost use Rattle.mesh_defs.specs.ClosedSet.{leaves_under, leaves_of};
 ghost use Rattle.edge_laws.specs.Slots.{address_at, split_set, IsLive};
@@ -13,8 +14,8 @@ use triangle_pool::Pool;
 
 /// Writes the leaves at and below a slot, by those before, and notes what went and what came.
 ///
-/// Cost (not proved): a step for each triangle with a mark and for each child of one, and for each leaf that goes or comes; a copy of
-/// the leaves that stay.
+/// Cost (not proved): a step for each triangle with a mark and for each child of one, and for each leaf that goes or
+/// comes; a copy of the leaves that stay.
 pub(crate) fn patch_under(walk: &mut Walk, pool: &Pool, s: Slot, levels: u32)
     requires live { IsLive pool.now.pairs s.0 }
     requires level { level_of (address_at pool.now.pairs s.0) + levels ≡ 2 * pool.now.n }

@@ -1,6 +1,7 @@
 //! A list of leaves in the middle of a patch.
 
-ghost use Rattle.std.specs.Prelude.{◌≡◌, ℕ, ◌+◌, ◌*◌, ◌<◌, ◌≤◌, ◌++◌, [], ◌∷◌, true, IfOk, length, take, drop, replicate, slice_index_or, slice_set, vec_capacity};
+ghost use Rattle.std.specs.Prelude.{◌≡◌, ℕ, ◌+◌, ◌*◌, ◌<◌, ◌≤◌, ◌++◌, [], ◌∷◌, true, IfOk, length, take, drop};
+ghost use Rattle.std.specs.Prelude.{replicate, slice_index_or, slice_set, vec_capacity};
 ghost use Rattle.triangle_pool.specs.declared.pool.TheConstants.{MOST_LEAVES};
 ghost use Rattle.leaf_list.specs.Order.{run_length, begins_with};
 

@@ -77,8 +77,8 @@ fn each_cause_of_a_rejection_is_told(rt: HostRuntime) -> Result<(), Fail> {
     Ok(())
 }
 
-/// The certificate of the best mesh of 8 triangles of the grid of side 4 with a hill at the lower border. That mesh stops at 17, which
-/// needs 9.
+/// The certificate of the best mesh of 8 triangles of the grid of side 4 with a hill at the lower border. That mesh
+/// stops at 17, which needs 9.
 fn cert_of_mesh(alloc: Global) -> Result<Cert, Fail> {
     certificate_laws();
     let camera = Camera::new(0, 0, 0).ok_or("a camera")?;

@@ -1,6 +1,7 @@
 //! Meshes for an error and for a budget beside all closed sets of grids of side 2 and 4, by brute force.
 //!
-//! A set of splittable triangles is a word, a bit an address; errors come from a plain loop over the points of a triangle.
+//! A set of splittable triangles is a word, a bit an address; errors come from a plain loop over the points of a
+//! triangle.
 
 ghost use Rattle.std.specs.Prelude.{◌≤◌};
 ghost use Rattle.mesh_defs.specs.declared.level.TheConstants.{GREATEST_LEVEL};

@@ -41,7 +41,8 @@ fn has_mesh(least: &Least, want: &[u32], vertices: u32) -> bool {
     leaves.len() == want.len() && are_wanted && numbered == vertices as usize
 }
 
-/// How many triangles and vertices the least mesh for the tolerance is told to have, and its worst; and whether it has these triangles.
+/// How many triangles and vertices the least mesh for the tolerance is told to have, and its worst; and whether it
+/// has these triangles.
 fn frame_of(
     least: &mut Least,
     wedges: &Wedges,
@@ -57,7 +58,8 @@ fn frame_of(
     Ok(((note.triangles, note.vertices, note.worst), has_it))
 }
 
-/// Both halves of the square have priority 1310720. How many leaves there are at first, and what three tolerances answer one after the other.
+/// Both halves of the square have priority 1310720. How many leaves there are at first, and what three tolerances
+/// answer one after the other.
 fn middle_frames(alloc: Global) -> Result<(usize, [((u32, u32, u64), bool); 3]), Fail> {
     let wedges = hill(alloc, 1, 1, 1)?;
     let mut least = Least::make(alloc, 1)?;

@@ -1,8 +1,9 @@
-//! Tests of the crates over one mesh that no engine follows: least meshes, meshes by their error, certificates and strips.
+//! Tests of the crates over one mesh that no engine follows: least meshes, meshes by their error, certificates and
+//! strips.
 //!
-//! For whoever changes one of them. They stand here, above those crates, so that each of those is proved without tests, and once. A test
-//! calls what is public, and shows what no clause says: that the definitions mean what numbers worked by hand say, and that a call
-//! succeeds where there is memory. Nothing here runs outside tests.
+//! For whoever changes one of them. They stand here, above those crates, so that each of those is proved without
+//! tests, and once. A test calls what is public, and shows what no clause says: that the definitions mean what
+//! numbers worked by hand say, and that a call succeeds where there is memory. Nothing here runs outside tests.
 
 #![tactic(auto)]
 

@@ -1,5 +1,5 @@
-//! Strips by `strip_order`, worked by hand; and strips of all closed sets of the smallest grid and of many of larger ones, whose triangles share
-//! edges by their corners.
+//! Strips by `strip_order`, worked by hand; and strips of all closed sets of the smallest grid and of many of larger
+//! ones, whose triangles share edges by their corners.
 
 ghost use Rattle.std.specs.Prelude.{◌≡◌, ◌<◌, ◌≤◌};
 ghost use Rattle.mesh_defs.specs.declared.level.TheConstants.{GREATEST_LEVEL};
@@ -50,7 +50,8 @@ fn shared_corners(set: &Split, a: Tri, b: Tri) -> Result<u32, Fail> {
     )
 }
 
-/// Whether each triangle of the set's strip shares two corners with the next, and the last with the first; the turns are two less.
+/// Whether each triangle of the set's strip shares two corners with the next, and the last with the first; the turns
+/// are two less.
 fn is_ring(alloc: Global, set: &Split) -> Result<bool, Fail> {
     let (order, counted) = walk(alloc, set)?;
     let mut before = *order.last().ok_or("a triangle")?;

@@ -15,10 +15,11 @@ pub struct Changes {
     pub come: usize,
 }
 
-/// Writes the triangles of each mesh that the other has not, and answers how many they are. Those for which there is no room are
-/// counted all the same.
+/// Writes the triangles of each mesh that the other has not, and answers how many they are. Those for which there is
+/// no room are counted all the same.
 ///
-/// Both meshes are lists of addresses, depth first, as `write_addresses` writes them. Of other lists nothing is promised.
+/// Both meshes are lists of addresses, depth first, as `write_addresses` writes them. Of other lists nothing is
+/// promised.
 /// Cost (not proved): twice a step for each triangle of both.
 pub fn list_changes(before: &[u32], after: &[u32], gone: &mut [u32], come: &mut [u32]) -> Changes
     ensures gone { IsDepthFirst before.now → IsDepthFirst after.now →

@@ -1,6 +1,7 @@
 //! Comparing a file with the text of a mesh.
 
-ghost use Rattle.std.specs.Prelude.{◌≡◌, ℕ, ◌+◌, ◌*◌, ◌^◌, ◌<◌, ◌≤◌, [], List, None, Some, Err, true, false, All, length, IfOk, OnErr};
+ghost use Rattle.std.specs.Prelude.{◌≡◌, ℕ, ◌+◌, ◌*◌, ◌^◌, ◌<◌, ◌≤◌, [], List, None, Some, Err, true, false, All};
+ghost use Rattle.std.specs.Prelude.{length, IfOk, OnErr};
 ghost use Rattle.mesh_defs.specs.HeightField.{side_of};
 ghost use Rattle.mesh_defs.specs.Triangle.{level_of};
 ghost use Rattle.mesh_defs.specs.MeshText.{mesh_text};
@@ -37,7 +38,8 @@ pub enum CompareFault {
 ///
 /// The answer is the first place, counted from 0, where they differ or where only one goes on, and none where they
 /// are equal. The file is read in pieces of 64 KiB at most, to its end or to the end of the piece with that place.
-/// Cost (not proved): that of `VertexTable::number`, and a few steps a byte; 64 KiB, and a little more than four bytes for each grid point.
+/// Cost (not proved): that of `VertexTable::number`, and a few steps a byte; 64 KiB, and a little more than four
+/// bytes for each grid point.
 pub fn compare<F: Shelf>(
     alloc: Global,
     w: &Wedges,
@@ -106,11 +108,13 @@ fn compare_lines<F: Shelf>(
 ) -> Result<Option<u64>, Failed>
     requires few { lines.most < 2 ^ 32 }
     requires not_ended { F.ended shelf.old ≡ false }
-    ensures place { IfOk result (λ found. FindsDifference lines.entry.text (left_of window.old (F.rest shelf.old)) found) }
+    ensures place { IfOk result
+        (λ found. FindsDifference lines.entry.text (left_of window.old (F.rest shelf.old)) found) }
     ensures ended { IfOk result (λ found. found ≡ None → F.ended shelf.new ≡ true) }
     ensures all_read { IfOk result (λ found. found ≡ None → (bytes : List ℕ) →
         left_of window.old (F.rest shelf.old) ≡ Some bytes → F.rest shelf.new ≡ Some []) }
-    ensures cut { OnErr result (IsReadInPart lines.entry.text (left_of window.old (F.rest shelf.old)) (F.rest shelf.new)) }
+    ensures cut { OnErr result
+        (IsReadInPart lines.entry.text (left_of window.old (F.rest shelf.old)) (F.rest shelf.new)) }
     ensures goes_on { OnErr result (F.ended shelf.new ≡ false) }
     ensures told { StaysTold (F.rest shelf.old) (F.rest shelf.new) }
     ensures files { F.files shelf.new ≡ F.files shelf.old }

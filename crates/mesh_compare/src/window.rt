@@ -1,6 +1,7 @@
 //! A window on a file: bytes that were read of it, and not yet compared.
 
-ghost use Rattle.std.specs.Prelude.{◌≡◌, ℕ, ◌+◌, ◌<◌, ◌≤◌, ◌∷◌, [], List, Some, None, true, false, ◌↔◌, IfOk, OnErr, MatchOption, is_none};
+ghost use Rattle.std.specs.Prelude.{◌≡◌, ℕ, ◌+◌, ◌<◌, ◌≤◌, ◌∷◌, [], List, Some, None, true, false, ◌↔◌, IfOk, OnErr};
+ghost use Rattle.std.specs.Prelude.{MatchOption, is_none};
 ghost use Rattle.roam_edge.specs.Fault.{HasCause, IsInTime};
 ghost use Rattle.roam_edge.specs.Told.{StaysTold};
 ghost use Rattle.mesh_compare.specs.Differs.{Gives, left_of};
@@ -82,7 +83,8 @@ impl Window {
         requires empty { self.old ≡ [] }
         ensures bytes { IfOk result (λ _. (unread : List ℕ) → F.rest shelf.old ≡ Some unread →
             left_of self.new (F.rest shelf.new) ≡ Some unread) }
-        ensures none { IfOk result (λ _. self.new ≡ [] → (unread : List ℕ) → F.rest shelf.old ≡ Some unread → unread ≡ []) }
+        ensures none { IfOk result (λ _. self.new ≡ [] → (unread : List ℕ) → F.rest shelf.old ≡ Some unread →
+            unread ≡ []) }
         ensures ended { IfOk result (λ _. self.new ≡ [] → F.ended shelf.new ≡ true) }
         ensures goes_on { IfOk result (λ _. (self.new ≡ [] → ⊥) → F.ended shelf.new ≡ false) }
         ensures kept { OnErr result (F.rest shelf.new ≡ F.rest shelf.old) }

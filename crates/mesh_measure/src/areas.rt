@@ -3,7 +3,8 @@
 use crate::columns::Columns;
 use bintree_addr::{Corners, Point};
 
-/// Twice the area of the triangle of a point and an edge: a sum from which another is taken, so that neither is negative.
+/// Twice the area of the triangle of a point and an edge: a sum from which another is taken, so that neither is
+/// negative.
 #[derive(Clone, Copy)]
 pub(crate) struct Across {
     pub(crate) high: u32,
@@ -48,7 +49,8 @@ impl Across {
         self.high.saturating_sub(self.low)
     }
 
-    /// Of these columns, those whose points lie left of the edge from p to q or on it, in the row of whose first point this is.
+    /// Of these columns, those whose points lie left of the edge from p to q or on it, in the row of whose first
+    /// point this is.
     ///
     /// A column farther right adds p.y to the first sum and q.y to the second.
     fn narrowed(self, p: Point, q: Point, columns: Columns) -> Columns

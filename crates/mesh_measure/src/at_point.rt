@@ -36,8 +36,8 @@ pub fn off_point(grid: &Grid, t: Tri, x: u32, y: u32) -> Option<u64>
 /// A grid point of the triangle where the surface is farther from its plane than the tolerance, in units of height,
 /// times 2^n; none where the triangle's error is not above it.
 ///
-/// Cost (not proved): that of `exceeds`, and where that is so, some thirty steps for each point of the rectangle around the
-/// triangle up to the one that is found.
+/// Cost (not proved): that of `exceeds`, and where that is so, some thirty steps for each point of the rectangle
+/// around the triangle up to the one that is found.
 pub fn point_above(grid: &Grid, t: Tri, tolerance: u32) -> Option<Point>
     requires level { level_of t ≤ 2 * grid.now.n }
     ensures found { IfSome result (IsAbove grid.now.n grid.now.heights t tolerance) }

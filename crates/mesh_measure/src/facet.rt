@@ -77,8 +77,8 @@ pub(crate) fn side(n: u32) -> u64
     1 << n
 }
 
-/// 2^n times the height of the triangle's plane at a point of the triangle, in units of height: a whole number, since the
-/// length of a leg or of the base along an axis of the grid divides 2^n.
+/// 2^n times the height of the triangle's plane at a point of the triangle, in units of height: a whole number, since
+/// the length of a leg or of the base along an axis of the grid divides 2^n.
 ///
 /// Cost (not proved): that of `Tri::corners`.
 pub fn plane_height(w: &Wedges, t: Tri, x: u32, y: u32) -> i64

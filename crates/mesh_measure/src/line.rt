@@ -12,8 +12,8 @@ ghost use Rattle.mesh_measure.specs.Line.{high_on, low_on, AreHeights, IsRowLine
 use crate::areas::Areas;
 use crate::shape::Facet;
 
-/// Twice the area of a triangle times the height of its plane at a column: a sum from which another is taken, and what a column
-/// farther right adds to each.
+/// Twice the area of a triangle times the height of its plane at a column: a sum from which another is taken, and
+/// what a column farther right adds to each.
 #[derive(Clone, Copy)]
 pub(crate) struct Line {
     pub(crate) high: u64,

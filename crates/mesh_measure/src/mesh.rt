@@ -9,8 +9,8 @@ use crate::points::off_triangle;
 use bintree_addr::Tri;
 use wedgie_tree::Wedges;
 
-/// The deviation of the leaves of a closed set, times 2^n: how far the surface is from the planes of the triangles at most,
-/// over all grid points, in units of height.
+/// The deviation of the leaves of a closed set, times 2^n: how far the surface is from the planes of the triangles at
+/// most, over all grid points, in units of height.
 ///
 /// Cost (not proved): that of `off_triangle` for each leaf.
 pub fn deviation(w: &Wedges, leaves: &[Tri]) -> u64

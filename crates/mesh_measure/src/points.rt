@@ -33,7 +33,8 @@ pub(crate) fn gap(grid: &Grid, facet: Facet, areas: Areas, x: u32, y: u32) -> u6
     surface.abs_diff(weighted(facet, areas))
 }
 
-/// The same at the midpoint of the base, where the triangle holds it, or else 0: most triangles are farthest off about there.
+/// The same at the midpoint of the base, where the triangle holds it, or else 0: most triangles are farthest off
+/// about there.
 fn middle_gap(grid: &Grid, facet: Facet) -> u64
     requires facet { IsFacet grid.now.n grid.now.heights facet }
     requires corners_in_grid { IsWithin (2 ^ grid.now.n) facet.corners }
@@ -106,8 +107,8 @@ fn most_until(grid: &Grid, facet: Facet, bounds: Bounds, limit: u64) -> u64
     most
 }
 
-/// The error of a triangle: how far the surface is from its plane at most, up or down, over all grid points that the triangle
-/// holds, in units of height, times 2^n.
+/// The error of a triangle: how far the surface is from its plane at most, up or down, over all grid points that the
+/// triangle holds, in units of height, times 2^n.
 ///
 /// Cost (not proved): a step for each grid point of the triangle and some twenty for each of its rows, and those of
 /// `Tri::corners`.

@@ -20,8 +20,8 @@ use pgm_grid::side_for;
 /// Writes x, y and z of each vertex into the first places, in the order of their numbers.
 ///
 /// They are the numbers of its `v` line: x and y in world units, z in units of height.
-/// Cost (not proved): a look at one flag in 64 places, a step for each sixteen places where a flag is set, and a few for each vertex.
-/// Takes no memory.
+/// Cost (not proved): a look at one flag in 64 places, a step for each sixteen places where a flag is set, and a few
+/// for each vertex. Takes no memory.
 pub fn write_positions(view: &MeshView<'_>, out: &mut [u32])
     requires levels { All (λ a. level_of a ≤ 2 * view.now.wedges.now.n) view.now.leaves.now }
     requires numbers { view.now.numbers.now ≡ numbers_of view.now.wedges.now.n view.now.leaves.now }

@@ -102,11 +102,13 @@ fn corner_between(numbers: &VertexTable, n: u32, t: Tri, v0: &Corner, v1: &Corne
     corner_of(numbers, (v0.place + v1.place) / 2)
 }
 
-/// Makes the face of a triangle known, from those of the triangles that were asked for before: there is the last one of each level.
+/// Makes the face of a triangle known, from those of the triangles that were asked for before: there is the last one
+/// of each level.
 ///
-/// So the field of a vertex is made once for each triangle whose base it halves, and else handed on from parent to child.
-/// Cost (not proved): a step for each level at which the way down is another than the last one that was asked for. For the
-/// parents of triangles in depth-first order these are one for each of them, by and large.
+/// So the field of a vertex is made once for each triangle whose base it halves, and else handed on from parent to
+/// child.
+/// Cost (not proved): a step for each level at which the way down is another than the last one that was asked for.
+/// For the parents of triangles in depth-first order these are one for each of them, by and large.
 #[cycle(known)]
 #[inline(always)]
 pub(crate) fn make_known(faces: &mut [Face], numbers: &VertexTable, n: u32, t: Tri)
@@ -190,8 +192,10 @@ fn put_child(face: &mut Face, numbers: &VertexTable, n: u32, parent: &Face, t: T
 pub(crate) fn base_of(parent: &Face, t: Tri) -> (&Corner, &Corner)
     requires child { 4 ≤ t }
     requires of { parent.now.tri ≡ t / 2 }
-    ensures v0 { (n : ℕ) (numbers : List ℕ) → IsFace n numbers parent.now → IsCornerAt n numbers (corners_of n t).v0 result.0.now }
-    ensures v1 { (n : ℕ) (numbers : List ℕ) → IsFace n numbers parent.now → IsCornerAt n numbers (corners_of n t).v1 result.1.now }
+    ensures v0 { (n : ℕ) (numbers : List ℕ) → IsFace n numbers parent.now →
+        IsCornerAt n numbers (corners_of n t).v0 result.0.now }
+    ensures v1 { (n : ℕ) (numbers : List ℕ) → IsFace n numbers parent.now →
+        IsCornerAt n numbers (corners_of n t).v1 result.1.now }
 {
     if t.number() % 2 == 0 {
         (&parent.apex, &parent.v0)

@@ -92,7 +92,8 @@ impl<'a> MeshLines<'a> {
     /// Appends the next line to a text that has room for the longest, a face line with the group line before it.
     ///
     /// The answer is whether there was one. Takes no memory.
-    /// Cost (not proved): for the vertices altogether that of `VertexTable::first_from`; for a triangle a step a level and a plane.
+    /// Cost (not proved): for the vertices altogether that of `VertexTable::first_from`; for a triangle a step a
+    /// level and a plane.
     pub fn push_next<const ROOM: usize>(&mut self, page: &mut ArrayVec<u8, ROOM>) -> bool
         requires room { array_vec_len page.old + LONGEST_PIECE ≤ ROOM }
         ensures text { page.new.items ++ self.new.text ≡ page.old.items ++ self.old.text }
@@ -132,7 +133,8 @@ impl<'a> MeshLines<'a> {
     }
 }
 
-/// Puts a group line on a page where a plane is in force and the triangle's mark differs from the one before; answers its mark then.
+/// Puts a group line on a page where a plane is in force and the triangle's mark differs from the one before; answers
+/// its mark then.
 ///
 /// Without a plane no mark is asked for.
 #[inline(always)]
@@ -194,8 +196,8 @@ fn group_text(mark: Mark) -> &'static [u8]
     }
 }
 
-/// Puts the line of a face on a page: the vertex numbers of apex, `v0` and `v1`, which are corners of its parent and the
-/// midpoint of the parent's base.
+/// Puts the line of a face on a page: the vertex numbers of apex, `v0` and `v1`, which are corners of its parent and
+/// the midpoint of the parent's base.
 #[inline(always)]
 fn put_face<const ROOM: usize>(
     view: &MeshView<'_>,

@@ -1,6 +1,7 @@
 //! A mesh as it is to be written, and writing it.
 
-ghost use Rattle.std.specs.Prelude.{◌≡◌, ◌+◌, ◌*◌, ◌<◌, ◌≤◌, ◌++◌, ◌∷◌, [], List, Some, true, false, All, length, OnOk, OnErr};
+ghost use Rattle.std.specs.Prelude.{◌≡◌, ◌+◌, ◌*◌, ◌<◌, ◌≤◌, ◌++◌, ◌∷◌, [], List, Some, true, false, All, length, OnOk};
+ghost use Rattle.std.specs.Prelude.{OnErr};
 ghost use Rattle.mesh_defs.specs.Triangle.{level_of};
 ghost use Rattle.roam_edge.specs.Fault.{HasCause, IsInTime};
 ghost use Rattle.roam_edge.specs.MeshSink.{WrittenMesh};
@@ -38,8 +39,8 @@ pub struct MeshView<'a> {
 ///
 /// The sink gets the text in pieces of at least 8 KiB, but for the last. After a failed call the mesh holds
 /// a prefix of its text, and stays unfinished and under way; where it could not be begun, nothing has changed.
-/// Cost (not proved): a look at one flag in 64 places, a step for each sixteen places where a flag is set, and a few steps a level and
-/// a plane for each leaf.
+/// Cost (not proved): a look at one flag in 64 places, a step for each sixteen places where a flag is set, and a few
+/// steps a level and a plane for each leaf.
 /// Source: the Wavefront object file format, the lines v, f and g.
 pub fn write_mesh<M: MeshSink>(
     view: &MeshView<'_>,

@@ -1,6 +1,7 @@
 //! Vertex numbers mended where a few vertices came and went.
 
-ghost use Rattle.std.specs.Prelude.{◌≡◌, ◌≢◌, ℕ, ◌+◌, ◌*◌, ◌/◌, ◌^◌, ◌<◌, ◌≤◌, if◌then◌else◌, List, All, length, take, slice_index, slice_set};
+ghost use Rattle.std.specs.Prelude.{◌≡◌, ◌≢◌, ℕ, ◌+◌, ◌*◌, ◌/◌, ◌^◌, ◌<◌, ◌≤◌, if◌then◌else◌, List, All, length, take};
+ghost use Rattle.std.specs.Prelude.{slice_index, slice_set};
 ghost use Rattle.mesh_defs.specs.HeightField.{side_of};
 ghost use Rattle.mesh_defs.specs.MeshText.{vertices_of};
 ghost use Rattle.bintree_laws.specs.Corners.{IsInSquare};
@@ -26,11 +27,13 @@ impl VertexTable {
     /// Mends the numbers where vertices came and went, and answers how many vertices there are.
     ///
     /// A point may stand among the changes more than once, and one at which nothing has changed, too.
-    /// It is `number` in other steps: where the table has the numbers of some triangles, and others have the same vertices but for
-    /// the points of the changes, it has the numbers of the others then. What those triangles are is not asked.
+    /// It is `number` in other steps: where the table has the numbers of some triangles, and others have the same
+    /// vertices but for the points of the changes, it has the numbers of the others then. What those triangles are is
+    /// not asked.
     ///
-    /// Cost (not proved): a step for each change; a look back to the last number before the first block of 64 places that has
-    /// a change; from there on a pass over the blocks in which a vertex stands or stood, and a look at the flag of each block.
+    /// Cost (not proved): a step for each change; a look back to the last number before the first block of 64 places
+    /// that has a change; from there on a pass over the blocks in which a vertex stands or stood, and a look at the
+    /// flag of each block.
     pub fn patch(&mut self, changes: &[VertexChange], n: u32) -> u32
         requires in_grid { n ≤ GREATEST_LEVEL }
         requires within { All (λ c. IsInSquare (2 ^ n) c.point) changes.now }
@@ -49,8 +52,8 @@ impl VertexTable {
     }
 }
 
-/// Puts 1 at the point of each change that is a vertex now, and 0 at that of each other one; flags their blocks, and answers the
-/// first of these, or the number of blocks where there is no change.
+/// Puts 1 at the point of each change that is a vertex now, and 0 at that of each other one; flags their blocks, and
+/// answers the first of these, or the number of blocks where there is no change.
 fn put_changes(changes: &[VertexChange], n: u32, numbers: &mut [u32], used: &mut [bool]) -> usize
     requires in_grid { n ≤ GREATEST_LEVEL }
     requires within { All (λ c. IsInSquare (2 ^ n) c.point) changes.now }

@@ -11,7 +11,8 @@ use std::simd::prelude::*;
 /// How many places are looked at together.
 const LANES: usize = 16;
 
-/// The first place from this one on with a number other than 0, or the number of places. A block whose flag is not set is not looked at.
+/// The first place from this one on with a number other than 0, or the number of places. A block whose flag is not
+/// set is not looked at.
 ///
 /// Cost (not proved): a step for each block that is passed, and one for each sixteen places of those whose flag is set.
 #[inline(always)]
@@ -39,8 +40,8 @@ pub(crate) fn first_numbered(numbers: &[u32], used: &[bool], from: usize) -> usi
     at
 }
 
-/// The first place from this one on with a number other than 0, if it is before the end; else a place from the end on before which no
-/// number stands.
+/// The first place from this one on with a number other than 0, if it is before the end; else a place from the end on
+/// before which no number stands.
 #[inline(always)]
 fn first_before(numbers: &[u32], from: usize, end: usize) -> usize
     requires from { from ≤ end }
@@ -87,7 +88,8 @@ fn first_set(mask: u64, lanes: usize) -> usize
     }
 }
 
-/// The first place from this one on with a number other than 0, or the number of places, of the last places, one after another.
+/// The first place from this one on with a number other than 0, or the number of places, of the last places, one
+/// after another.
 fn first_left(numbers: &[u32], from: usize) -> usize
     requires { from ≤ length numbers.now }
     ensures later { from ≤ result }

@@ -1,6 +1,7 @@
 //! A table of vertex numbers that is cleared and counted only where numbers stand.
 
-ghost use Rattle.std.specs.Prelude.{◌≡◌, ◌≢◌, ℕ, ◌+◌, ◌*◌, ◌/◌, ◌^◌, ◌<◌, ◌≤◌, List, All, IfOk, length, replicate, false, slice_index, slice_set};
+ghost use Rattle.std.specs.Prelude.{◌≡◌, ◌≢◌, ℕ, ◌+◌, ◌*◌, ◌/◌, ◌^◌, ◌<◌, ◌≤◌, List, All, IfOk, length, replicate};
+ghost use Rattle.std.specs.Prelude.{false, slice_index, slice_set};
 ghost use Rattle.mesh_defs.specs.HeightField.{side_of};
 ghost use Rattle.mesh_defs.specs.Triangle.{level_of};
 ghost use Rattle.mesh_defs.specs.MeshText.{vertices_of};
@@ -178,8 +179,8 @@ fn mark_vertex(n: u32, numbers: &mut [u32], used: &mut [bool], point: Point)
     used[at / BLOCK] = true;
 }
 
-/// Puts in place of each mark how many marks there are up to it, from a block on, where those before it are counted and numbered,
-/// so many; answers how many there are in all.
+/// Puts in place of each mark how many marks there are up to it, from a block on, where those before it are counted
+/// and numbered, so many; answers how many there are in all.
 pub(crate) fn number_blocks(numbers: &mut [u32], used: &[bool], first: usize, before: u32) -> u32
     requires room { length numbers.old < 2 ^ 32 }
     requires flagged { AreFlagged numbers.old used.now }

@@ -27,11 +27,12 @@ pub(crate) fn first_steps(n: u32) -> [Step; LEVELS]
     [Step { tri: half, corners }; LEVELS]
 }
 
-/// The corners of a triangle, from those of the triangles that were asked for before: `steps` has the last one of each level.
+/// The corners of a triangle, from those of the triangles that were asked for before: `steps` has the last one of
+/// each level.
 ///
 /// It is `Tri::corners` in other steps.
-/// Cost (not proved): a step for each level at which the way down is another than the last one that was asked for. For triangles
-/// in depth-first order these are two for each triangle at most, by and large.
+/// Cost (not proved): a step for each level at which the way down is another than the last one that was asked for.
+/// For triangles in depth-first order these are two for each triangle at most, by and large.
 pub(crate) fn corners_on_the_way(steps: &mut [Step], n: u32, t: Tri) -> Corners
     requires in_grid { (1 ≤ n) × (n ≤ GREATEST_LEVEL) }
     requires level { level_of t ≤ 2 * n }

@@ -1,6 +1,10 @@
 //! What the whole bytes of a file mean.
 
-ghost use Rattle.pgm_grid.specs.Laws.{TextsAreRead, GridsHaveTexts, GridsHaveHeaders, BadMagicsAreRefused, BadHeadersAreRefused, LongHeadersAreRefused, BadMaxvalsAreRefused, OblongsAreRefused, BadSidesAreRefused, CutTextsAreRefused, TrailingBytesAreRefused, GreatSamplesAreRefused, BadSamplesAreRefused, LongFilesAreRefused, OthersAreAbsent};
+ghost use Rattle.pgm_grid.specs.Laws.{TextsAreRead, GridsHaveTexts, GridsHaveHeaders, BadMagicsAreRefused};
+ghost use Rattle.pgm_grid.specs.Laws.{BadHeadersAreRefused, LongHeadersAreRefused, BadMaxvalsAreRefused};
+ghost use Rattle.pgm_grid.specs.Laws.{OblongsAreRefused, BadSidesAreRefused, CutTextsAreRefused};
+ghost use Rattle.pgm_grid.specs.Laws.{TrailingBytesAreRefused, GreatSamplesAreRefused, BadSamplesAreRefused};
+ghost use Rattle.pgm_grid.specs.Laws.{LongFilesAreRefused, OthersAreAbsent};
 
 use pgm_header::header_laws;
 use pgm_raster::raster_laws;

@@ -4,7 +4,8 @@ ghost use Rattle.std.specs.Prelude.{◌≡◌, ◌≢◌, ◌<◌, ◌≤◌, �
 ghost use Rattle.pgm_header.specs.declared.reader.TheConstants.{MOST_HEADER_BYTES};
 ghost use Rattle.pgm_header.specs.Accepted.{IsHeader};
 ghost use Rattle.pgm_grid.specs.PgmText.{form_of};
-ghost use Rattle.pgm_grid.specs.Progress.{InHeader, InRaster, header_fault, raster_fault, resume, grid_answer, samples_at};
+ghost use Rattle.pgm_grid.specs.Progress.{InHeader, InRaster, header_fault, raster_fault, resume, grid_answer};
+ghost use Rattle.pgm_grid.specs.Progress.{samples_at};
 ghost use Rattle.pgm_grid.specs.Stage.{progress_of, IsOpenHeader, IsReaderFor, IsStage, Takes, Stops, BeginsRaster};
 
 use crate::fault::PgmFault;
@@ -92,7 +93,8 @@ fn raster_after(header: Header, mut reader: RasterReader, piece: &[u8]) -> Resul
     requires { IsReaderFor header reader }
     ensures valid { IfOk result IsStage }
     ensures takes { IfOk result (λ next. Takes (InRaster header reader) (progress_of next) piece.now) }
-    ensures refusal { IfErr result (λ fault. (more : List ℕ) → resume (InRaster header reader) (piece.now ++ more) ≡ Err fault) }
+    ensures refusal { IfErr result (λ fault. (more : List ℕ) →
+        resume (InRaster header reader) (piece.now ++ more) ≡ Err fault) }
     ensures room { IfErr result (λ fault. fault ≢ PgmFault.NoMemory) }
 {
     match reader.feed(piece) {

@@ -1,6 +1,9 @@
 //! What the bytes mean that a reader takes.
 
-ghost use Rattle.pgm_header.specs.Laws.{HeaderTextsAreRead, ReadTextsAreHeaders, WrittenHeadersAreTexts, NoTextGoesOn, PartsArePrefixes, HeadersRefuseBadMagics, HeadersRefuseBadBytes, HeadersRefuseTooMuch, HeadersRefuseBadMaxvals, HeadersRefuseOblongs, HeadersRefuseBadSides, ReadHeadersStand, RefusalsStand, PartsAreRefusable};
+ghost use Rattle.pgm_header.specs.Laws.{HeaderTextsAreRead, ReadTextsAreHeaders, WrittenHeadersAreTexts, NoTextGoesOn};
+ghost use Rattle.pgm_header.specs.Laws.{PartsArePrefixes, HeadersRefuseBadMagics, HeadersRefuseBadBytes};
+ghost use Rattle.pgm_header.specs.Laws.{HeadersRefuseTooMuch, HeadersRefuseBadMaxvals, HeadersRefuseOblongs};
+ghost use Rattle.pgm_header.specs.Laws.{HeadersRefuseBadSides, ReadHeadersStand, RefusalsStand, PartsAreRefusable};
 
 /// States what `header_of` answers, in the words of the format. It does nothing.
 pub fn header_laws()

@@ -1,6 +1,7 @@
 //! Further bytes of a plain raster.
 
-ghost use Rattle.std.specs.Prelude.{◌≡◌, ◌+◌, ◌^◌, ◌<◌, ◌≤◌, ◌++◌, ◌∷◌, ℕ, List, length, drop, vec_len, OnOk, IfOk, IfErr};
+ghost use Rattle.std.specs.Prelude.{◌≡◌, ◌+◌, ◌^◌, ◌<◌, ◌≤◌, ◌++◌, ◌∷◌, ℕ, List, length, drop, vec_len, OnOk, IfOk};
+ghost use Rattle.std.specs.Prelude.{IfErr};
 ghost use Rattle.std.specs.Vec.{vec_capacity};
 ghost use Rattle.text_laws.specs.Blanks.{is_white};
 ghost use Rattle.pgm_raster.specs.Progress.{RasterAnswer, after, reads, plain_from, ended_then, no_digits};

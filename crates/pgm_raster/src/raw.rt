@@ -55,7 +55,8 @@ pub(crate) fn words_after(
         reads limits heights.old.items (part.Words None) at (piece.now ++ more) ≡ Err fault) }
     ensures valid { OnOk result (HasSampleRoom limits heights.new) }
     ensures part { IfOk result (λ high. IsPart limits (vec_len heights.new) (part.Words high)) }
-    ensures place { IfOk result (λ high. IsRasterPlace limits (vec_len heights.new) (part.Words high) (at + length piece.now)) }
+    ensures place { IfOk result
+        (λ high. IsRasterPlace limits (vec_len heights.new) (part.Words high) (at + length piece.now)) }
 {
     let wanted = limits.count - heights.len();
     let pairs = wanted.min(piece.len() / 2);
@@ -90,7 +91,8 @@ pub(crate) fn words_after_half(
         reads limits heights.old.items (part.Words (Some high)) at (piece.now ++ more) ≡ Err fault) }
     ensures valid { OnOk result (HasSampleRoom limits heights.new) }
     ensures part { IfOk result (λ half. IsPart limits (vec_len heights.new) (part.Words half)) }
-    ensures place { IfOk result (λ half. IsRasterPlace limits (vec_len heights.new) (part.Words half) (at + length piece.now)) }
+    ensures place { IfOk result
+        (λ half. IsRasterPlace limits (vec_len heights.new) (part.Words half) (at + length piece.now)) }
 {
     let [low, rest @ ..] = piece else {
         return Ok(Some(high));

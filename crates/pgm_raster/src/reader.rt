@@ -1,7 +1,9 @@
 //! The reader of rasters.
 
-ghost use Rattle.std.specs.Prelude.{◌≡◌, ◌+◌, ◌^◌, ◌<◌, ◌≤◌, [], ◌++◌, List, ℕ, Ok, Err, Some, None, IfSome, length, vec_len, OnOk, IfOk, IfErr};
-ghost use Rattle.pgm_raster.specs.Progress.{resume_raster, raster_of, next_place, refusal_of, RasterStaysRefused, after, end_at, nothing_of, reads};
+ghost use Rattle.std.specs.Prelude.{◌≡◌, ◌+◌, ◌^◌, ◌<◌, ◌≤◌, [], ◌++◌, List, ℕ, Ok, Err, Some, None, IfSome, length};
+ghost use Rattle.std.specs.Prelude.{vec_len, OnOk, IfOk, IfErr};
+ghost use Rattle.pgm_raster.specs.Progress.{resume_raster, raster_of, next_place, refusal_of, RasterStaysRefused};
+ghost use Rattle.pgm_raster.specs.Progress.{after, end_at, nothing_of, reads};
 ghost use Rattle.pgm_raster.specs.Stage.{HasSampleRoom, IsPart, IsRasterPlace};
 ghost use Rattle.pgm_raster.specs.declared.plain.TheConstants.{MOST_BYTES};
 ghost use Rattle.pgm_raster.specs.declared.reader.TheConstants.{LAST_START};
@@ -63,7 +65,8 @@ impl RasterReader {
     ) -> Result<RasterReader, NoMemory>
         requires place_small { place ≤ LAST_START }
         requires count_small { count ≤ 2 ^ 23 }
-        ensures value { IfOk result (λ reader. (more : List ℕ) → resume_raster reader more ≡ raster_of form count maxval place more) }
+        ensures value { IfOk result (λ reader. (more : List ℕ) →
+            resume_raster reader more ≡ raster_of form count maxval place more) }
         ensures place { IfOk result (λ reader. next_place reader ≡ place) }
         ensures good { IfOk result (λ reader. refusal_of reader ≡ None) }
     {
@@ -96,13 +99,15 @@ impl RasterReader {
     /// A refusal comes with the piece that brings the byte that is refused.
     pub fn feed(&mut self, piece: &[u8]) -> Result<(), RasterFault>
         // What the bytes mean together is not changed by where they are cut.
-        ensures ok { OnOk result ((more : List ℕ) → resume_raster self.old (piece.now ++ more) ≡ resume_raster self.new more) }
+        ensures ok { OnOk result ((more : List ℕ) →
+            resume_raster self.old (piece.now ++ more) ≡ resume_raster self.new more) }
         ensures place { OnOk result (next_place self.new ≡ next_place self.old + length piece.now) }
         ensures limit { OnOk result (next_place self.new ≤ MOST_BYTES) }
         // No byte so far is refused: what still comes decides.
         ensures unsettled { OnOk result ((fault : RasterFault) → ¬ RasterStaysRefused self.new fault) }
         // The refusal is that of the file, whatever still comes.
-        ensures refusal { IfErr result (λ fault. (more : List ℕ) → resume_raster self.old (piece.now ++ more) ≡ Err fault) }
+        ensures refusal { IfErr result (λ fault. (more : List ℕ) →
+            resume_raster self.old (piece.now ++ more) ≡ Err fault) }
         ensures err { IfErr result (λ fault. RasterStaysRefused self.new fault) }
         ensures good { OnOk result (refusal_of self.new ≡ None) }
         ensures bad { IfErr result (λ fault. refusal_of self.new ≡ Some fault) }

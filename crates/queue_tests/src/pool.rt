@@ -165,7 +165,8 @@ fn a_split_tells_the_children_and_those_of_the_mate(rt: HostRuntime) {
     assert_eq!(rt; born_of(rt.alloc(), &[2], 4), Some([8, 9, 0, 0]));
 }
 
-/// The relations of a split triangle: its children, its partner, whether it can be merged, and the parents of its children and its own.
+/// The relations of a split triangle: its children, its partner, whether it can be merged, and the parents of its
+/// children and its own.
 fn kin(pool: &Pool, number: u32) -> Option<([u32; 2], u32, bool, [u32; 3])> {
     let s = slot_of(pool, number)?;
     if pool.is_leaf(s) {

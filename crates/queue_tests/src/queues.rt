@@ -8,8 +8,8 @@ use std::alloc::Global;
 /// A priority and an address.
 type Pair = (u64, u32);
 
-/// What a queue tells: its head before any call, after two entries, after another rank of one, and after that one is taken; what is
-/// taken; and the ranks at the slots 0 and 1 then.
+/// What a queue tells: its head before any call, after two entries, after another rank of one, and after that one is
+/// taken; what is taken; and the ranks at the slots 0 and 1 then.
 type Told = ([Option<(Slot, Rank)>; 4], Rank, [Option<Rank>; 2]);
 
 /// The rank of the triangle with this address.

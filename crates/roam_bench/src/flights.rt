@@ -241,7 +241,8 @@ fn place_at(flight: Flight, steps: u32) -> (i64, i64)
 /// A million times the cosine of a degree, and its sine.
 const DEGREE: (i64, i64) = (999_848, 17_452);
 
-/// The two sides of a view that has turned by so many degrees, each 30 degrees from its middle, through the camera's place.
+/// The two sides of a view that has turned by so many degrees, each 30 degrees from its middle, through the camera's
+/// place.
 fn planes_at(flight: Flight, steps: u32) -> Planes
     requires flight { IsFlight flight }
     requires steps { steps ≤ LATER }

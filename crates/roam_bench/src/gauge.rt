@@ -69,8 +69,9 @@ impl<'a> Gauge for ViewGauge<'a> {
     }
 }
 
-/// What a frame asks of a gauge: its priorities fall and lie between its bounds. After a first frame, whose stamps were all
-/// taken at one camera, they also lie there as seen from another one, if that is no farther than the odometer has gone.
+/// What a frame asks of a gauge: its priorities fall and lie between its bounds. After a first frame, whose stamps
+/// were all taken at one camera, they also lie there as seen from another one, if that is no farther than the
+/// odometer has gone.
 pub fn gauge_laws()
     ensures falls { (n : ℕ) (heights : List ℕ) (camera : CameraAt) → IsFalling n (told_from n heights camera).of }
     ensures hold { (n : ℕ) (heights : List ℕ) (camera : CameraAt) (odometer : ℕ) →

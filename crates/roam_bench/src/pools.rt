@@ -116,7 +116,8 @@ fn leaf(pool: &Pool, number: u32) -> Option<Slot> {
     None
 }
 
-/// Refines by force at random leaves until the pool is full, or only walks to them. Counts the leaves, and adds up the gains.
+/// Refines by force at random leaves until the pool is full, or only walks to them. Counts the leaves, and adds up
+/// the gains.
 pub fn refined(alloc: Global, forced: bool) -> (u32, u32) {
     let mut calls = 0u32;
     let mut found = 0u32;

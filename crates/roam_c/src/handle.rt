@@ -12,8 +12,8 @@ use std::ptr::null_mut;
 
 /// What C holds: the mark of a full handle, or any other number, and where the engine is on the heap.
 ///
-/// A struct of zeros is an empty handle, and so is nearly every one that nobody has written. `value` is what clauses see: the
-/// engine, or none.
+/// A struct of zeros is an empty handle, and so is nearly every one that nobody has written. `value` is what clauses
+/// see: the engine, or none.
 #[repr(C)]
 pub struct Handle {
     pub(crate) mark: u64,

@@ -1,8 +1,8 @@
 //! The engine for C: a handle that owns an engine or is empty, and a function for each call of `roam.h`.
 //!
-//! Each function takes the engine out of the handle, makes one call of `roam_embed`, puts the engine back, and answers the
-//! number of that call's answer. None has a `requires`, so no argument that C may pass breaks a rule. What C owes for its
-//! pointers stands in the head of `roam.h`. Only `roam_open` takes memory for good.
+//! Each function takes the engine out of the handle, makes one call of `roam_embed`, puts the engine back, and
+//! answers the number of that call's answer. None has a `requires`, so no argument that C may pass breaks a rule.
+//! What C owes for its pointers stands in the head of `roam.h`. Only `roam_open` takes memory for good.
 
 #![tactic(auto)]
 

@@ -10,7 +10,8 @@ use crate::handle::{Handle, put, take};
 use roam_embed::{Answer, open_engine};
 use std::alloc::Global;
 
-/// Makes an engine over these heights, and lets go of the one that the handle had. After a refusal the handle is as before.
+/// Makes an engine over these heights, and lets go of the one that the handle had. After a refusal the handle is as
+/// before.
 #[unsafe(no_mangle)]
 pub extern "C" fn roam_open(
     alloc: Global,

@@ -57,7 +57,8 @@ pub extern "C" fn roam_leaves(
     }
 }
 
-/// Writes the addresses of the triangles that the last frame took out and put in, each depth first, and how many they are.
+/// Writes the addresses of the triangles that the last frame took out and put in, each depth first, and how many they
+/// are.
 #[unsafe(no_mangle)]
 pub extern "C" fn roam_changed(
     alloc: Global,

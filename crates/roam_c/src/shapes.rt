@@ -31,7 +31,8 @@ pub extern "C" fn roam_positions(
     }
 }
 
-/// Writes the vertices of each triangle, by their places among those of `roam_positions`, and how many triangles there are.
+/// Writes the vertices of each triangle, by their places among those of `roam_positions`, and how many triangles
+/// there are.
 #[unsafe(no_mangle)]
 pub extern "C" fn roam_compact(
     alloc: Global,

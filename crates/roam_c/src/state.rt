@@ -1,7 +1,8 @@
 //! Calls that change what an engine shows.
 
 ghost use Rattle.std.specs.Prelude.{⊤};
-ghost use Rattle.roam_embed.specs.Calls.{IsCameraMoved, IsPlaneAdded, ArePlanesCleared, IsBudgetPut, IsHeightPut, IsAreaRaised};
+ghost use Rattle.roam_embed.specs.Calls.{IsCameraMoved, IsPlaneAdded, ArePlanesCleared, IsBudgetPut, IsHeightPut};
+ghost use Rattle.roam_embed.specs.Calls.{IsAreaRaised};
 ghost use Rattle.roam_embed.specs.Looking.{ArePlanesPut};
 ghost use Rattle.roam_embed.specs.Renewal.{IsEngineRenewed};
 ghost use Rattle.roam_c.specs.Handle.{OnFull, OnEmpty};

@@ -22,7 +22,8 @@ use wedgie_tree::Wedges;
 
 /// A sound certificate of the greedy mesh of a budget, seen from the camera without view planes.
 ///
-/// The leaves are depth first. The mesh is made from scratch; who has one already, as from an engine, calls `certify_mesh`.
+/// The leaves are depth first. The mesh is made from scratch; who has one already, as from an engine, calls
+/// `certify_mesh`.
 /// Cost (not proved): that of `plain_frame`, of a list of the leaves, and of `certify_mesh`.
 pub fn make_cert(
     alloc: Global,
@@ -53,10 +54,11 @@ pub fn make_cert(
 
 /// A sound certificate of an optimal mesh within a budget, seen from the camera without view planes.
 ///
-/// The caller has the leaves and their worst from whoever found the mesh: the frame of a budget is optimal (`frame_laws` of
-/// `closure_laws`, and `best` of `certificate_laws`), whether it was made from scratch or by an engine.
-/// Cost (not proved): a byte for each splittable triangle, a look at each of these bytes until there are reasons enough, two
-/// priorities for each triangle that is worse than the mesh or as bad, and a step for each reason.
+/// The caller has the leaves and their worst from whoever found the mesh: the frame of a budget is optimal
+/// (`frame_laws` of `closure_laws`, and `best` of `certificate_laws`), whether it was made from scratch or by an
+/// engine.
+/// Cost (not proved): a byte for each splittable triangle, a look at each of these bytes until there are reasons
+/// enough, two priorities for each triangle that is worse than the mesh or as bad, and a step for each reason.
 pub fn certify_mesh(
     alloc: Global,
     w: &Wedges,

@@ -1,6 +1,7 @@
 //! Whether a list of triangles is conforming, in any order, by a flag for each split triangle and each entry.
 
-ghost use Rattle.std.specs.Prelude.{◌≡◌, ℕ, ◌+◌, ◌*◌, ◌^◌, ◌<◌, ◌≤◌, ◌↔◌, List, IsTrue, IfSome, IfNone, true, false, length, All};
+ghost use Rattle.std.specs.Prelude.{◌≡◌, ℕ, ◌+◌, ◌*◌, ◌^◌, ◌<◌, ◌≤◌, ◌↔◌, List, IsTrue, IfSome, IfNone, true, false};
+ghost use Rattle.std.specs.Prelude.{length, All};
 ghost use Rattle.mesh_defs.specs.Triangle.{IsAddress, IsSplittable, IsMate};
 ghost use Rattle.mesh_defs.specs.Tiling.{IsConforming};
 ghost use Rattle.mesh_defs.specs.declared.level.TheConstants.{GREATEST_LEVEL};

@@ -1,13 +1,15 @@
 //! Making the reasons of a certificate: a queue of triangles whose causes are still to be listed.
 
-ghost use Rattle.std.specs.Prelude.{◌≡◌, ℕ, ◌+◌, ◌*◌, ◌/◌, ◌^◌, ◌<◌, ◌≤◌, ◌⊎◌, ◌↔◌, Bool, List, IsTrue, IfOk, IfSome, OnOk, false, [], length};
+ghost use Rattle.std.specs.Prelude.{◌≡◌, ℕ, ◌+◌, ◌*◌, ◌/◌, ◌^◌, ◌<◌, ◌≤◌, ◌⊎◌, ◌↔◌, Bool, List, IsTrue, IfOk, IfSome};
+ghost use Rattle.std.specs.Prelude.{OnOk, false, [], length};
 ghost use Rattle.mesh_defs.specs.Triangle.{IsSplittable, IsMate};
 ghost use Rattle.mesh_defs.specs.State.{priority_seen};
 ghost use Rattle.mesh_defs.specs.declared.level.TheConstants.{GREATEST_LEVEL};
 ghost use Rattle.least_laws.specs.Sweep.{is_flagged};
 ghost use Rattle.certificate_laws.specs.declared.reason.Reason.{Reason};
 ghost use Rattle.certificate_laws.specs.Certificate.{named_in, AreReasons, AreAllReasons};
-ghost use Rattle.roam_certify.specs.Making.{AreReasonsListed, IsPushed, IsCause, HasCauses, AreGrownReasons, KeepsReasons, AreWanted, IsQueue};
+ghost use Rattle.roam_certify.specs.Making.{AreReasonsListed, IsPushed, IsCause, HasCauses, AreGrownReasons};
+ghost use Rattle.roam_certify.specs.Making.{KeepsReasons, AreWanted, IsQueue};
 
 use address_flags::{end, flag, is_set};
 use bintree_addr::Tri;

@@ -1,6 +1,7 @@
 //! A shelf of borrowed files that never fails.
 
-ghost use Rattle.std.specs.Prelude.{◌≡◌, ◌<◌, ◌≤◌, ℕ, [], ◌∷◌, ◌++◌, Some, Ok, true, false, IfOk, IsOk, is_err, length, map, min};
+ghost use Rattle.std.specs.Prelude.{◌≡◌, ◌<◌, ◌≤◌, ℕ, [], ◌∷◌, ◌++◌, Some, Ok, true, false, IfOk, IsOk, is_err, length};
+ghost use Rattle.std.specs.Prelude.{map, min};
 ghost use Rattle.roam_edge.specs.Fault.{HasCause, next_count};
 ghost use Rattle.roam_edge.specs.Shelf.{Opens, Reads, Ends, bytes_of};
 ghost use Rattle.roam_edge.specs.CalmShelf.{calm_file};

@@ -100,7 +100,8 @@ impl<'r, R: Files> MeshSink for FileMeshes<'r, R> {
     }
 }
 
-/// Creates the file of this name, once, in the place of one that was there; an error counts as a fault, and is not tried again.
+/// Creates the file of this name, once, in the place of one that was there; an error counts as a fault, and is not
+/// tried again.
 pub(crate) fn create_once<R: Files>(rt: &R, name: &str, faults: &mut u64) -> Result<R::File, Failed>
     ensures faults { HasCause faults.old faults.new result }
 {

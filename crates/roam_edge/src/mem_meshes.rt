@@ -1,10 +1,12 @@
 //! A sink of meshes in memory.
 
-ghost use Rattle.std.specs.Prelude.{◌≡◌, ◌^◌, ◌<◌, ◌≤◌, ℕ, [], Some, None, true, false, IfOk, is_ok, is_err, is_some, length, option_map, slice_get};
+ghost use Rattle.std.specs.Prelude.{◌≡◌, ◌^◌, ◌<◌, ◌≤◌, ℕ, [], Some, None, true, false, IfOk, is_ok, is_err, is_some};
+ghost use Rattle.std.specs.Prelude.{length, option_map, slice_get};
 ghost use Rattle.roam_edge.specs.Fault.{HasCause, late_after};
 ghost use Rattle.roam_edge.specs.MeshSink.{BeginsMesh, Writes, Finishes};
 ghost use Rattle.roam_edge.specs.declared.mesh_sink.TheConstants.{LONGEST_PREFIX, GREATEST_NUMBER};
-ghost use Rattle.roam_edge.specs.MemMeshes.{all_meshes, begin_fails, after_begin, write_fails, after_write, finish_fails, after_finish};
+ghost use Rattle.roam_edge.specs.MemMeshes.{all_meshes, begin_fails, after_begin, write_fails, after_write};
+ghost use Rattle.roam_edge.specs.MemMeshes.{finish_fails, after_finish};
 
 use crate::mesh_call::is_named;
 use crate::mesh_room::{Heading, Placed};
@@ -33,7 +35,8 @@ pub struct MemMeshes {
 }
 
 impl Model for MemMeshes {
-    ghost use Rattle.std.specs.Prelude.{◌≡◌, ◌+◌, ◌^◌, ◌<◌, ◌≤◌, length, map, option_map, option_to_list, vec_len, vec_capacity};
+    ghost use Rattle.std.specs.Prelude.{◌≡◌, ◌+◌, ◌^◌, ◌<◌, ◌≤◌, length, map, option_map, option_to_list, vec_len};
+    ghost use Rattle.std.specs.Prelude.{vec_capacity};
     ghost use Rattle.roam_edge.specs.MemMeshes.{KeptMeshes};
     ghost use Rattle.roam_edge.specs.MeshRoom.{mesh_from, mesh_at, LieWithin, StartsWithin};
 

@@ -15,10 +15,13 @@ use frame_loop::{Camera, Engine, Grid, NoMemory};
 use roam_certify::certify_mesh;
 use std::alloc::Global;
 
-/// Writes the certificate of the best mesh from a place, without planes and of the budget in force, and how many bytes it has.
+/// Writes the certificate of the best mesh from a place, without planes and of the budget in force, and how many
+/// bytes it has.
 ///
-/// It is the text of `roam certify make` for the same grid, camera, budget and spacing; whoever has the grid can check it.
-/// Cost (not proved): that of an engine of these heights and this budget, and of its first frame; takes as much memory, and gives it back.
+/// It is the text of `roam certify make` for the same grid, camera, budget and spacing; whoever has the grid can
+/// check it.
+/// Cost (not proved): that of an engine of these heights and this budget, and of its first frame; takes as much
+/// memory, and gives it back.
 pub fn tell_certificate(
     alloc: Global,
     engine: &Engine,

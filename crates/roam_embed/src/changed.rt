@@ -6,8 +6,8 @@ use crate::answer::Answer;
 use frame_loop::Engine;
 use mesh_arrays::{Changes, write_addresses};
 
-/// Writes the addresses of the triangles that the last frame took out of the mesh and of those that it put in, each depth first, and
-/// how many they are: none before the first frame.
+/// Writes the addresses of the triangles that the last frame took out of the mesh and of those that it put in, each
+/// depth first, and how many they are: none before the first frame.
 ///
 /// Cost (not proved): a step for each of them.
 pub fn tell_changes(

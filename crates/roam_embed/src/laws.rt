@@ -5,8 +5,8 @@ ghost use Rattle.std.specs.List.{flat_map};
 ghost use Rattle.obj_write.specs.Arrays.{positions_of, places_of};
 ghost use Rattle.roam_embed.specs.Drawn.{drawn, corner_positions};
 
-/// Places point back at corners: whoever reads the positions of a mesh at the places of its triangles, three numbers at each, gets
-/// x, y and z of the corners of each triangle in turn.
+/// Places point back at corners: whoever reads the positions of a mesh at the places of its triangles, three numbers
+/// at each, gets x, y and z of the corners of each triangle in turn.
 pub fn compact_laws()
     ensures { (n : ℕ) (heights : List ℕ) (spacing : ℕ) (triangles : List ℕ) →
         drawn (positions_of n heights spacing triangles) (places_of n triangles)

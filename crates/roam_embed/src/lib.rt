@@ -1,8 +1,8 @@
 //! The engine for callers whom nobody checks: each call tests its arguments, and answers what is wrong with them.
 //!
-//! For programs in other languages, which see it through `roam_c`. No function has a `requires`. What an `Engine` requires of its
-//! caller is tested here; an `Answer` other than `Done` leaves the engine and the caller's arrays as they were. Where several
-//! causes hold, the answer is the one with the least number; out of memory comes last.
+//! For programs in other languages, which see it through `roam_c`. No function has a `requires`. What an `Engine`
+//! requires of its caller is tested here; an `Answer` other than `Done` leaves the engine and the caller's arrays as
+//! they were. Where several causes hold, the answer is the one with the least number; out of memory comes last.
 
 #![tactic(auto)]
 

@@ -8,7 +8,8 @@ use mesh_arrays::{write_addresses, write_indices};
 
 /// Writes three indices of heights for each triangle (apex, v0, v1), depth first, and how many triangles there are.
 ///
-/// An index is the place of a point in the heights that the engine was made of, so that one array of all points serves each frame.
+/// An index is the place of a point in the heights that the engine was made of, so that one array of all points
+/// serves each frame.
 pub fn tell_indices(engine: &Engine, out: &mut [u32], triangles: &mut usize) -> Answer
     ensures { AreIndicesTold engine.now out.old out.new triangles.old triangles.new result }
 {

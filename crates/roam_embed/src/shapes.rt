@@ -14,9 +14,11 @@ use obj_write::{write_places, write_positions};
 use std::alloc::Global;
 use strip_order::strip;
 
-/// Writes x, y and z of each vertex of the mesh, and how many vertices there are: x and y in world units, z in units of height.
+/// Writes x, y and z of each vertex of the mesh, and how many vertices there are: x and y in world units, z in units
+/// of height.
 ///
-/// They stand in the order of the `v` lines of the mesh's text: from the near row to the far one, each from left to right.
+/// They stand in the order of the `v` lines of the mesh's text: from the near row to the far one, each from left to
+/// right.
 /// Cost (not proved): a look at each grid point. Takes no memory.
 pub fn tell_positions(engine: &Engine, out: &mut [u32], vertices: &mut usize) -> Answer
     ensures { ArePositionsTold engine.now out.old out.new vertices.old vertices.new result }
@@ -50,7 +52,8 @@ pub fn tell_compact(engine: &Engine, out: &mut [u32], triangles: &mut usize) -> 
 /// Writes three indices of heights for each triangle in the order of one strip, and how many triangles there are.
 ///
 /// Each two neighbours share a whole edge, and so do the last and the first.
-/// Cost (not proved): a move of each triangle for each level above it. Takes four bytes for each triangle, and gives them back.
+/// Cost (not proved): a move of each triangle for each level above it. Takes four bytes for each triangle, and gives
+/// them back.
 pub fn tell_strip(alloc: Global, engine: &Engine, out: &mut [u32], triangles: &mut usize) -> Answer
     ensures { IsStripTold engine.now out.old out.new triangles.old triangles.new result }
 {

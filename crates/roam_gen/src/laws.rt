@@ -1,6 +1,7 @@
 //! What holds of generated grids and scripts, in the words of the crates that read them.
 
-ghost use Rattle.roam_gen.specs.Laws.{MadeGridsAreGrids, WrittenGridsAreTexts, WrittenGridsAreReadBack, MadeLinesLieInRange};
+ghost use Rattle.roam_gen.specs.Laws.{MadeGridsAreGrids, WrittenGridsAreTexts, WrittenGridsAreReadBack};
+ghost use Rattle.roam_gen.specs.Laws.{MadeLinesLieInRange};
 
 use pgm_grid::grids_and_texts;
 use pgm_header::header_laws;

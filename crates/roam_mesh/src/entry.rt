@@ -80,7 +80,8 @@ impl Entry {
 
     /// Whether the two are equal, or the priority was told.
     pub fn is_sure(&self) -> bool
-        ensures { result ≡ self.now.known || nat_eq (cond self.now.stamped self.now.upper 0) (cond self.now.stamped self.now.lower 0) }
+        ensures { result ≡ self.now.known || nat_eq (cond self.now.stamped self.now.upper 0)
+            (cond self.now.stamped self.now.lower 0) }
     {
         self.known || !self.stamped || self.upper == self.lower
     }

@@ -1,8 +1,8 @@
 //! A mesh that goes from frame to frame by the two queues of ROAM: a pool of triangles, a split queue, a merge queue,
 //! deadlines, and a stamp for each entry.
 //!
-//! `deferred_loop` has the loop of a frame; here stands what it sees of a mesh, kept by slots of the pool. A mesh sees no
-//! heights and no camera: it learns a priority only from a gauge. No call but `make` takes memory.
+//! `deferred_loop` has the loop of a frame; here stands what it sees of a mesh, kept by slots of the pool. A mesh
+//! sees no heights and no camera: it learns a priority only from a gauge. No call but `make` takes memory.
 
 #![tactic(auto)]
 

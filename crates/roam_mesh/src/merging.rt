@@ -24,7 +24,8 @@ impl Parts {
         ensures parts { IsParts self.new }
         ensures merge { IsMergeOf (seen_parts self.old) (seen_parts self.new) (address_at self.old.pool.pairs s.0) }
         ensures pool { IsMerge self.old.pool.pairs self.new.pool.pairs (address_at self.old.pool.pairs s.0) }
-        ensures merges { self.new.pool.merges ≡ self.old.pool.merges + diamond_size (address_at self.old.pool.pairs s.0) }
+        ensures merges { self.new.pool.merges
+            ≡ self.old.pool.merges + diamond_size (address_at self.old.pool.pairs s.0) }
     {
         let own = self.entries[s.0 as usize];
         let other = self.kept_partner(s);
@@ -41,7 +42,8 @@ impl Parts {
         requires ready { is_ready_at self.now.pool.pairs s.0 ≡ true }
         ensures none { IsNone result → mate_of (address_at self.now.pool.pairs s.0) ≡ 0 }
         ensures some { IfSome result (λ e. 1 ≤ mate_of (address_at self.now.pool.pairs s.0)) }
-        ensures own { IfSome result (λ e. e ≡ entry_at self.now (slot_of self.now.pool.pairs (mate_of (address_at self.now.pool.pairs s.0)))) }
+        ensures own { IfSome result (λ e. e
+            ≡ entry_at self.now (slot_of self.now.pool.pairs (mate_of (address_at self.now.pool.pairs s.0)))) }
     {
         match self.mate(s) {
             Some(t) => Some(self.entries[t.0 as usize]),
@@ -51,8 +53,8 @@ impl Parts {
 
     /// Merges a diamond, as if all that is new in its role were fresh.
     ///
-    /// Its children leave their places, and then it does. The diamonds above it are fresh where they can be merged now, and so
-    /// are its triangles, leaves now, this one last.
+    /// Its children leave their places, and then it does. The diamonds above it are fresh where they can be merged
+    /// now, and so are its triangles, leaves now, this one last.
     fn merge_at(&mut self, s: Slot)
         requires ready { is_ready_at self.old.pool.pairs s.0 ≡ true }
         requires count { self.old.pool.merges < MOST_CHANGES }
@@ -75,7 +77,8 @@ impl Parts {
         requires ready { is_ready_at self.old.pool.pairs s.0 ≡ true }
         ensures { self.new ≡ left_all self.old (child_slots self.old.pool.pairs s.0
             ++ cond (nat_lt 0 (mate_of (address_at self.old.pool.pairs s.0)))
-            (child_slots self.old.pool.pairs (slot_of self.old.pool.pairs (mate_of (address_at self.old.pool.pairs s.0)))) []) }
+            (child_slots self.old.pool.pairs
+            (slot_of self.old.pool.pairs (mate_of (address_at self.old.pool.pairs s.0)))) []) }
     {
         let mate = self.mate(s);
         self.leave_children(s);

@@ -1,6 +1,7 @@
 //! The mesh.
 
-ghost use Rattle.std.specs.Prelude.{◌≡◌, ℕ, ◌+◌, ◌-◌, ◌*◌, ◌^◌, ◌<◌, ◌≤◌, false, None, Some, [], MatchOption, cond, nat_eq, option_map, slice_index, ◌↔◌, All, IsNone, IfOk};
+ghost use Rattle.std.specs.Prelude.{◌≡◌, ℕ, ◌+◌, ◌-◌, ◌*◌, ◌^◌, ◌<◌, ◌≤◌, false, None, Some, [], MatchOption, cond};
+ghost use Rattle.std.specs.Prelude.{nat_eq, option_map, slice_index, ◌↔◌, All, IsNone, IfOk};
 ghost use Rattle.mesh_defs.specs.declared.counters.TheConstants.{LONGEST_WAY, CHANGES_AT_FRAME};
 ghost use Rattle.mesh_defs.specs.ClosedSet.{leaves_of, among};
 ghost use Rattle.mesh_defs.specs.Falling.{IsFalling};
@@ -14,7 +15,8 @@ ghost use Rattle.deferred_loop.specs.Seen.{HasRoom, IsCountedBy};
 ghost use Rattle.deferred_loop.specs.Log.{IsFrameLog};
 ghost use Rattle.deferred_loop.specs.Choice.{IsSparing};
 ghost use Rattle.deferred_loop.specs.Promise.{IsAtMost, IsAtLeast, AreStampsGood};
-ghost use Rattle.roam_mesh.specs.Mesh.{stamp_of, pool_members, pool_set, seen_of, with_expired, uncounted, OnlyEntriesStamped};
+ghost use Rattle.roam_mesh.specs.Mesh.{stamp_of, pool_members, pool_set, seen_of, with_expired, uncounted};
+ghost use Rattle.roam_mesh.specs.Mesh.{OnlyEntriesStamped};
 ghost use Rattle.roam_mesh.specs.Chosen.{SparesChosen};
 
 use crate::find::find;
@@ -112,12 +114,12 @@ impl Mesh {
         self.queued.parts.pool.restart_counts();
     }
 
-    /// The triangles that the last frame split or merged, in the order of its steps. Each that is split now and was not before it is
-    /// among them, and each that was and is not; one that was split and merged again is listed twice. None where the frame split
-    /// and merged more triangles than `make` took room for leaves.
+    /// The triangles that the last frame split or merged, in the order of its steps. Each that is split now and was
+    /// not before it is among them, and each that was and is not; one that was split and merged again is listed
+    /// twice. None where the frame split and merged more triangles than `make` took room for leaves.
     ///
-    /// Nothing is listed before the first frame, and no other call changes the list. Cost (not proved): nothing; `advance` pays for
-    /// the list, a place for each triangle that it splits or merges.
+    /// Nothing is listed before the first frame, and no other call changes the list. Cost (not proved): nothing;
+    /// `advance` pays for the list, a place for each triangle that it splits or merges.
     pub fn changed(&self) -> Option<&[Tri]>
         ensures { MatchOption result
             (self.now.log.changed ≡ None)
@@ -129,10 +131,11 @@ impl Mesh {
 
     /// Makes the mesh of one frame from that of the frame before.
     ///
-    /// `run` and `frame`: the set is the rank closure of the budget, reached by the steps of the frame. `sparing` and `spares`: it
-    /// changes no more than it must, and merges no diamond that holds a triangle which greedy splitting picks. `unblocked`: nothing
-    /// blocks exactly where no leaf is worth a split. `most` and `least`: how often the gauge was asked. `stamps`: each entry has a
-    /// stamp that is not due; `only`: nothing else has one. `changed`: what `Mesh::changed` lists from then on.
+    /// `run` and `frame`: the set is the rank closure of the budget, reached by the steps of the frame. `sparing` and
+    /// `spares`: it changes no more than it must, and merges no diamond that holds a triangle which greedy splitting
+    /// picks. `unblocked`: nothing blocks exactly where no leaf is worth a split. `most` and `least`: how often the
+    /// gauge was asked. `stamps`: each entry has a stamp that is not due; `only`: nothing else has one. `changed`:
+    /// what `Mesh::changed` lists from then on.
     pub fn advance<G: Gauge>(&mut self, gauge: &mut G, budget: u32, odometer: u64) -> Steps
         requires grid { (G.told gauge.old).n ≡ self.old.pool.n }
         requires budget { 2 ≤ budget }

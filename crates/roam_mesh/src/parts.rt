@@ -1,6 +1,7 @@
 //! A mesh half way through a frame, by the slots of its pool.
 
-ghost use Rattle.std.specs.Prelude.{◌≡◌, ℕ, ◌+◌, ◌*◌, ◌<◌, ◌≤◌, ◌^◌, IfOk, [], None, Some, cond, nat_lt, false, length, replicate, slice_index, slice_index_or, slice_set};
+ghost use Rattle.std.specs.Prelude.{◌≡◌, ℕ, ◌+◌, ◌*◌, ◌<◌, ◌≤◌, ◌^◌, IfOk, [], None, Some, cond, nat_lt, false, length};
+ghost use Rattle.std.specs.Prelude.{replicate, slice_index, slice_index_or, slice_set};
 ghost use Rattle.mesh_defs.specs.declared.level.TheConstants.{GREATEST_LEVEL};
 ghost use Rattle.edge_laws.specs.Slots.{IsLive, IsPool};
 ghost use Rattle.triangle_pool.specs.declared.pool.TheConstants.{MOST_LEAVES};
@@ -19,9 +20,9 @@ use triangle_pool::Pool;
 
 /// A pool, three heaps over its slots, and what is kept of each slot.
 ///
-/// A slot that is out of its place stands in no heap: that of a fresh entry, and within a step that of an entry that changes
-/// its role. `IsPlaced` says of all others where they stand; it is no invariant of this type, since it does not hold half way
-/// through a step, but of `QueuedParts`.
+/// A slot that is out of its place stands in no heap: that of a fresh entry, and within a step that of an entry that
+/// changes its role. `IsPlaced` says of all others where they stand; it is no invariant of this type, since it does
+/// not hold half way through a step, but of `QueuedParts`.
 #[derive(Drop)]
 pub struct Parts {
     pub pool: Pool,
@@ -46,9 +47,12 @@ impl Model for Parts {
 
     ghost Value = { PartsState };
 
-    ghost view = { λ m. parts_of m.pool m.entries.items m.split_queue m.merge_queue m.deadlines m.asked.items m.asked_count m.fresh.items m.fresh_count };
+    ghost view = { λ m. parts_of m.pool m.entries.items m.split_queue m.merge_queue m.deadlines m.asked.items
+        m.asked_count m.fresh.items m.fresh_count };
 
-    ghost invariant = { λ m. IsWhole (parts_of m.pool m.entries.items m.split_queue m.merge_queue m.deadlines m.asked.items m.asked_count m.fresh.items m.fresh_count)
+    ghost invariant = { λ m. IsWhole
+        (parts_of m.pool m.entries.items m.split_queue m.merge_queue m.deadlines m.asked.items
+        m.asked_count m.fresh.items m.fresh_count)
         × ((length m.asked.items ≡ 2 * length m.pool.pairs) × (m.asked_count ≤ length m.asked.items))
         × ((length m.fresh.items ≡ 2 * length m.pool.pairs) × (m.fresh_count ≤ length m.fresh.items)) };
 }
@@ -109,7 +113,11 @@ impl Parts {
     fn begin_leaf(&mut self, s: Slot)
         requires live { IsLive self.old.pool.pairs s.0 }
         requires vacant { slice_index_or self.old.split s.0 None ≡ None }
-        ensures { self.new ≡ record self.old { split = slice_set self.old.split s.0 (Some (leaf_rank self.old s.0)); due = slice_set self.old.due s.0 (Some 0) } }
+        ensures { self.new ≡ record self.old {
+          split = slice_set self.old.split s.0
+              (Some (leaf_rank self.old s.0));
+          due = slice_set self.old.due s.0 (Some 0);
+        } }
     {
         let rank = self.leaf_rank(s);
         self.split_queue.put(s, rank);
@@ -118,8 +126,8 @@ impl Parts {
     }
 }
 
-/// The heaps of new parts. They are made apart from the tables, since each value that a function owns at a `?` is dropped
-/// there, on one more way that its proof has to go.
+/// The heaps of new parts. They are made apart from the tables, since each value that a function owns at a `?` is
+/// dropped there, on one more way that its proof has to go.
 #[derive(Drop)]
 struct Queues {
     split: SplitQueue,

@@ -1,12 +1,14 @@
 //! Where the entries stand: putting them in their places, and taking them out.
 
-ghost use Rattle.std.specs.Prelude.{◌≡◌, ◌*◌, ◌/◌, ◌<◌, ◌≤◌, length, true, false, None, IsNone, IsSome, IfSome, slice_index_or};
+ghost use Rattle.std.specs.Prelude.{◌≡◌, ◌*◌, ◌/◌, ◌<◌, ◌≤◌, length, true, false, None, IsNone, IsSome, IfSome};
+ghost use Rattle.std.specs.Prelude.{slice_index_or};
 ghost use Rattle.edge_laws.specs.Edge.{mate_of};
 ghost use Rattle.edge_laws.specs.Slots.{address_at, IsLive};
 ghost use Rattle.roam_mesh.specs.Mesh.{slot_of};
 ghost use Rattle.roam_mesh.specs.Places.{is_ready_above};
 ghost use Rattle.roam_mesh.specs.Parts.{is_leaf_at, is_ready_at, is_entry_at, IsWhole};
-ghost use Rattle.roam_mesh.specs.Change.{chief_slot, diamond_slots, with_above, taken_out, left, left_all, rekeyed, put_in, is_mate_fresh, expired_at};
+ghost use Rattle.roam_mesh.specs.Change.{chief_slot, diamond_slots, with_above, taken_out, left, left_all, rekeyed};
+ghost use Rattle.roam_mesh.specs.Change.{put_in, is_mate_fresh, expired_at};
 
 use crate::parts::Parts;
 use bintree_addr::Slot;
@@ -28,8 +30,10 @@ impl Parts {
         requires ready { is_ready_at self.now.pool.pairs s.0 ≡ true }
         ensures none { IsNone result → mate_of (address_at self.now.pool.pairs s.0) ≡ 0 }
         ensures some { IfSome result (λ t. 1 ≤ mate_of (address_at self.now.pool.pairs s.0)) }
-        ensures slot { IfSome result (λ t. t.0 ≡ slot_of self.now.pool.pairs (mate_of (address_at self.now.pool.pairs s.0))) }
-        ensures address { IfSome result (λ t. address_at self.now.pool.pairs t.0 ≡ mate_of (address_at self.now.pool.pairs s.0)) }
+        ensures slot { IfSome result (λ t. t.0
+            ≡ slot_of self.now.pool.pairs (mate_of (address_at self.now.pool.pairs s.0))) }
+        ensures address { IfSome result (λ t. address_at self.now.pool.pairs t.0
+            ≡ mate_of (address_at self.now.pool.pairs s.0)) }
         ensures ready { IfSome result (λ t. is_ready_at self.now.pool.pairs t.0 ≡ true) }
     {
         let _n = self.pool.n();
@@ -57,7 +61,8 @@ impl Parts {
     pub fn rekey(&mut self, s: Slot)
         requires entry { is_entry_at self.old.pool.pairs s.0 ≡ true }
         requires leaf { is_leaf_at self.old.pool.pairs s.0 ≡ true → IsSome (slice_index_or self.old.split s.0 None) }
-        requires diamond { is_leaf_at self.old.pool.pairs s.0 ≡ false → IsSome (slice_index_or self.old.merge (chief_slot self.old.pool.pairs s.0) None) }
+        requires diamond { is_leaf_at self.old.pool.pairs s.0 ≡ false →
+            IsSome (slice_index_or self.old.merge (chief_slot self.old.pool.pairs s.0) None) }
         ensures { self.new ≡ rekeyed self.old s.0 }
     {
         if self.pool.is_leaf(s) {
@@ -74,7 +79,8 @@ impl Parts {
     pub fn put_in(&mut self, s: Slot)
         requires entry { is_entry_at self.old.pool.pairs s.0 ≡ true }
         requires leaf { is_leaf_at self.old.pool.pairs s.0 ≡ true → slice_index_or self.old.split s.0 None ≡ None }
-        requires diamond { is_leaf_at self.old.pool.pairs s.0 ≡ false → slice_index_or self.old.merge (chief_slot self.old.pool.pairs s.0) None ≡ None }
+        requires diamond { is_leaf_at self.old.pool.pairs s.0 ≡ false →
+            slice_index_or self.old.merge (chief_slot self.old.pool.pairs s.0) None ≡ None }
         ensures { self.new ≡ put_in self.old s.0 }
     {
         if self.pool.is_leaf(s) {
@@ -147,7 +153,8 @@ impl Parts {
         }
     }
 
-    /// Marks what is kept of a slot as expired, and makes its deadline, where it has one, 0: it is due at every odometer.
+    /// Marks what is kept of a slot as expired, and makes its deadline, where it has one, 0: it is due at every
+    /// odometer.
     pub fn expire(&mut self, s: Slot)
         requires live { IsLive self.old.pool.pairs s.0 }
         ensures whole { IsWhole self.old }

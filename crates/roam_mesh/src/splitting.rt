@@ -1,6 +1,7 @@
 //! What a split does to the places of the entries.
 
-ghost use Rattle.std.specs.Prelude.{◌≡◌, ℕ, ◌+◌, ◌*◌, ◌<◌, ◌≤◌, ◌/◌, ◌∷◌, [], true, false, IsNone, IfSome, length, slice_index};
+ghost use Rattle.std.specs.Prelude.{◌≡◌, ℕ, ◌+◌, ◌*◌, ◌<◌, ◌≤◌, ◌/◌, ◌∷◌, [], true, false, IsNone, IfSome, length};
+ghost use Rattle.std.specs.Prelude.{slice_index};
 ghost use Rattle.mesh_defs.specs.declared.counters.TheConstants.{MOST_CHANGES};
 ghost use Rattle.std.specs.List.{AllByRecursion, filter};
 ghost use Rattle.mesh_defs.specs.Triangle.{level_of};
@@ -13,7 +14,8 @@ ghost use Rattle.roam_mesh.specs.Parts.{is_leaf_at, seen_parts, IsParts};
 ghost use Rattle.roam_mesh.specs.Keeping.{IsKeptMate};
 ghost use Rattle.roam_mesh.specs.Change.{with_mate, with_chain, left_all, pushed_all};
 ghost use Rattle.roam_mesh.specs.Log.{IsBornOfSplit};
-ghost use Rattle.roam_mesh.specs.Splitting.{IsLeafMate, IsChainSplit, IsSplitAt, pair_slots, second_slots, born_slots, born_leaves};
+ghost use Rattle.roam_mesh.specs.Splitting.{IsLeafMate, IsChainSplit, IsSplitAt, pair_slots, second_slots, born_slots};
+ghost use Rattle.roam_mesh.specs.Splitting.{born_leaves};
 
 use crate::entry::Entry;
 use crate::parts::Parts;
@@ -23,14 +25,16 @@ use force_split::{Chain, carry_out, plan};
 use triangle_pool::Born;
 
 impl Parts {
-    /// Splits a leaf with what it forces, and answers the slots of the children. The leaf keeps what it has, and so does its mate where
-    /// that is a leaf.
+    /// Splits a leaf with what it forces, and answers the slots of the children. The leaf keeps what it has, and so
+    /// does its mate where that is a leaf.
     pub fn split(&mut self, s: Slot) -> ArrayVec<Born, 24>
         requires parts { IsParts self.old }
         requires settled { self.old.fresh ≡ [] }
         requires leaf { is_leaf_at self.old.pool.pairs s.0 ≡ true }
         requires coarse { level_of (address_at self.old.pool.pairs s.0) < 2 * self.old.pool.n }
-        requires room { (gain : ℕ) → IsGainOf self.old.pool.n self.old.pool.pairs (address_at self.old.pool.pairs s.0) gain → gain ≤ room_of self.old.pool.pairs }
+        requires room { (gain : ℕ) →
+            IsGainOf self.old.pool.n self.old.pool.pairs (address_at self.old.pool.pairs s.0) gain →
+            gain ≤ room_of self.old.pool.pairs }
         requires count { self.old.pool.splits + 48 < MOST_CHANGES }
         ensures parts { IsParts self.new }
         ensures split { IsSplitOf (seen_parts self.old) (seen_parts self.new) (address_at self.old.pool.pairs s.0) }
@@ -50,7 +54,8 @@ impl Parts {
     /// What is kept of the mate of a leaf, where it is a leaf.
     fn kept_mate(&self, s: Slot) -> Option<Entry>
         requires leaf { is_leaf_at self.now.pool.pairs s.0 ≡ true }
-        ensures none { IsNone result → 1 ≤ mate_of (address_at self.now.pool.pairs s.0) → has_children self.now.pool.pairs (mate_of (address_at self.now.pool.pairs s.0) / 2) ≡ false }
+        ensures none { IsNone result → 1 ≤ mate_of (address_at self.now.pool.pairs s.0) →
+            has_children self.now.pool.pairs (mate_of (address_at self.now.pool.pairs s.0) / 2) ≡ false }
         ensures some { IfSome result (IsKeptMate self.now s.0) }
     {
         match self.leaf_mate(s) {
@@ -61,13 +66,15 @@ impl Parts {
 
     /// Splits a leaf with what it forces, as if all that is new in its role were fresh.
     ///
-    /// First all leaves that will be split leave their places, and the diamonds above them, which can be merged no longer.
-    /// Then the pool splits the chain. Last the new leaves are fresh, and the diamond of the leaf itself, the one of the
-    /// chain that can be merged, the leaf last.
+    /// First all leaves that will be split leave their places, and the diamonds above them, which can be merged no
+    /// longer. Then the pool splits the chain. Last the new leaves are fresh, and the diamond of the leaf itself, the
+    /// one of the chain that can be merged, the leaf last.
     fn split_at(&mut self, s: Slot) -> ArrayVec<Born, 24>
         requires leaf { is_leaf_at self.old.pool.pairs s.0 ≡ true }
         requires coarse { level_of (address_at self.old.pool.pairs s.0) < 2 * self.old.pool.n }
-        requires room { (gain : ℕ) → IsGainOf self.old.pool.n self.old.pool.pairs (address_at self.old.pool.pairs s.0) gain → gain ≤ room_of self.old.pool.pairs }
+        requires room { (gain : ℕ) →
+            IsGainOf self.old.pool.n self.old.pool.pairs (address_at self.old.pool.pairs s.0) gain →
+            gain ≤ room_of self.old.pool.pairs }
         requires count { self.old.pool.splits + 48 < MOST_CHANGES }
         ensures split { IsSplitAt self.old self.new s.0 }
         ensures born { IsBornOfSplit self.old.pool self.new.pool result.items }
@@ -85,7 +92,8 @@ impl Parts {
         requires some { 1 ≤ length chain.now.slots.items }
         requires chain { IsChain self.old.pool.pairs (numbers chain.now.slots.items) }
         requires size { chain.now.gain ≡ chain_size self.old.pool.pairs (numbers chain.now.slots.items) }
-        requires coarse { level_of (address_at self.old.pool.pairs (slice_index (numbers chain.now.slots.items) 0)) < 2 * self.old.pool.n }
+        requires coarse { level_of
+            (address_at self.old.pool.pairs (slice_index (numbers chain.now.slots.items) 0)) < 2 * self.old.pool.n }
         requires room { chain.now.gain ≤ room_of self.old.pool.pairs }
         requires count { self.old.pool.splits + 48 < MOST_CHANGES }
         ensures pool { IsChainSplit self.old.pool self.new.pool (numbers chain.now.slots.items) result.items }
@@ -124,7 +132,8 @@ impl Parts {
     /// The mate of a leaf, where it is a leaf.
     fn leaf_mate(&self, s: Slot) -> Option<Slot>
         requires leaf { is_leaf_at self.now.pool.pairs s.0 ≡ true }
-        ensures none { IsNone result → 1 ≤ mate_of (address_at self.now.pool.pairs s.0) → has_children self.now.pool.pairs (mate_of (address_at self.now.pool.pairs s.0) / 2) ≡ false }
+        ensures none { IsNone result → 1 ≤ mate_of (address_at self.now.pool.pairs s.0) →
+            has_children self.now.pool.pairs (mate_of (address_at self.now.pool.pairs s.0) / 2) ≡ false }
         ensures some { IfSome result (λ t. IsLeafMate self.now s.0 t.0) }
     {
         if self.pool.may_split(s) {

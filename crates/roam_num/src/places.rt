@@ -4,14 +4,16 @@ ghost use Rattle.std.specs.Prelude.{◌≡◌, ℕ, ◌+◌, ◌-◌, ◌*◌, �
 ghost use Rattle.std.specs.Option.{option_map};
 ghost use Rattle.arrayvec.specs.ArrayVec.{array_vec_len};
 ghost use Rattle.text_laws.specs.Numbers.{number_in};
-ghost use Rattle.roam_num.specs.Places.{until_point, thousandths_in, IsThousandthsOf, fraction_digits, behind_point, exact_decimal};
+ghost use Rattle.roam_num.specs.Places.{until_point, thousandths_in, IsThousandthsOf, fraction_digits, behind_point};
+ghost use Rattle.roam_num.specs.Places.{exact_decimal};
 ghost use Rattle.roam_num.specs.declared.places.TheConstants.{LONGEST_DECIMAL, MOST_PLACES};
 
 use crate::reading::number_of_digits;
 use crate::writing::{push_bytes, push_number};
 use arrayvec::ArrayVec;
 
-/// The most digits before the point of a number that is read in thousandths: so many thousandths are a number of 64 bits.
+/// The most digits before the point of a number that is read in thousandths: so many thousandths are a number of 64
+/// bits.
 const WHOLE_DIGITS: usize = 16;
 
 /// The most digits behind it.
@@ -67,7 +69,8 @@ fn thousandths_behind(digits: &[u8]) -> Option<u64>
     }
 }
 
-/// Appends the decimal text of `count` / 2^n, exact, without a zero at its end, and without a point where none is needed.
+/// Appends the decimal text of `count` / 2^n, exact, without a zero at its end, and without a point where none is
+/// needed.
 ///
 /// Cost (not proved): one step a digit. Takes no memory.
 pub fn push_decimal<const ROOM: usize>(text: &mut ArrayVec<u8, ROOM>, count: u32, n: u32)

@@ -1,13 +1,15 @@
 //! The top call: a run from words to meshes and a report.
 
-ghost use Rattle.std.specs.Prelude.{◌≡◌, ◌≢◌, ◌-◌, ◌^◌, ◌<◌, ◌≤◌, ◌⊎◌, ◌↔◌, List, Option, map, option_map, Some, None, IsTrue, IsSome, false, if◌then◌else◌, string_bytes};
+ghost use Rattle.std.specs.Prelude.{◌≡◌, ◌≢◌, ◌-◌, ◌^◌, ◌<◌, ◌≤◌, ◌⊎◌, ◌↔◌, List, Option, map, option_map, Some, None};
+ghost use Rattle.std.specs.Prelude.{IsTrue, IsSome, false, if◌then◌else◌, string_bytes};
 ghost use Rattle.mesh_defs.specs.declared.level.TheConstants.{GREATEST_LEVEL};
 ghost use Rattle.roam_edge.specs.Shelf.{NamedFile};
 ghost use Rattle.word_laws.specs.Words.{OnGrid, Generated, Frames, command_of};
 ghost use Rattle.run_laws.specs.Outcome.{Outcome, EngineEnd, IsOutcome, MakesNoCertificate};
 ghost use Rattle.run_laws.specs.Promise.{IsAccepted, ends_script};
 ghost use Rattle.run_laws.specs.Moment.{moment};
-ghost use Rattle.run_laws.specs.Statement.{KeepsBestMeshes, CertifiesMesh, TellsCertificates, EndsByStatus, LeavesOutside, IsCaused};
+ghost use Rattle.run_laws.specs.Statement.{KeepsBestMeshes, CertifiesMesh, TellsCertificates, EndsByStatus};
+ghost use Rattle.run_laws.specs.Statement.{LeavesOutside, IsCaused};
 ghost use Rattle.run_laws.specs.Leaving.{Runs};
 ghost use Rattle.run_engine.specs.EngineSeen.{engine_seen};
 ghost use Rattle.run_words.specs.WordView.{show_for, scripted_seen, command_seen, IsFrameCommand};
@@ -31,7 +33,8 @@ use std::alloc::Global;
 pub struct Run {
     /// How the run ended.
     pub status: Status,
-    /// The engine of `mesh`, `strip`, `measure` and `try`, as the last line left it: there exactly with `Done` and `ScriptRefused`.
+    /// The engine of `mesh`, `strip`, `measure` and `try`, as the last line left it: there exactly with `Done` and
+    /// `ScriptRefused`.
     pub engine: Option<Engine>,
 }
 
@@ -72,24 +75,25 @@ impl Run {
 
 /// Carries out the words of a command line, those after the program's name.
 ///
-/// - `mesh` reads a grid and a script from the shelf, and writes a mesh for each frame line, and then a line of the report; `strip`
-///   does so with the triangles in the order of their strip; `least` with the least mesh of a tolerance; `measure` writes a line alone,
-///   on how far the mesh is from the surface.
+/// - `mesh` reads a grid and a script from the shelf, and writes a mesh for each frame line, and then a line of the
+///   report; `strip` does so with the triangles in the order of their strip; `least` with the least mesh of a
+///   tolerance; `measure` writes a line alone, on how far the mesh is from the surface.
 /// - `fit` reads a grid, and writes the best mesh of it for an error or a budget, and a line.
 /// - `certify make` and `certify make-fit` read a grid, and write a certificate of its best mesh, or of its fitted one;
 ///   `certify check` and `certify check-fit` read one beside a mesh, and write whether the mesh is certified by it.
-/// - `info` reads a grid, and writes a line on it. `try` reads nothing: it makes a grid and a script from a level and a seed, and writes
-///   a line with the sums of their frames.
+/// - `info` reads a grid, and writes a line on it. `try` reads nothing: it makes a grid and a script from a level and
+///   a seed, and writes a line with the sums of their frames.
 ///
-/// Files are read and meshes written in pieces. A mesh is finished before its line is written, which is proved where the write of
-/// either fails (`ends`). The first call that fails ends the run: proved is that an object that had not failed before the run is not
-/// called again once a call of it has failed (`leaves`).
-/// Where shelf and sinks tell what they hold, as those in memory do, the clauses speak of the bytes. Real files tell nothing. Over them
-/// `causes` and `untouched` hold, and of `leaves` and `ends` what they say of counts: how many files were opened, that the last one
-/// was read to its end, and which sink has failed.
+/// Files are read and meshes written in pieces. A mesh is finished before its line is written, which is proved where
+/// the write of either fails (`ends`). The first call that fails ends the run: proved is that an object that had not
+/// failed before the run is not called again once a call of it has failed (`leaves`).
+/// Where shelf and sinks tell what they hold, as those in memory do, the clauses speak of the bytes. Real files tell
+/// nothing. Over them `causes` and `untouched` hold, and of `leaves` and `ends` what they say of counts: how many
+/// files were opened, that the last one was read to its end, and which sink has failed.
 /// All memory is taken before a script is opened: a run without memory has opened none (`ends`).
-/// Cost (not proved): a few steps a byte of the files; for each frame that of `Engine::frame`, which is what has changed since the
-/// frame before, or of `Least::frame`, two passes over the grid; for every frame of `mesh` the writing of its mesh.
+/// Cost (not proved): a few steps a byte of the files; for each frame that of `Engine::frame`, which is what has
+/// changed since the frame before, or of `Least::frame`, two passes over the grid; for every frame of `mesh` the
+/// writing of its mesh.
 pub fn roam<F: Shelf, M: MeshSink, R: Sink>(
     alloc: Global,
     words: &[String],
@@ -103,11 +107,12 @@ pub fn roam<F: Shelf, M: MeshSink, R: Sink>(
     requires report_faults { R.faults report.old < 2 ^ 64 - 1 }
     requires opens { F.opens shelf.old ≤ 2 ^ 63 }
 
-    // (Counts stand still at 2 ^ 64 - 1, so a rise could not be seen there. The first moment is before the run, the second after it;
-    // F.Shelf is what F tells as a Shelf.)
+    // (Counts stand still at 2 ^ 64 - 1, so a rise could not be seen there. The first moment is before the run, the
+    // second after it; F.Shelf is what F tells as a Shelf.)
     //
-    // The meshes, where shelf and sink tell them: each finished one is the right one for its command, whatever the status; one that
-    // `certify check` accepts is optimal, and one that `certify check-fit` accepts the best for its error or budget.
+    // The meshes, where shelf and sink tell them: each finished one is the right one for its command, whatever the
+    // status; one that `certify check` accepts is optimal, and one that `certify check-fit` accepts the best for its
+    // error or budget.
     ensures best { KeepsBestMeshes (moment F.Shelf M.MeshSink R.Sink shelf.old meshes.old report.old)
         (moment F.Shelf M.MeshSink R.Sink shelf.new meshes.new report.new)
         (map string_bytes words.now) result.status }
@@ -123,9 +128,9 @@ pub fn roam<F: Shelf, M: MeshSink, R: Sink>(
         (moment F.Shelf M.MeshSink R.Sink shelf.new meshes.new report.new)
         (command_of (map string_bytes words.now)) result.status (option_map engine_seen result.engine) }
 
-    // What words and files determine. These are laws of outcomes and not of this run, which has one by `ends`: there is one, and but
-    // for certificates one alone; where what is read is accepted its status is Done; and what the line of an engine's frame tells of
-    // blocking is a certificate that its mesh is optimal.
+    // What words and files determine. These are laws of outcomes and not of this run, which has one by `ends`: there
+    // is one, and but for certificates one alone; where what is read is accepted its status is Done; and what the
+    // line of an engine's frame tells of blocking is a certificate that its mesh is optimal.
     ensures some_outcome { (files : List NamedFile) →
         (end : Outcome) × IsOutcome (command_of (map string_bytes words.now)) files end }
     ensures one_outcome { (files : List NamedFile) (end other : Outcome) →
@@ -154,10 +159,12 @@ pub fn roam<F: Shelf, M: MeshSink, R: Sink>(
     run_of_words(alloc, words, &mut outside)
 }
 
-/// Carries out the words of a command line by `roam`, and answers how that ended; what the run leaves beside is dropped.
+/// Carries out the words of a command line by `roam`, and answers how that ended; what the run leaves beside is
+/// dropped.
 ///
-/// For a program, which keeps no engine. Its clauses are those of `roam` on the status, on what stands after it and on its causes;
-/// what the meshes are, `roam` says. So a program is proved over these lines, and not over all the words of that contract.
+/// For a program, which keeps no engine. Its clauses are those of `roam` on the status, on what stands after it and
+/// on its causes; what the meshes are, `roam` says. So a program is proved over these lines, and not over all the
+/// words of that contract.
 pub fn status_of<F: Shelf, M: MeshSink, R: Sink>(
     alloc: Global,
     words: &[String],

@@ -1,6 +1,7 @@
 //! The fields of a line, one after the other.
 
-ghost use Rattle.std.specs.Prelude.{◌≡◌, ◌+◌, ◌<◌, ◌≤◌, ◌^◌, ◌≤ℤ◌, false, [], ◌∷◌, length, take, drop, pos, IfSome, IfOk, MatchOption};
+ghost use Rattle.std.specs.Prelude.{◌≡◌, ◌+◌, ◌<◌, ◌≤◌, ◌^◌, ◌≤ℤ◌, false, [], ◌∷◌, length, take, drop, pos, IfSome};
+ghost use Rattle.std.specs.Prelude.{IfOk, MatchOption};
 ghost use Rattle.text_laws.specs.Fields.{fields_of, is_gap, begins_with_gap, without_last_cr};
 ghost use Rattle.roam_script.specs.LineText.{from_to};
 ghost use Rattle.roam_script.specs.Taking.{TakesNumber, signed_answer};

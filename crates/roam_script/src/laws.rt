@@ -1,6 +1,10 @@
 //! What the lines of a script are, in the words of the format.
 
-ghost use Rattle.roam_script.specs.Laws.{LateLinesAreTooMany, LongLinesAreTooLong, LongLinesAreSettled, BlankLinesSayNothing, OtherWordsAreUnknown, OtherCountsAreWrong, BadNumbersAreRefused, OutsideNumbersAreRefused, SeventhPlanesAreTooMany, LateFramesAreTooMany, SoundLinesAreAccepted, AcceptedLinesLieInRange, CommandsAreWords};
+ghost use Rattle.roam_script.specs.Laws.{LateLinesAreTooMany, LongLinesAreTooLong, LongLinesAreSettled};
+ghost use Rattle.roam_script.specs.Laws.{BlankLinesSayNothing, OtherWordsAreUnknown, OtherCountsAreWrong};
+ghost use Rattle.roam_script.specs.Laws.{BadNumbersAreRefused, OutsideNumbersAreRefused, SeventhPlanesAreTooMany};
+ghost use Rattle.roam_script.specs.Laws.{LateFramesAreTooMany, SoundLinesAreAccepted, AcceptedLinesLieInRange};
+ghost use Rattle.roam_script.specs.Laws.{CommandsAreWords};
 
 /// States what `line_in` answers: where each refusal comes, and which lines are accepted; and which fields are
 /// commands. It does nothing.

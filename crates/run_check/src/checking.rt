@@ -9,7 +9,8 @@ ghost use Rattle.run_laws.specs.Outcome.{IsCheckOutcome};
 ghost use Rattle.run_laws.specs.Promise.{HasEnded};
 ghost use Rattle.run_laws.specs.Leaving.{Runs, HasOpened, HasFailed};
 ghost use Rattle.run_words.specs.CertifyView.{checking_seen, AreInBounds};
-ghost use Rattle.run_check.specs.Judging.{judged_status, mesh_opens, judged_outcome, cert_mesh_text, IsJudged, JudgesNoMemory, MeshHasRead, JudgesFault, NoMemoryBehind, FailsBehind};
+ghost use Rattle.run_check.specs.Judging.{judged_status, mesh_opens, judged_outcome, cert_mesh_text, IsJudged};
+ghost use Rattle.run_check.specs.Judging.{JudgesNoMemory, MeshHasRead, JudgesFault, NoMemoryBehind, FailsBehind};
 
 use crate::verdict_report::{Judgement, judgement_report};
 use cert_text::Cert;
@@ -69,8 +70,10 @@ fn judge<O: Outside>(
     ensures same { O.is_same outside.old outside.new }
     ensures ok { IfOk result (λ judgement. (files : List NamedFile) → (O.moment outside.old).shelf.files ≡ Some files →
         IsJudged (checking_seen words.now) wedges.now files judgement) }
-    ensures opened { IfOk result (λ judgement. HasOpened (O.moment outside.old) (O.moment outside.new) (1 + mesh_opens judgement)) }
-    ensures ended { IfOk result (λ judgement. judged_status judgement ≡ Status.Done → HasEnded (O.moment outside.new).shelf) }
+    ensures opened { IfOk result
+        (λ judgement. HasOpened (O.moment outside.old) (O.moment outside.new) (1 + mesh_opens judgement)) }
+    ensures ended { IfOk result (λ judgement. judged_status judgement ≡ Status.Done →
+        HasEnded (O.moment outside.new).shelf) }
     ensures no_memory { result ≡ Err CheckStop.NoMemory →
         JudgesNoMemory (checking_seen words.now) wedges.now (O.moment outside.old) (O.moment outside.new) }
     ensures failed { result ≡ Err CheckStop.Failed →
@@ -99,8 +102,10 @@ fn judge_cert<O: Outside>(
     ensures ok { IfOk result (λ judgement. (files : List NamedFile) → (O.moment outside.old).shelf.files ≡ Some files →
         IsCheckOutcome (checking_seen words.now) wedges.now (Ok cert.now) (bytes_of files words.now.mesh.now)
         (judged_outcome judgement)) }
-    ensures opened { IfOk result (λ judgement. HasOpened (O.moment outside.old) (O.moment outside.new) (mesh_opens judgement)) }
-    ensures ended { IfOk result (λ judgement. judged_status judgement ≡ Status.Done → HasEnded (O.moment outside.new).shelf) }
+    ensures opened { IfOk result
+        (λ judgement. HasOpened (O.moment outside.old) (O.moment outside.new) (mesh_opens judgement)) }
+    ensures ended { IfOk result (λ judgement. judged_status judgement ≡ Status.Done →
+        HasEnded (O.moment outside.new).shelf) }
     ensures no_memory { result ≡ Err CheckStop.NoMemory →
         NoMemoryBehind (checking_seen words.now) wedges.now cert.now (O.moment outside.old) (O.moment outside.new) }
     ensures failed { result ≡ Err CheckStop.Failed →

@@ -1,7 +1,7 @@
 //! The command `certify check`: whether a certificate is sound, and a mesh the one that it is of.
 //!
-//! For the run of `roam`. A grid, a certificate and a mesh are read from a shelf, in this order, and the first test that fails ends the
-//! check with its line. Nothing here makes a mesh.
+//! For the run of `roam`. A grid, a certificate and a mesh are read from a shelf, in this order, and the first test
+//! that fails ends the check with its line. Nothing here makes a mesh.
 
 #![tactic(auto)]
 

@@ -29,8 +29,8 @@ struct Notes {
     report: Note,
 }
 
-/// Carries the words of the command line out by this run, over real files and standard output, and answers its status as the
-/// exit status. What the report does not say stands on standard error.
+/// Carries the words of the command line out by this run, over real files and standard output, and answers its status
+/// as the exit status. What the report does not say stands on standard error.
 ///
 /// Where the system cannot give the words the exit status is 8, or that of `NoMemory` where memory is the cause.
 pub fn carry_out<R: Env + Files + Print + Eprint + AllocGlobal>(

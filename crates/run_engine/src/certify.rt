@@ -49,8 +49,8 @@ fn certificate_of(alloc: Global, grid: Grid, words: &MakeWords<'_>) -> Result<Ce
     certificate_by(alloc, &mut engine, words)
 }
 
-/// The same by an engine of the grid before its first frame. It stands apart since a function that owns an engine drops it at each
-/// exit, on ways that its proof has to go for each of its calls.
+/// The same by an engine of the grid before its first frame. It stands apart since a function that owns an engine
+/// drops it at each exit, on ways that its proof has to go for each of its calls.
 fn certificate_by(
     alloc: Global,
     engine: &mut Engine,
@@ -78,7 +78,8 @@ fn cert_of_frame(
 ) -> Result<Cert, NoMemory>
     requires bounds { AreInBounds words.now.budget words.now.spacing }
     requires best { let grid = engine.now.state.grid in
-        IsBestMesh grid.n words.now.budget (priority_in (makes_at (making_seen words.now) grid)) (mesh_seen engine.now) }
+        IsBestMesh grid.n words.now.budget (priority_in (makes_at (making_seen words.now) grid))
+        (mesh_seen engine.now) }
     requires worst { let grid = engine.now.state.grid in
         worst ≡ worst_of (priority_in (makes_at (making_seen words.now) grid)) (mesh_seen engine.now) }
     ensures { IfOk result (λ cert. IsMade (making_seen words.now) engine.now.state.grid cert) }

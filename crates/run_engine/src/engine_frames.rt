@@ -90,8 +90,8 @@ impl<'a> FrameMaker for EngineFrames<'a> {
     }
 }
 
-/// Room for the strip of any mesh of a grid with this n, within this budget, where frames are shown as strips. It is made before
-/// the engine, so that no engine has to be dropped where memory runs out.
+/// Room for the strip of any mesh of a grid with this n, within this budget, where frames are shown as strips. It is
+/// made before the engine, so that no engine has to be dropped where memory runs out.
 fn strip_room(
     alloc: Global,
     showing: Showing<'_>,

@@ -67,8 +67,8 @@ impl Sums {
     }
 }
 
-/// The sums of all frames of the generated script on the generated grid, and the engine that made them. All memory is taken
-/// before the first line.
+/// The sums of all frames of the generated script on the generated grid, and the engine that made them. All memory is
+/// taken before the first line.
 pub fn sums_of(alloc: Global, n: u32, seed: u32) -> Result<(Sums, Engine), NoMemory>
     requires n_low { 1 ≤ n }
     requires n_high { n ≤ GREATEST_LEVEL }

@@ -1,8 +1,10 @@
-//! What a run makes with an engine: the frames of a script, the sums of a generated run, the certificate of a best mesh.
+//! What a run makes with an engine: the frames of a script, the sums of a generated run, the certificate of a best
+//! mesh.
 //!
-//! For the run of `roam`. `EngineFrames` is one maker of the frames of a script: what followed a walk follows it behind the next
-//! line, and shows the picture of a frame line. It stands beside `run_script`, which reads scripts whatever makes their frames, and
-//! below `roam_run`, so that the three are not proved one after the other. Nothing here reads a script.
+//! For the run of `roam`. `EngineFrames` is one maker of the frames of a script: what followed a walk follows it
+//! behind the next line, and shows the picture of a frame line. It stands beside `run_script`, which reads scripts
+//! whatever makes their frames, and below `roam_run`, so that the three are not proved one after the other. Nothing
+//! here reads a script.
 
 #![tactic(auto)]
 

@@ -28,7 +28,8 @@ use run_files::{Outside, Text, push_placed, show_mesh};
 use run_laws::turn_count_laws;
 use strip_order::{strip, turns};
 
-/// Writes the mesh of an engine as a strip, and then the line of the strip. The line comes only after the mesh was finished.
+/// Writes the mesh of an engine as a strip, and then the line of the strip. The line comes only after the mesh was
+/// finished.
 ///
 /// The strip is put to the front of the room, which has a place for each triangle.
 /// Cost (not proved): that of `strip`, `turns` and `write_mesh`; takes no memory.
@@ -115,7 +116,8 @@ fn strip_report(engine: &Engine, order: &[Tri]) -> Text
     requires closed { IsClosed engine.now.state.grid.n (is_split engine.now) }
     requires order { order.now ≡ strip_of engine.now.state.grid.n (is_split engine.now) }
     ensures { let n = engine.now.state.grid.n in
-        result.items ≡ strip_numbers engine.now.frames (length order.now) (left_turns n order.now) (right_turns n order.now) }
+        result.items
+        ≡ strip_numbers engine.now.frames (length order.now) (left_turns n order.now) (right_turns n order.now) }
 {
     turn_count_laws();
     let turned = turns(order, engine.grid().n());
@@ -156,7 +158,8 @@ pub(crate) fn write_measure<O: Outside>(engine: &Engine, outside: &mut O) -> Res
 fn measure_report(engine: &Engine) -> Text
     requires closed { IsClosed engine.now.state.grid.n (is_split engine.now) }
     ensures { let grid = engine.now.state.grid in
-        result.items ≡ measure_numbers engine.now.frames (deviation_of grid.n grid.heights (mesh_seen engine.now)) (2 ^ grid.n)
+        result.items
+        ≡ measure_numbers engine.now.frames (deviation_of grid.n grid.heights (mesh_seen engine.now)) (2 ^ grid.n)
         (thickest_of grid.n grid.heights (mesh_seen engine.now)) }
 {
     let view = engine.view();

@@ -1,6 +1,7 @@
 //! A certificate, read from the outside of a run.
 
-ghost use Rattle.std.specs.Prelude.{◌≡◌, ◌≢◌, ◌+◌, ◌*◌, ◌≤◌, ◌++◌, ◌∷◌, [], ℕ, List, All, IfOk, OnOk, Some, None, Ok, Err, length};
+ghost use Rattle.std.specs.Prelude.{◌≡◌, ◌≢◌, ◌+◌, ◌*◌, ◌≤◌, ◌++◌, ◌∷◌, [], ℕ, List, All, IfOk, OnOk, Some, None, Ok};
+ghost use Rattle.std.specs.Prelude.{Err, length};
 ghost use Rattle.mesh_defs.specs.Triangle.{IsAddress};
 ghost use Rattle.mesh_defs.specs.declared.level.TheConstants.{GREATEST_LEVEL};
 ghost use Rattle.roam_edge.specs.Fault.{Rose, next_count, IsInTime};
@@ -165,14 +166,17 @@ pub fn read_cert<O: Outside>(
         (files : List NamedFile) → (O.moment outside.old).shelf.files ≡ Some files →
         cert_in n (bytes_of files name.now) ≡ Err line }
     // Where a read failed, no line that was read is refused.
-    ensures undecided { result ≡ Err CertStop.Failed → (files : List NamedFile) → (O.moment outside.old).shelf.files ≡ Some files →
+    ensures undecided { result ≡ Err CertStop.Failed → (files : List NamedFile) →
+        (O.moment outside.old).shelf.files ≡ Some files →
         StopsReading (CertHasRead n) (bytes_of files name.now)
         (O.moment outside.new).shelf.rest (O.moment outside.new).shelf.ended }
     ensures same { O.is_same outside.old outside.new }
     ensures only { OnlyReads (O.moment outside.old) (O.moment outside.new) }
     ensures opens { (O.moment outside.new).shelf.opens ≡ next_count (O.moment outside.old).shelf.opens }
-    ensures failed { result ≡ Err CertStop.Failed → Rose (O.moment outside.old).shelf_faults (O.moment outside.new).shelf_faults }
-    ensures no_fault { result ≢ Err CertStop.Failed → (O.moment outside.new).shelf_faults ≡ (O.moment outside.old).shelf_faults }
+    ensures failed { result ≡ Err CertStop.Failed →
+        Rose (O.moment outside.old).shelf_faults (O.moment outside.new).shelf_faults }
+    ensures no_fault { result ≢ Err CertStop.Failed →
+        (O.moment outside.new).shelf_faults ≡ (O.moment outside.old).shelf_faults }
     ensures in_time { IsInTime (O.moment outside.old).shelf_late (O.moment outside.old).shelf_faults
         (O.moment outside.new).shelf_late }
 {

@@ -82,7 +82,8 @@ pub fn read_grid<O: Outside>(alloc: Global, name: &str, outside: &mut O) -> Resu
     }
 }
 
-/// Reads the grid of this name, or ends the command: a refusal is told, and a failed read and want of memory are its end too.
+/// Reads the grid of this name, or ends the command: a refusal is told, and a failed read and want of memory are its
+/// end too.
 pub fn grid_or_end<O: Outside>(alloc: Global, name: &str, outside: &mut O) -> Result<Grid, Status>
     requires idle { (O.moment outside.old).under_way ≡ false }
     requires opens { (O.moment outside.old).shelf.opens ≤ 2 ^ 63 }
@@ -106,7 +107,8 @@ pub fn grid_or_end<O: Outside>(alloc: Global, name: &str, outside: &mut O) -> Re
 /// What the end of the file makes of the bytes.
 fn finished(reader: PgmReader) -> Result<Grid, GridStop>
     ensures ok { IfOk result (λ grid. resume reader [] ≡ Ok grid) }
-    ensures refused { IfErr result (λ stop. (fault : Fault) × (stop ≡ GridStop.Refused fault) × (resume reader [] ≡ Err fault)) }
+    ensures refused { IfErr result (λ stop. (fault : Fault) × (stop ≡ GridStop.Refused fault)
+        × (resume reader [] ≡ Err fault)) }
 {
     match reader.finish() {
         Ok(grid) => Ok(grid),

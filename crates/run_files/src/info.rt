@@ -20,8 +20,8 @@ use run_laws::Status;
 use std::alloc::Global;
 use wedgie_tree::Wedges;
 
-/// Carries out the command `info`: reads the grid of this name, and writes one line about it. All memory is taken before the line is
-/// written.
+/// Carries out the command `info`: reads the grid of this name, and writes one line about it. All memory is taken
+/// before the line is written.
 pub fn run_info<O: Outside>(alloc: Global, name: &str, outside: &mut O) -> Status
     requires idle { (O.moment outside.old).under_way ≡ false }
     requires opens { (O.moment outside.old).shelf.opens ≤ 2 ^ 63 }
@@ -60,7 +60,8 @@ fn info_report(wedges: &Wedges) -> Text
 
 /// The greater thickness of the two base triangles, in half units of height.
 fn base_thickness(wedges: &Wedges) -> u32
-    ensures { result ≡ max (thickness_of wedges.now.n wedges.now.heights 2) (thickness_of wedges.now.n wedges.now.heights 3) }
+    ensures { result ≡ max (thickness_of wedges.now.n wedges.now.heights 2)
+        (thickness_of wedges.now.n wedges.now.heights 3) }
 {
     wedges
         .thickness(Tri::LOWER)

@@ -1,8 +1,8 @@
 //! The files that a command line names, and the lines of the report that tell of no frame.
 //!
 //! For the crates that carry a command out. Grids and certificates are read from a shelf, in pieces, to
-//! their end or their first refusal. A text that ends a run is written here, and so is the whole command `info`. Nothing here knows
-//! what makes a frame.
+//! their end or their first refusal. A text that ends a run is written here, and so is the whole command `info`.
+//! Nothing here knows what makes a frame.
 
 #![tactic(auto)]
 

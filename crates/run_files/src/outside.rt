@@ -1,6 +1,7 @@
 //! The outside of a run: all that it reads and writes.
 
-ghost use Rattle.std.specs.Prelude.{◌≡◌, ℕ, ◌*◌, ◌^◌, ◌<◌, ◌≤◌, ◌∷◌, [], List, Some, Err, true, false, All, IfOk, is_err, length};
+ghost use Rattle.std.specs.Prelude.{◌≡◌, ℕ, ◌*◌, ◌^◌, ◌<◌, ◌≤◌, ◌∷◌, [], List, Some, Err, true, false, All, IfOk};
+ghost use Rattle.std.specs.Prelude.{is_err, length};
 ghost use Rattle.mesh_defs.specs.Triangle.{level_of};
 ghost use Rattle.mesh_defs.specs.MeshText.{mesh_text};
 ghost use Rattle.roam_edge.specs.Fault.{HasCause, Rose, IsInTime, next_count, late_after};
@@ -28,8 +29,8 @@ use wedgie_tree::Wedges;
 
 /// The outside of a run: files are read from it, and meshes and a report are written to it.
 ///
-/// Everything that carries a command out gets its outside as this, so that one clause says what all three objects tell before and
-/// after a call.
+/// Everything that carries a command out gets its outside as this, so that one clause says what all three objects
+/// tell before and after a call.
 pub trait Outside {
     // What the outside tells at one moment.
     ghost moment: { Self → Moment };
@@ -46,9 +47,11 @@ pub trait Outside {
         ensures ends { (moment self.new).shelf.ended ≡ is_err result }
         ensures count { (moment self.new).shelf.opens ≡ next_count (moment self.old).shelf.opens }
         ensures faults { HasCause (moment self.old).shelf_faults (moment self.new).shelf_faults result }
-        ensures late { (moment self.new).shelf_late ≡ late_after (moment self.old).shelf_late (moment self.old).shelf_faults };
+        ensures late { (moment self.new).shelf_late
+            ≡ late_after (moment self.old).shelf_late (moment self.old).shelf_faults };
 
-    /// Takes the next unread bytes into the front of the buffer, and answers how many; no byte means the end of the file.
+    /// Takes the next unread bytes into the front of the buffer, and answers how many; no byte means the end of the
+    /// file.
     fn read(&mut self, buf: &mut [u8]) -> Result<usize, Failed>
         requires room { 0 < length buf.old }
         requires not_ended { (moment self.old).shelf.ended ≡ false }
@@ -59,9 +62,11 @@ pub trait Outside {
         ensures ends { Ends (moment self.old).shelf.ended (moment self.new).shelf.ended result }
         ensures count { (moment self.new).shelf.opens ≡ (moment self.old).shelf.opens }
         ensures faults { HasCause (moment self.old).shelf_faults (moment self.new).shelf_faults result }
-        ensures late { (moment self.new).shelf_late ≡ late_after (moment self.old).shelf_late (moment self.old).shelf_faults };
+        ensures late { (moment self.new).shelf_late
+            ≡ late_after (moment self.old).shelf_late (moment self.old).shelf_faults };
 
-    /// Compares what is left of the file with the text of the mesh of these triangles, without view planes, as `mesh_compare::compare`.
+    /// Compares what is left of the file with the text of the mesh of these triangles, without view planes, as
+    /// `mesh_compare::compare`.
     fn compare_rest(
         &mut self,
         alloc: Global,
@@ -79,18 +84,21 @@ pub trait Outside {
         ensures place { IfOk result (λ found. FindsDifference
             (mesh_text w.now.n w.now.heights spacing [] leaves.now) (moment self.old).shelf.rest found) }
         ensures ended { IfOk result (λ found. found ≡ None → (moment self.new).shelf.ended ≡ true) }
-        ensures all_read { IfOk result (λ found. found ≡ None → (rest : List ℕ) → (moment self.old).shelf.rest ≡ Some rest →
+        ensures all_read { IfOk result (λ found. found ≡ None → (rest : List ℕ) →
+            (moment self.old).shelf.rest ≡ Some rest →
             (moment self.new).shelf.rest ≡ Some []) }
         ensures calm { IfOk result (λ _. (moment self.new).shelf_faults ≡ (moment self.old).shelf_faults) }
         ensures failed { result ≡ Err CompareFaultSeen.Failed →
             Rose (moment self.old).shelf_faults (moment self.new).shelf_faults }
         ensures cut { result ≡ Err CompareFaultSeen.Failed → IsPartRead
-            (mesh_text w.now.n w.now.heights spacing [] leaves.now) (moment self.old).shelf.rest (moment self.new).shelf.rest }
+            (mesh_text w.now.n w.now.heights spacing [] leaves.now) (moment self.old).shelf.rest
+            (moment self.new).shelf.rest }
         ensures goes_on { result ≡ Err CompareFaultSeen.Failed → (moment self.new).shelf.ended ≡ false }
         ensures no_memory { result ≡ Err CompareFaultSeen.NoMemory → moment self.new ≡ moment self.old }
         ensures told { StaysTold (moment self.old).shelf.rest (moment self.new).shelf.rest }
         ensures opens { (moment self.new).shelf.opens ≡ (moment self.old).shelf.opens }
-        ensures in_time { IsInTime (moment self.old).shelf_late (moment self.old).shelf_faults (moment self.new).shelf_late };
+        ensures in_time { IsInTime (moment self.old).shelf_late (moment self.old).shelf_faults
+            (moment self.new).shelf_late };
 
     /// Writes a whole mesh, named by the prefix and the number.
     fn write_mesh(&mut self, view: &MeshView<'_>, prefix: &str, number: u32) -> Result<(), Failed>

@@ -17,8 +17,8 @@ use run_laws::Status;
 use run_words::FitWords;
 use std::alloc::Global;
 
-/// Carries out the command `fit`: reads a grid, writes the best mesh of it for the error or the budget of the words, and then one line
-/// about that mesh.
+/// Carries out the command `fit`: reads a grid, writes the best mesh of it for the error or the budget of the words,
+/// and then one line about that mesh.
 ///
 /// All memory is taken before the first byte is written.
 /// Cost (not proved): a few steps a byte of the file; that of `Fit::frame`, and the writing of the mesh.

@@ -1,6 +1,7 @@
 //! The command `certify check-fit`: whether a certificate of a fitted mesh is sound, and a mesh the one that it is of.
 
-ghost use Rattle.std.specs.Prelude.{ℕ, ◌≡◌, ◌≢◌, ◌^◌, ◌<◌, ◌≤◌, ◌+◌, ◌*◌, List, All, IfOk, None, Some, Ok, Err, false, length};
+ghost use Rattle.std.specs.Prelude.{ℕ, ◌≡◌, ◌≢◌, ◌^◌, ◌<◌, ◌≤◌, ◌+◌, ◌*◌, List, All, IfOk, None, Some, Ok, Err, false};
+ghost use Rattle.std.specs.Prelude.{length};
 ghost use Rattle.mesh_defs.specs.Triangle.{level_of};
 ghost use Rattle.roam_edge.specs.Shelf.{NamedFile, bytes_of};
 ghost use Rattle.mesh_compare.specs.Differs.{first_difference};
@@ -10,7 +11,9 @@ ghost use Rattle.run_laws.specs.Outcome.{IsFitCheckOutcome};
 ghost use Rattle.run_laws.specs.Promise.{HasEnded};
 ghost use Rattle.run_laws.specs.Leaving.{Runs, HasOpened, HasFailed};
 ghost use Rattle.run_words.specs.FitView.{fit_checking_seen, AreFitBounds};
-ghost use Rattle.run_fit_check.specs.FitJudging.{fit_judged_status, fit_mesh_opens, fit_judged_outcome, IsFitJudged, FitJudgesNoMemory, FitMeshHasRead, FitJudgesFault, IsSoundFor, FitNoMemoryBehind, FitFailsBehind};
+ghost use Rattle.run_fit_check.specs.FitJudging.{fit_judged_status, fit_mesh_opens, fit_judged_outcome, IsFitJudged};
+ghost use Rattle.run_fit_check.specs.FitJudging.{FitJudgesNoMemory, FitMeshHasRead, FitJudgesFault, IsSoundFor};
+ghost use Rattle.run_fit_check.specs.FitJudging.{FitNoMemoryBehind, FitFailsBehind};
 
 use crate::fit_cert_file::read_fit_cert;
 use crate::goal::goal_in;
@@ -79,8 +82,10 @@ fn judge<O: Outside>(
     ensures same { O.is_same outside.old outside.new }
     ensures ok { IfOk result (λ judgement. (files : List NamedFile) → (O.moment outside.old).shelf.files ≡ Some files →
         IsFitJudged (fit_checking_seen words.now) wedges.now files judgement) }
-    ensures opened { IfOk result (λ judgement. HasOpened (O.moment outside.old) (O.moment outside.new) (1 + fit_mesh_opens judgement)) }
-    ensures ended { IfOk result (λ judgement. fit_judged_status judgement ≡ Status.Done → HasEnded (O.moment outside.new).shelf) }
+    ensures opened { IfOk result
+        (λ judgement. HasOpened (O.moment outside.old) (O.moment outside.new) (1 + fit_mesh_opens judgement)) }
+    ensures ended { IfOk result (λ judgement. fit_judged_status judgement ≡ Status.Done →
+        HasEnded (O.moment outside.new).shelf) }
     ensures no_memory { result ≡ Err CheckStop.NoMemory →
         FitJudgesNoMemory (fit_checking_seen words.now) wedges.now (O.moment outside.old) (O.moment outside.new) }
     ensures failed { result ≡ Err CheckStop.Failed →
@@ -108,8 +113,10 @@ fn judge_cert<O: Outside>(
     ensures ok { IfOk result (λ judgement. (files : List NamedFile) → (O.moment outside.old).shelf.files ≡ Some files →
         IsFitCheckOutcome (fit_checking_seen words.now) wedges.now (Ok cert.now) (bytes_of files words.now.mesh.now)
         (fit_judged_outcome wedges.now.n judgement)) }
-    ensures opened { IfOk result (λ judgement. HasOpened (O.moment outside.old) (O.moment outside.new) (fit_mesh_opens judgement)) }
-    ensures ended { IfOk result (λ judgement. fit_judged_status judgement ≡ Status.Done → HasEnded (O.moment outside.new).shelf) }
+    ensures opened { IfOk result
+        (λ judgement. HasOpened (O.moment outside.old) (O.moment outside.new) (fit_mesh_opens judgement)) }
+    ensures ended { IfOk result (λ judgement. fit_judged_status judgement ≡ Status.Done →
+        HasEnded (O.moment outside.new).shelf) }
     ensures no_memory { result ≡ Err CheckStop.NoMemory →
         FitNoMemoryBehind (fit_checking_seen words.now) wedges.now cert.now (O.moment outside.old) (O.moment outside.new) }
     ensures failed { result ≡ Err CheckStop.Failed →
@@ -144,8 +151,10 @@ fn judge_mesh<O: Outside>(
     ensures ok { IfOk result (λ judgement. (files : List NamedFile) → (O.moment outside.old).shelf.files ≡ Some files →
         IsFitCheckOutcome (fit_checking_seen words.now) wedges.now (Ok cert.now) (bytes_of files words.now.mesh.now)
         (fit_judged_outcome wedges.now.n judgement)) }
-    ensures opened { IfOk result (λ judgement. HasOpened (O.moment outside.old) (O.moment outside.new) (fit_mesh_opens judgement)) }
-    ensures ended { IfOk result (λ judgement. fit_judged_status judgement ≡ Status.Done → HasEnded (O.moment outside.new).shelf) }
+    ensures opened { IfOk result
+        (λ judgement. HasOpened (O.moment outside.old) (O.moment outside.new) (fit_mesh_opens judgement)) }
+    ensures ended { IfOk result (λ judgement. fit_judged_status judgement ≡ Status.Done →
+        HasEnded (O.moment outside.new).shelf) }
     ensures no_memory { result ≡ Err CheckStop.NoMemory →
         FitNoMemoryBehind (fit_checking_seen words.now) wedges.now cert.now (O.moment outside.old) (O.moment outside.new) }
     ensures failed { result ≡ Err CheckStop.Failed →

@@ -1,6 +1,7 @@
 //! A certificate of a fitted mesh, read from the outside of a run.
 
-ghost use Rattle.std.specs.Prelude.{◌≡◌, ◌≢◌, ◌+◌, ◌-◌, ◌*◌, ◌^◌, ◌<◌, ◌≤◌, ◌++◌, ◌∷◌, [], ℕ, List, IfOk, OnOk, Some, None, Ok, Err, length};
+ghost use Rattle.std.specs.Prelude.{◌≡◌, ◌≢◌, ◌+◌, ◌-◌, ◌*◌, ◌^◌, ◌<◌, ◌≤◌, ◌++◌, ◌∷◌, [], ℕ, List, IfOk, OnOk, Some};
+ghost use Rattle.std.specs.Prelude.{None, Ok, Err, length};
 ghost use Rattle.mesh_defs.specs.declared.level.TheConstants.{GREATEST_LEVEL};
 ghost use Rattle.roam_edge.specs.Fault.{Rose, next_count, IsInTime};
 ghost use Rattle.roam_edge.specs.Shelf.{NamedFile, bytes_of};
@@ -107,7 +108,8 @@ impl FitCertStage {
         Ok(())
     }
 
-    /// Ends the file: bytes after the last LF are a line too, and a file without the line of the mesh is refused behind its last line.
+    /// Ends the file: bytes after the last LF are a line too, and a file without the line of the mesh is refused
+    /// behind its last line.
     fn end(mut self) -> Result<FitCert, CertStop>
         requires counted { IsFitStageCounted self }
         ensures ends { (read : List ℕ) → HasFitCertCome self.reader.n read (fit_place_seen self) →
@@ -138,7 +140,8 @@ fn finished(reader: FitCertReader, lines: u32) -> Result<FitCert, CertStop>
     }
 }
 
-/// Reads the certificate of a fitted mesh of this name to its end or its first line that is refused, of the grid of side 2^n.
+/// Reads the certificate of a fitted mesh of this name to its end or its first line that is refused, of the grid of
+/// side 2^n.
 pub(crate) fn read_fit_cert<O: Outside>(
     alloc: Global,
     n: u32,
@@ -152,14 +155,17 @@ pub(crate) fn read_fit_cert<O: Outside>(
         (files : List NamedFile) → (O.moment outside.old).shelf.files ≡ Some files →
         fit_cert_in n (bytes_of files name.now) ≡ Err line }
     // Where a read failed, no line that was read is refused.
-    ensures undecided { result ≡ Err CertStop.Failed → (files : List NamedFile) → (O.moment outside.old).shelf.files ≡ Some files →
+    ensures undecided { result ≡ Err CertStop.Failed → (files : List NamedFile) →
+        (O.moment outside.old).shelf.files ≡ Some files →
         StopsReading (FitCertHasRead n) (bytes_of files name.now)
         (O.moment outside.new).shelf.rest (O.moment outside.new).shelf.ended }
     ensures same { O.is_same outside.old outside.new }
     ensures only { OnlyReads (O.moment outside.old) (O.moment outside.new) }
     ensures opens { (O.moment outside.new).shelf.opens ≡ next_count (O.moment outside.old).shelf.opens }
-    ensures failed { result ≡ Err CertStop.Failed → Rose (O.moment outside.old).shelf_faults (O.moment outside.new).shelf_faults }
-    ensures no_fault { result ≢ Err CertStop.Failed → (O.moment outside.new).shelf_faults ≡ (O.moment outside.old).shelf_faults }
+    ensures failed { result ≡ Err CertStop.Failed →
+        Rose (O.moment outside.old).shelf_faults (O.moment outside.new).shelf_faults }
+    ensures no_fault { result ≢ Err CertStop.Failed →
+        (O.moment outside.new).shelf_faults ≡ (O.moment outside.old).shelf_faults }
     ensures in_time { IsInTime (O.moment outside.old).shelf_late (O.moment outside.old).shelf_faults
         (O.moment outside.new).shelf_late }
 {

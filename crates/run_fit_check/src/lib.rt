@@ -1,9 +1,9 @@
-//! The commands `certify make-fit` and `certify check-fit`: a certificate of a fitted mesh is made, or it is said whether one is sound, and
-//! a mesh the one that it is of.
+//! The commands `certify make-fit` and `certify check-fit`: a certificate of a fitted mesh is made, or it is said
+//! whether one is sound, and a mesh the one that it is of.
 //!
-//! For the run of `roam`. The first reads a grid, and writes the certificate to the report. For the second a grid, a certificate and a
-//! mesh are read from a shelf, in this order, and the first test that fails ends the check with its line. It is a crate beside
-//! `run_check`, so that the two are proved side by side.
+//! For the run of `roam`. The first reads a grid, and writes the certificate to the report. For the second a grid, a
+//! certificate and a mesh are read from a shelf, in this order, and the first test that fails ends the check with its
+//! line. It is a crate beside `run_check`, so that the two are proved side by side.
 
 #![tactic(auto)]
 

@@ -47,7 +47,8 @@ fn certificate_of(alloc: Global, grid: &Grid, words: &FitMakeWords<'_>) -> Resul
 /// Writes a certificate, the last text of a run.
 fn end_with_cert<O: Outside>(cert: &FitCert, outside: &mut O) -> Status
     ensures same { O.is_same outside.old outside.new }
-    ensures tells { TellsLast (O.moment outside.old) (O.moment outside.new) (fit_cert_text cert.now) Status.Done result }
+    ensures tells { TellsLast (O.moment outside.old) (O.moment outside.new)
+        (fit_cert_text cert.now) Status.Done result }
 {
     match outside.tell_fit_cert(cert) {
         Ok(()) => Status::Done,

@@ -1,8 +1,15 @@
 //! Laws of the definitions, as clauses of functions with empty bodies.
 
-ghost use Rattle.run_laws.specs.Examples.{WrongFieldsStop, FirstLinesAreRefused, CountsAreBounded, SeventhPlaneStops, BudgetsAreInForce, AreasAreRaised, WaysAreAddedUp, TurnsOfStrips, MeshesAreMeasured};
-ghost use Rattle.run_laws.specs.CertifyExamples.{CertificatesAreRead, CertificatesAreRefused, WordsOfCertify, FitCertificatesAreRead, FitCertificatesAreRefused, WordsOfCertifyFit};
-ghost use Rattle.run_laws.specs.Laws.{WalksGoOn, PicturesGoOn, FramesExistFrom, RunsAreUnique, SetsStayClosed, LevelsAreInRange, BudgetsAreTwo, OutcomesAreUnique, OutcomesExist, AcceptedIsDone, EnginesAreUnique, PicturesAreCertified, HeadlineFollows, CertifiedFollows, FitCertifiedFollows, TolerancesAreExact, FitsAreBest, FittedFollows, MadeIsAccepted, FitIsReadBack, TurnsAreCounted};
+ghost use Rattle.run_laws.specs.Examples.{WrongFieldsStop, FirstLinesAreRefused, CountsAreBounded, SeventhPlaneStops};
+ghost use Rattle.run_laws.specs.Examples.{BudgetsAreInForce, AreasAreRaised, WaysAreAddedUp, TurnsOfStrips};
+ghost use Rattle.run_laws.specs.Examples.{MeshesAreMeasured};
+ghost use Rattle.run_laws.specs.CertifyExamples.{CertificatesAreRead, CertificatesAreRefused, WordsOfCertify};
+ghost use Rattle.run_laws.specs.CertifyExamples.{FitCertificatesAreRead, FitCertificatesAreRefused, WordsOfCertifyFit};
+ghost use Rattle.run_laws.specs.Laws.{WalksGoOn, PicturesGoOn, FramesExistFrom, RunsAreUnique, SetsStayClosed};
+ghost use Rattle.run_laws.specs.Laws.{LevelsAreInRange, BudgetsAreTwo, OutcomesAreUnique, OutcomesExist};
+ghost use Rattle.run_laws.specs.Laws.{AcceptedIsDone, EnginesAreUnique, PicturesAreCertified, HeadlineFollows};
+ghost use Rattle.run_laws.specs.Laws.{CertifiedFollows, FitCertifiedFollows, TolerancesAreExact, FitsAreBest};
+ghost use Rattle.run_laws.specs.Laws.{FittedFollows, MadeIsAccepted, FitIsReadBack, TurnsAreCounted};
 
 use cert_text::text_laws;
 use closure_laws::{frame_laws, member_laws};
@@ -18,8 +25,8 @@ pub fn walk_laws()
     ensures pictures { PicturesGoOn }
 {}
 
-/// From each closed set the steps of a frame lead to the frame of a state, whose set is closed again, and no line sets a
-/// budget below 2: so each state of a script has a picture.
+/// From each closed set the steps of a frame lead to the frame of a state, whose set is closed again, and no line
+/// sets a budget below 2: so each state of a script has a picture.
 pub fn state_laws()
     ensures frames { FramesExistFrom 2 }
     ensures runs { RunsAreUnique }
@@ -51,9 +58,9 @@ pub fn run_laws()
     falling_laws();
 }
 
-/// A mesh that is fitted is a best one for its error or its budget: the tolerance is exact, and what the definitions of `fit_laws` say
-/// holds in the words of distances from the surface; so the mesh of a run of `fit` is one, if it is finished, and so is one that
-/// `certify check-fit` certifies.
+/// A mesh that is fitted is a best one for its error or its budget: the tolerance is exact, and what the definitions
+/// of `fit_laws` say holds in the words of distances from the surface; so the mesh of a run of `fit` is one, if it is
+/// finished, and so is one that `certify check-fit` certifies.
 pub fn fitting_laws()
     ensures tolerance { TolerancesAreExact }
     ensures best { FitsAreBest }
@@ -63,8 +70,8 @@ pub fn fitting_laws()
     grids_and_texts();
 }
 
-/// What `certify make` writes for a grid `certify check` accepts, with the mesh that it is of; and the text of a certificate of a
-/// fitted mesh is read back as it.
+/// What `certify make` writes for a grid `certify check` accepts, with the mesh that it is of; and the text of a
+/// certificate of a fitted mesh is read back as it.
 pub fn certify_laws()
     ensures accepted { MadeIsAccepted }
     ensures fit_read_back { FitIsReadBack }

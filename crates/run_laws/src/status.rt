@@ -8,9 +8,9 @@ ghost use Rattle.run_laws.specs.Status.{exit_status};
 pub enum Status {
     /// The command was carried out, and the last of its files, if it has any, was read to its end.
     Done = 0,
-    /// Out of memory. Nothing was written, and no script was opened. The words are a command, and where they name a grid, its header
-    /// was read and accepted. A check may also end so at its later files. A program that always ends so behind the header of the
-    /// grid is not ruled out: how much memory there is no clause can know.
+    /// Out of memory. Nothing was written, and no script was opened. The words are a command, and where they name a
+    /// grid, its header was read and accepted. A check may also end so at its later files. A program that always ends
+    /// so behind the header of the grid is not ruled out: how much memory there is no clause can know.
     NoMemory = 1,
     /// The words are no command. Nothing was opened or written.
     Usage = 2,

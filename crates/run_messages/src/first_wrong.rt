@@ -1,6 +1,7 @@
 //! The first word that is wrong, of words that are no command.
 
-ghost use Rattle.std.specs.Prelude.{◌≡◌, ◌↔◌, ◌<◌, ◌≤◌, ◌+◌, ℕ, List, [], ◌∷◌, ◌++◌, length, map, take, IfSome, IsNone, IsSome, IsTrue, string_bytes};
+ghost use Rattle.std.specs.Prelude.{◌≡◌, ◌↔◌, ◌<◌, ◌≤◌, ◌+◌, ℕ, List, [], ◌∷◌, ◌++◌, length, map, take, IfSome, IsNone};
+ghost use Rattle.std.specs.Prelude.{IsSome, IsTrue, string_bytes};
 ghost use Rattle.word_laws.specs.Words.{command_of};
 ghost use Rattle.run_messages.specs.Form.{BeginsCommand, BeginsNoCommand, may_stand};
 

@@ -14,7 +14,8 @@ ghost use Rattle.run_laws.specs.Moment.{Does};
 ghost use Rattle.run_laws.specs.Walk.{start_walk, state_after};
 ghost use Rattle.word_laws.specs.Words.{as_least};
 ghost use Rattle.run_words.specs.ShowView.{IsPrefixLength};
-ghost use Rattle.run_script.specs.LeastSeen.{state_seen, IsUnderLeast, LeastFollows, IsLeastReady, IsLeastNoted, least_numbers, least_acts};
+ghost use Rattle.run_script.specs.LeastSeen.{state_seen, IsUnderLeast, LeastFollows, IsLeastReady, IsLeastNoted};
+ghost use Rattle.run_script.specs.LeastSeen.{least_numbers, least_acts};
 
 use arrayvec::ArrayVec;
 use cull_marks::Plane;
@@ -108,7 +109,8 @@ impl<'a> LeastFrames<'a> {
         requires few { self.old.frames < MOST_FRAMES }
         ensures state { state_seen self.new ≡ state_seen self.old }
         ensures level { self.new.least.n ≡ self.old.least.n }
-        ensures list { IsLeastList self.old.outlook.grid.n self.old.tolerance (priority_in (state_seen self.old)) self.new.least.leaves }
+        ensures list { IsLeastList self.old.outlook.grid.n self.old.tolerance
+            (priority_in (state_seen self.old)) self.new.least.leaves }
         ensures worst { result.worst ≡ worst_of (priority_in (state_seen self.old)) self.new.least.leaves }
         ensures noted { IsLeastNoted self.new result }
         ensures most { self.new.most ≡ self.old.most }
@@ -137,7 +139,8 @@ impl<'a> LeastFrames<'a> {
         }
     }
 
-    /// Writes the mesh, and then the line of its frame, of which this is the note. The line comes only after the mesh was finished.
+    /// Writes the mesh, and then the line of its frame, of which this is the note. The line comes only after the mesh
+    /// was finished.
     fn show<O: Outside>(&self, note: &LeastNote, outside: &mut O) -> Result<(), Failed>
         requires idle { (O.moment outside.old).under_way ≡ false }
         requires prefix_some { 0 < length self.now.prefix.now }

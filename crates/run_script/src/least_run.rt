@@ -15,8 +15,8 @@ use std::alloc::Global;
 
 /// Carries out the command `least`, whose meshes have this prefix and are the least ones of this tolerance.
 ///
-/// Cost (not proved): a few steps a byte of the files, and for each frame two passes over the grid and the writing of its mesh. All
-/// memory is taken before the script is opened.
+/// Cost (not proved): a few steps a byte of the files, and for each frame two passes over the grid and the writing of
+/// its mesh. All memory is taken before the script is opened.
 pub fn run_least<O: Outside>(
     alloc: Global,
     command: &FrameWords<'_>,

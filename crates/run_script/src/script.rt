@@ -1,6 +1,7 @@
 //! A script, carried out as its bytes come.
 
-ghost use Rattle.std.specs.Prelude.{◌≡◌, ◌≢◌, ◌+◌, ◌*◌, ◌≤◌, ◌⊎◌, ℕ, List, ◌∷◌, [], ◌++◌, Some, Err, false, length, OnOk};
+ghost use Rattle.std.specs.Prelude.{◌≡◌, ◌≢◌, ◌+◌, ◌*◌, ◌≤◌, ◌⊎◌, ℕ, List, ◌∷◌, [], ◌++◌, Some, Err, false, length};
+ghost use Rattle.std.specs.Prelude.{OnOk};
 ghost use Rattle.roam_edge.specs.Shelf.{NamedFile, bytes_of};
 ghost use Rattle.run_laws.specs.Walk.{Walk};
 ghost use Rattle.word_laws.specs.Words.{Show};
@@ -196,7 +197,8 @@ pub fn run_script<K: FrameMaker, O: Outside>(frames: &mut K, name: &str, outside
         (O.moment outside.new).sinks show (K.follows frames.new) start
         (bytes_of files name.now) result }
     ensures read_fault { result ≡ Status.ReadFault → (show : Show) (start : Walk) →
-        Begins show (K.follows frames.old) start → (files : List NamedFile) → (O.moment outside.old).shelf.files ≡ Some files →
+        Begins show (K.follows frames.old) start → (files : List NamedFile) →
+        (O.moment outside.old).shelf.files ≡ Some files →
         StopsReading (ScriptHasCome (O.moment outside.old).sinks
         (O.moment outside.new).sinks show start)
         (bytes_of files name.now) (O.moment outside.new).shelf.rest (O.moment outside.new).shelf.ended }

@@ -31,7 +31,8 @@ impl Stage {
 
     /// Why the line that has begun is refused with one more byte, whatever follows.
     pub(crate) fn settled_fault(&self) -> Option<ScriptFault>
-        ensures some { IfSome result (λ fault. (limits : Limits) (byte : ℕ) (tail : List ℕ) → limits.line ≡ self.now.lines + 1 →
+        ensures some { IfSome result (λ fault. (limits : Limits) (byte : ℕ) (tail : List ℕ) →
+            limits.line ≡ self.now.lines + 1 →
             line_in limits ((self.now.part.items ++ byte ∷ []) ++ tail) ≡ Err fault) }
         ensures lines { result ≡ None → self.now.lines < MOST_LINES }
         ensures room { result ≡ None → length self.now.part.items < MOST_LINE_BYTES }

@@ -12,8 +12,8 @@ use std::alloc::Global;
 
 /// Carries out the words of a command line over borrowed files, counts the meshes, and keeps the report.
 ///
-/// New objects have all that it asks of them. No read fails here, and no write of a mesh: what is accepted is done, unless memory
-/// runs out or the report has no room for a line.
+/// New objects have all that it asks of them. No read fails here, and no write of a mesh: what is accepted is done,
+/// unless memory runs out or the report has no room for a line.
 pub fn calm_run(
     alloc: Global,
     words: &[String],

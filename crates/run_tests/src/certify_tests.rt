@@ -83,8 +83,8 @@ fn ends_so(
     Ok(alone && ran.status == status && ran.report.as_slice() == line.as_bytes())
 }
 
-// Both halves of the hill have priority 1310720, and their children 0. The second certificate has lines that end with a CR, and fields
-// apart by tabs; the third one's last line ends with the file.
+// Both halves of the hill have priority 1310720, and their children 0. The second certificate has lines that end with
+// a CR, and fields apart by tabs; the third one's last line ends with the file.
 #[test]
 fn a_mesh_is_certified_by_enough_reasons(rt: HostRuntime) -> Result<(), Fail> {
     let cases: [(&[u8], &str); 4] = [

@@ -65,7 +65,8 @@ fn a_run_leaves_the_engine_of_its_frames(rt: HostRuntime) -> Result<(), Fail> {
 
 #[test]
 fn a_generated_run_leaves_its_engine(rt: HostRuntime) -> Result<(), Fail> {
-    // The mesh is the finest one from the first frame on. From (0, 0, 0) the camera goes to (1, 58, 40000), and then to (58, 1, 40000).
+    // The mesh is the finest one from the first frame on. From (0, 0, 0) the camera goes to (1, 58, 40000), and then
+    // to (58, 1, 40000).
     let words = ["try", "1", "1"];
     let ran = run_words(rt.alloc(), &words, b"", b"", Faults::none())?;
     assert_eq!(rt; ran.status, Status::Done);

@@ -73,8 +73,8 @@ fn a_script_that_is_not_there_is_a_read_fault(rt: HostRuntime) -> Result<(), Fai
     Ok(())
 }
 
-/// How many frames stand where this call fails of those over single bytes: 65 calls are the grid's, then the script is opened, and
-/// its 25 bytes and its end are read.
+/// How many frames stand where this call fails of those over single bytes: 65 calls are the grid's, then the script
+/// is opened, and its 25 bytes and its end are read.
 fn frames_before(call: u64) -> usize {
     if call <= 72 {
         0
@@ -115,7 +115,8 @@ fn a_refusal_is_told_before_the_next_byte_is_read(rt: HostRuntime) -> Result<(),
     Ok(())
 }
 
-/// A failed call of the meshes, and what stands then: as many lines as whole meshes, and an unfinished mesh with so many bytes.
+/// A failed call of the meshes, and what stands then: as many lines as whole meshes, and an unfinished mesh with so
+/// many bytes.
 fn mesh_case(call: MeshCall, status: Status, frames: usize, part: Option<usize>) -> FaultCase {
     let stands = Stands {
         part,

@@ -81,8 +81,8 @@ fn an_error_is_compared_exactly_and_told_as_a_decimal(rt: HostRuntime) -> Result
     Ok(())
 }
 
-/// A fit of the hill in which a call fails: the status, how many meshes there are, how many bytes the last has and whether it is
-/// finished, and how many bytes the report has.
+/// A fit of the hill in which a call fails: the status, how many meshes there are, how many bytes the last has and
+/// whether it is finished, and how many bytes the report has.
 fn run_failing(alloc: Global, faults: Faults) -> Result<(Status, usize, usize, bool, usize), Fail> {
     let words = ["fit", "g", "out", "budget", "4", "1"];
     let ran = run_words(alloc, &words, hill(), b"", faults)?;

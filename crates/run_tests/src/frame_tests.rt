@@ -190,7 +190,8 @@ fn a_frame_shows_the_planes_before_its_line(rt: HostRuntime) -> Result<(), Fail>
     check_reports(&rt, rt.alloc(), &cases)
 }
 
-/// A run of `mesh` over this grid and script, with this budget and spacing, how many meshes it leaves, and the last of them.
+/// A run of `mesh` over this grid and script, with this budget and spacing, how many meshes it leaves, and the last
+/// of them.
 #[derive(Clone, Copy)]
 struct MeshCase {
     grid: &'static [u8],

@@ -7,7 +7,8 @@ use roam_run::Status;
 use std::alloc::Global;
 use std::test::Fail;
 
-/// What is told of a grid that is refused for a byte in its header at this place, and of one that is refused for its magic number.
+/// What is told of a grid that is refused for a byte in its header at this place, and of one that is refused for its
+/// magic number.
 fn header_refusal(alloc: Global, place: usize) -> Result<String, Fail> {
     if place < 2 {
         return Ok(String::from_str(alloc, "grid refused: bad magic\n")?);

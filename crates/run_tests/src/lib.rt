@@ -2,8 +2,8 @@
 //! nothing outside can fail.
 //!
 //! For whoever changes the run. `calm_run` is proved for all words and files; the tests are
-//! tables of runs: reports, meshes, refusals, and every call of the outside that fails in turn. Their expected values are
-//! worked by hand, or come from the plain program of `checks/`. There is no rule of the mesher here.
+//! tables of runs: reports, meshes, refusals, and every call of the outside that fails in turn. Their expected values
+//! are worked by hand, or come from the plain program of `checks/`. There is no rule of the mesher here.
 
 #![tactic(auto)]
 

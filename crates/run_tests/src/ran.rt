@@ -1,7 +1,7 @@
 //! A run over objects in memory, and what it leaves, as plain values.
 //!
-//! The one call of `roam` stands here, and no function of this file has a clause on what it answers: so the proofs of the tests see
-//! nothing of its contract.
+//! The one call of `roam` stands here, and no function of this file has a clause on what it answers: so the proofs of
+//! the tests see nothing of its contract.
 
 ghost use Rattle.std.specs.Prelude.{◌≡◌, ◌-◌, ◌^◌, ◌<◌, ◌≤◌, false};
 
@@ -41,7 +41,8 @@ pub(crate) struct Ran {
     pub(crate) report: Vec<u8>,
 }
 
-/// The calls that fail: one of the shelf, one of the meshes, and the write of the report of this number; number 0 is none.
+/// The calls that fail: one of the shelf, one of the meshes, and the write of the report of this number; number 0 is
+/// none.
 #[derive(Clone, Copy)]
 pub(crate) struct Faults {
     pub(crate) shelf: ShelfCall,

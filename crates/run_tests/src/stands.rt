@@ -34,8 +34,8 @@ fn lines_in(bytes: &[u8]) -> Option<usize> {
     if is_whole { Some(lines) } else { None }
 }
 
-/// What stands of a calm run; none where anything else stands than its first meshes, of which the last may be unfinished, with
-/// the first of its bytes, and its first lines.
+/// What stands of a calm run; none where anything else stands than its first meshes, of which the last may be
+/// unfinished, with the first of its bytes, and its first lines.
 pub(crate) fn stands_of(ran: &Ran, calm: &Ran) -> Option<Stands> {
     let report = ran.report.as_slice();
     if !calm.report.as_slice().starts_with(report) || ran.meshes.len() > calm.meshes.len() {

@@ -1,8 +1,11 @@
 //! The words of `certify`.
 
-ghost use Rattle.std.specs.Prelude.{◌≡◌, ◌≤◌, ◌^◌, ◌&&◌, IfSome, length, map, string_bytes, codes, bytes_eq, unsigned_abs};
+ghost use Rattle.std.specs.Prelude.{◌≡◌, ◌≤◌, ◌^◌, ◌&&◌, IfSome, length, map, string_bytes, codes, bytes_eq};
+ghost use Rattle.std.specs.Prelude.{unsigned_abs};
 ghost use Rattle.std.specs.Option.{option_map};
-ghost use Rattle.word_laws.specs.Words.{budget_word, spacing_word, coordinate_word, camera_word, make_command, check_command, target_word, fit_make_command, fit_check_command, eight_command, command_of};
+ghost use Rattle.word_laws.specs.Words.{budget_word, spacing_word, coordinate_word, camera_word, make_command};
+ghost use Rattle.word_laws.specs.Words.{check_command, target_word, fit_make_command, fit_check_command, eight_command};
+ghost use Rattle.word_laws.specs.Words.{command_of};
 ghost use Rattle.run_words.specs.WordView.{command_seen, IsCommandInBounds};
 
 use crate::fit_words::{Target, target_in};
@@ -50,7 +53,8 @@ pub struct FitMakeWords<'a> {
     pub spacing: u32,
 }
 
-/// The words of `certify check-fit GRID OBJ CERT error E SPACING` and of `certify check-fit GRID OBJ CERT budget BUDGET SPACING`.
+/// The words of `certify check-fit GRID OBJ CERT error E SPACING` and of
+/// `certify check-fit GRID OBJ CERT budget BUDGET SPACING`.
 #[derive(Clone, Copy)]
 pub struct FitCheckWords<'a> {
     /// The name of the grid's file.
@@ -199,7 +203,8 @@ fn check_in<'a>(
     }))
 }
 
-/// A certificate of a fitted mesh is made, if what the mesh is fitted to and the spacing are numbers within their bounds.
+/// A certificate of a fitted mesh is made, if what the mesh is fitted to and the spacing are numbers within their
+/// bounds.
 pub(crate) fn make_fit_in<'a>(
     grid: &'a str,
     word: &str,

@@ -35,7 +35,8 @@ pub enum Target {
 /// The greatest error, in thousandths of a unit of height: 65535.999, which no height field exceeds.
 const GREATEST_ERROR: u64 = 65_535_999;
 
-/// A mesh is fitted, if its prefix has an accepted length, and error or budget and the spacing are numbers within their bounds.
+/// A mesh is fitted, if its prefix has an accepted length, and error or budget and the spacing are numbers within
+/// their bounds.
 pub(crate) fn fit_in<'a>(
     grid: &'a str,
     prefix: &'a str,

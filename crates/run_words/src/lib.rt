@@ -1,7 +1,7 @@
 //! The words of a command line, read into a command.
 //!
-//! For the crates that carry a command out. Nothing here opens a file, and nothing knows what makes a frame. It is a crate beside
-//! `run_files`, and not a part of it, so that the two are proved side by side.
+//! For the crates that carry a command out. Nothing here opens a file, and nothing knows what makes a frame. It is a
+//! crate beside `run_files`, and not a part of it, so that the two are proved side by side.
 
 #![tactic(auto)]
 

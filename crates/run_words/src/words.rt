@@ -1,8 +1,12 @@
 //! The words of a command line.
 
-ghost use Rattle.std.specs.Prelude.{◌≡◌, ◌≤◌, if◌then◌else◌, true, map, string_bytes, IfSome, ◌<◌, ◌&&◌, ◌==◌, length, codes, bytes_eq};
+ghost use Rattle.std.specs.Prelude.{◌≡◌, ◌≤◌, if◌then◌else◌, true, map, string_bytes, IfSome, ◌<◌, ◌&&◌, ◌==◌, length};
+ghost use Rattle.std.specs.Prelude.{codes, bytes_eq};
 ghost use Rattle.std.specs.Option.{option_map};
-ghost use Rattle.word_laws.specs.Words.{as_measures, Facts, OnGrid, budget_word, command_of, frames_command, greatest_level, greatest_seed, least_budget, greatest_budget, least_command, meshes_command, six_command, number_word, spacing_word, tolerance_word, try_command};
+ghost use Rattle.word_laws.specs.Words.{as_measures, Facts, OnGrid, budget_word, command_of, frames_command};
+ghost use Rattle.word_laws.specs.Words.{greatest_level, greatest_seed, least_budget, greatest_budget, least_command};
+ghost use Rattle.word_laws.specs.Words.{meshes_command, six_command, number_word, spacing_word, tolerance_word};
+ghost use Rattle.word_laws.specs.Words.{try_command};
 ghost use Rattle.word_laws.specs.Words.{is_prefix as is_prefix_seen};
 ghost use Rattle.run_words.specs.ShowView.{IsPrefixLength};
 ghost use Rattle.run_words.specs.WordView.{command_seen, show_for, IsMeshing, IsCommandInBounds};
@@ -21,7 +25,8 @@ use wedgie_tree::GREATEST_SPACING;
 #[derive(Clone, Copy)]
 pub enum Command<'a> {
     /// The frames of a script: `mesh GRID SCRIPT PREFIX BUDGET SPACING`, `strip GRID SCRIPT PREFIX BUDGET SPACING` and
-    /// `least GRID SCRIPT PREFIX TOLERANCE SPACING`, a mesh for each; `measure GRID SCRIPT BUDGET SPACING`, a line for each.
+    /// `least GRID SCRIPT PREFIX TOLERANCE SPACING`, a mesh for each; `measure GRID SCRIPT BUDGET SPACING`, a line
+    /// for each.
     Frames(FrameWords<'a>),
     /// `info GRID`: a line on the grid.
     Info(&'a str),
@@ -31,12 +36,14 @@ pub enum Command<'a> {
     Make(MakeWords<'a>),
     /// `certify check GRID OBJ CERT BUDGET SPACING`: whether a certificate is sound, and a mesh the one that it is of.
     Check(CheckWords<'a>),
-    /// `fit GRID PREFIX error E SPACING` and `fit GRID PREFIX budget BUDGET SPACING`: the best mesh for an error or a budget.
+    /// `fit GRID PREFIX error E SPACING` and `fit GRID PREFIX budget BUDGET SPACING`: the best mesh for an error or a
+    /// budget.
     Fit(FitWords<'a>),
-    /// `certify make-fit GRID error E SPACING` and `certify make-fit GRID budget BUDGET SPACING`: a certificate of a fitted mesh.
+    /// `certify make-fit GRID error E SPACING` and `certify make-fit GRID budget BUDGET SPACING`: a certificate of a
+    /// fitted mesh.
     MakeFit(FitMakeWords<'a>),
-    /// `certify check-fit GRID OBJ CERT error E SPACING` and `certify check-fit GRID OBJ CERT budget BUDGET SPACING`: whether such a
-    /// certificate is sound, and a mesh the one that it is of.
+    /// `certify check-fit GRID OBJ CERT error E SPACING` and `certify check-fit GRID OBJ CERT budget BUDGET SPACING`:
+    /// whether such a certificate is sound, and a mesh the one that it is of.
     CheckFit(FitCheckWords<'a>),
 }
 
@@ -136,7 +143,8 @@ fn try_in<'a>(word: &str, n: &str, seed: &str) -> Option<Command<'a>>
     }
 }
 
-/// Measures of the frames of a script, if the word asks for them, and budget and spacing are numbers within their bounds.
+/// Measures of the frames of a script, if the word asks for them, and budget and spacing are numbers within their
+/// bounds.
 fn measure_in<'a>(
     word: &str,
     grid: &'a str,
@@ -157,7 +165,8 @@ fn measure_in<'a>(
     }
 }
 
-/// The command of six words: that fits a mesh, that makes a certificate of such a mesh, or one that writes a mesh for each frame.
+/// The command of six words: that fits a mesh, that makes a certificate of such a mesh, or one that writes a mesh for
+/// each frame.
 fn mesh_in<'a>(
     word: &str,
     grid: &'a str,
@@ -187,8 +196,8 @@ pub(crate) fn is_prefix(prefix: &str) -> bool
     1 <= prefix.len() && prefix.len() <= LONGEST_PREFIX
 }
 
-/// The command with this word that writes a mesh for each frame, or None of another word, or of a prefix that is empty or too
-/// long.
+/// The command with this word that writes a mesh for each frame, or None of another word, or of a prefix that is
+/// empty or too long.
 fn meshes_in<'a>(
     word: &str,
     grid: &'a str,
@@ -217,8 +226,8 @@ fn meshes_in<'a>(
     frames_in(grid, script, meshing, budget, spacing)
 }
 
-/// The least meshes of a tolerance, if it and the spacing are numbers within their bounds. A script may put each budget in force
-/// that there is.
+/// The least meshes of a tolerance, if it and the spacing are numbers within their bounds. A script may put each
+/// budget in force that there is.
 fn least_in<'a>(
     grid: &'a str,
     script: &'a str,

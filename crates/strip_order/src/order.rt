@@ -7,7 +7,8 @@ ghost use Rattle.strip_order.specs.Run.{IsFront, IsArranged};
 
 use bintree_addr::Tri;
 
-/// The strip of a mesh from its leaves, depth first: each two neighbours share a whole edge, and so do the last and the first.
+/// The strip of a mesh from its leaves, depth first: each two neighbours share a whole edge, and so do the last and
+/// the first.
 ///
 /// So a graphics card can draw the mesh as one strip, and a walk can visit each triangle once and end beside its start.
 /// The order follows from the addresses alone, so the set and its n are no arguments.

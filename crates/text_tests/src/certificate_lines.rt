@@ -92,8 +92,8 @@ fn a_line_of_200_bytes_is_read_and_one_of_201_is_not(rt: HostRuntime) {
     assert_eq!(rt; two_lines(rt.alloc(), 201), [bad, bad]);
 }
 
-/// Reads these lines and writes their certificate twice: how many leaves and reasons it has, what the writes answer where the
-/// second fails, and whether the first has this text.
+/// Reads these lines and writes their certificate twice: how many leaves and reasons it has, what the writes answer
+/// where the second fails, and whether the first has this text.
 fn read_and_written(
     alloc: Global,
     lines: &[&str],

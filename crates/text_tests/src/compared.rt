@@ -50,7 +50,8 @@ fn certificate(alloc: Global, n: u32, numbers: &[u32]) -> Result<Cert, Fail>
     Ok(Cert::new(camera, leaves, Vec::new(alloc)))
 }
 
-/// Compares a file with the text of the quarters. A read gives so many bytes at most, and the read of this number fails.
+/// Compares a file with the text of the quarters. A read gives so many bytes at most, and the read of this number
+/// fails.
 fn quarters_beside(
     alloc: Global,
     spacing: u32,
@@ -163,7 +164,8 @@ fn written(alloc: Global, wedges: &Wedges, cert: &Cert) -> Result<MemMeshes, Fai
     Ok(out)
 }
 
-/// Compares what is written of 2,048 triangles with their text: whether there is a mesh, and what the comparison answers.
+/// Compares what is written of 2,048 triangles with their text: whether there is a mesh, and what the comparison
+/// answers.
 fn written_beside(alloc: Global) -> Result<Option<Result<Option<u64>, CompareFault>>, Fail> {
     let numbers = finest(alloc)?;
     let wedges = Wedges::build(alloc, Grid::flat(alloc, 5, 1)?)?;

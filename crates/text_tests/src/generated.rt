@@ -1,5 +1,5 @@
-//! Generated grids and scripts of `roam_gen`. The expected numbers are those of a transcription of the format into Python,
-//! which shares nothing with this crate.
+//! Generated grids and scripts of `roam_gen`. The expected numbers are those of a transcription of the format into
+//! Python, which shares nothing with this crate.
 
 use pgm_grid::{Grid, PgmFault, PgmReader};
 use roam_edge::{Failed, MemSink, NoMemory};
@@ -67,7 +67,8 @@ fn is_read_as(alloc: Global, file: &[u8], made: &Grid) -> Result<bool, PgmFault>
     Ok(is_alike && grid.heights() == made.heights())
 }
 
-/// Writes the grid of level 9 with seed 1: what that answers, the length and the checksum of the file, and whether it is read as the grid.
+/// Writes the grid of level 9 with seed 1: what that answers, the length and the checksum of the file, and whether it
+/// is read as the grid.
 fn level_nine(alloc: Global) -> Result<(Result<(), Failed>, usize, u64, bool), Fail> {
     let mut file = MemSink::new(alloc, &[], 526_355)?;
     let written = write_grid(9, 1, &mut file);

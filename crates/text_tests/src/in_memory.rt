@@ -28,8 +28,8 @@ fn a_calm_shelf_gives_the_first_file_of_a_name(rt: HostRuntime) {
     }
 }
 
-/// Whether two lines can be put into a sink with this room, of which the write of this number fails, and whether it then has
-/// these bytes.
+/// Whether two lines can be put into a sink with this room, of which the write of this number fails, and whether it
+/// then has these bytes.
 fn put_to_sink(alloc: Global, fails: u64, room: u32, want: &str) -> Result<[bool; 2], NoMemory> {
     let mut sink = MemSink::new(alloc, &[fails], u64::from(room))?;
     let put = put_lines(&mut sink);
@@ -53,8 +53,8 @@ fn a_sink_in_memory_fails_where_it_is_told(rt: HostRuntime) -> Result<(), Fail> 
     Ok(())
 }
 
-/// What a sink of meshes has of the one mesh that was put: how many meshes there are, and of the first whether it has its name, these bytes,
-/// and its end.
+/// What a sink of meshes has of the one mesh that was put: how many meshes there are, and of the first whether it has
+/// its name, these bytes, and its end.
 fn left_of(meshes: &MemMeshes, want: &str) -> (u64, bool, bool) {
     if meshes.count() == 0 {
         return (0, true, false);

@@ -1,9 +1,10 @@
-//! Tests of the crates that read and write texts: numbers, lines of scripts and of certificates, meshes, and what is generated; and of
-//! the shelves and sinks that carry them, with the kernels over rows of samples.
+//! Tests of the crates that read and write texts: numbers, lines of scripts and of certificates, meshes, and what is
+//! generated; and of the shelves and sinks that carry them, with the kernels over rows of samples.
 //!
-//! For whoever changes one of them. They stand here, above those crates, so that each of those is proved without tests, and once. A test
-//! calls what is public, and shows what no clause says: printed text, that a call succeeds where there is memory, the outside failing at
-//! a certain call. Expected values are worked by hand, or come from another program. Nothing here runs outside tests.
+//! For whoever changes one of them. They stand here, above those crates, so that each of those is proved without
+//! tests, and once. A test calls what is public, and shows what no clause says: printed text, that a call succeeds
+//! where there is memory, the outside failing at a certain call. Expected values are worked by hand, or come from
+//! another program. Nothing here runs outside tests.
 
 #![tactic(auto)]
 

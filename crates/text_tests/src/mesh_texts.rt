@@ -189,8 +189,8 @@ fn a_mesh_is_written_as_its_text(rt: HostRuntime) -> Result<(), Fail> {
     Ok(())
 }
 
-/// Writes the quarters where this call fails: whether that ends well, how many meshes are there, and whether the first of them
-/// has these bytes and no end.
+/// Writes the quarters where this call fails: whether that ends well, how many meshes are there, and whether the
+/// first of them has these bytes and no end.
 fn quarters_cut(
     alloc: Global,
     wedges: &Wedges,
@@ -239,7 +239,8 @@ fn is_first_piece(whole: &MemMeshes, cut: &MemMeshes) -> bool {
     are_ended && text.len() == WHOLE && is_cut
 }
 
-/// Writes a mesh twice, the second time with a second piece that fails: whether each ends well, and whether the first piece is left.
+/// Writes a mesh twice, the second time with a second piece that fails: whether each ends well, and whether the first
+/// piece is left.
 fn second_piece_fails(alloc: Global) -> Result<[bool; 3], Fail> {
     let mut whole = MemMeshes::new(alloc, &[], 1, 65536)?;
     let mut cut = MemMeshes::new(alloc, &[MeshCall::Write(2)], 1, 65536)?;

@@ -1,4 +1,5 @@
-//! Lines of a script for `roam_script`: of each kind, and each refusal in its place. All answers are worked by hand from the format.
+//! Lines of a script for `roam_script`: of each kind, and each refusal in its place. All answers are worked by hand
+//! from the format.
 
 use roam_script::{Limits, Line, ScriptFault, first_field, read_line, without_cr};
 use std::alloc::{AllocError, Global};

@@ -1,6 +1,7 @@
 //! Laws of the definitions, each a clause of a function with an empty body.
 
-ghost use Rattle.std.specs.Prelude.{◌≡◌, ℕ, ◌+◌, ◌*◌, ◌/◌, ◌<◌, ◌≤◌, Bool, IsTrue, List, [], ◌∷◌, length, All, Contains, count_by, ◌↔◌, ◌^◌};
+ghost use Rattle.std.specs.Prelude.{◌≡◌, ℕ, ◌+◌, ◌*◌, ◌/◌, ◌<◌, ◌≤◌, Bool, IsTrue, List, [], ◌∷◌, length, All};
+ghost use Rattle.std.specs.Prelude.{Contains, count_by, ◌↔◌, ◌^◌};
 ghost use Rattle.mesh_defs.specs.Triangle.{level_of, corners_of, IsAddress, IsSplittable};
 ghost use Rattle.mesh_defs.specs.Tiling.{IsSample, is_inside, Tiles, IsConforming};
 ghost use Rattle.mesh_defs.specs.ClosedSet.{IsClosed, leaves_of};

@@ -3,7 +3,9 @@
 ghost use Rattle.std.specs.Prelude.{◌≡◌, ℕ, ◌+◌, ◌*◌, ◌/◌, ◌%◌, ◌^◌, ◌<◌, ◌≤◌, ◌==◌, slice_index, slice_set, length};
 ghost use Rattle.mesh_defs.specs.Triangle.{level_of};
 ghost use Rattle.edge_laws.specs.Slots.{address_at, IsLive, split_set};
-ghost use Rattle.triangle_pool.specs.Links.{node_at, with_link, ArePairs, IsAcross, IsRelinked, IsForest, MayHalve, AreInnerLinks, ArePlacedNodes, MaySplit, MaySplitMate, MayJoin, IsLeafAgain, MayMerge};
+ghost use Rattle.triangle_pool.specs.Links.{node_at, with_link, ArePairs, IsAcross, IsRelinked, IsForest, MayHalve};
+ghost use Rattle.triangle_pool.specs.Links.{AreInnerLinks, ArePlacedNodes, MaySplit, MaySplitMate, MayJoin};
+ghost use Rattle.triangle_pool.specs.Links.{IsLeafAgain, MayMerge};
 ghost use Rattle.mesh_defs.specs.ClosedSet.{IsClosed};
 ghost use Rattle.mesh_defs.specs.declared.level.TheConstants.{GREATEST_LEVEL};
 ghost use Rattle.std.specs.Prelude.{◌≢◌};
@@ -152,7 +154,8 @@ pub fn split_diamond(
     requires closed { IsClosed n (split_set pairs.old) }
     requires may_split { MaySplit n pairs.old s k (address_at pairs.old s) }
     requires second { MaySplitMate pairs.old t k j (address_at pairs.old s) }
-    ensures pairs { pairs.new ≡ slice_set (slice_set pairs.old k (address_at pairs.old s)) j (mate_of (address_at pairs.old s)) }
+    ensures pairs { pairs.new
+        ≡ slice_set (slice_set pairs.old k (address_at pairs.old s)) j (mate_of (address_at pairs.old s)) }
     ensures forest { IsForest pairs.new parents.new nodes.new }
     ensures closed { IsClosed n (split_set pairs.new) }
 {

@@ -1,6 +1,7 @@
 //! The nodes, linked right and closed.
 
-ghost use Rattle.std.specs.Prelude.{◌≡◌, ◌≢◌, ◌⊎◌, ◌↔◌, ℕ, ◌+◌, ◌-◌, ◌*◌, ◌/◌, ◌%◌, ◌^◌, ◌<◌, ◌≤◌, IfOk, IsTrue, false, true, length, slice_index, slice_set};
+ghost use Rattle.std.specs.Prelude.{◌≡◌, ◌≢◌, ◌⊎◌, ◌↔◌, ℕ, ◌+◌, ◌-◌, ◌*◌, ◌/◌, ◌%◌, ◌^◌, ◌<◌, ◌≤◌, IfOk, IsTrue, false};
+ghost use Rattle.std.specs.Prelude.{true, length, slice_index, slice_set};
 ghost use Rattle.mesh_defs.specs.declared.level.TheConstants.{GREATEST_LEVEL};
 ghost use Rattle.edge_laws.specs.Edge.{mate_of, owner};
 ghost use Rattle.edge_laws.specs.Net.{nowhere};
@@ -95,7 +96,9 @@ impl Nodes {
         ensures grid { self.now.n ≤ GREATEST_LEVEL }
         ensures root { has_children self.now.pairs 1 ≡ true }
         ensures base { ((mate_of (address_at self.now.pairs s) ≡ 0) × (result ≡ nowhere))
-            ⊎ ((1 ≤ mate_of (address_at self.now.pairs s)) × (address_at self.now.pairs result ≡ owner (has_children self.now.pairs) (mate_of (address_at self.now.pairs s)))) }
+            ⊎ ((1 ≤ mate_of (address_at self.now.pairs s))
+            × (address_at self.now.pairs result
+            ≡ owner (has_children self.now.pairs) (mate_of (address_at self.now.pairs s)))) }
     {
         self.nodes[s as usize].base
     }
@@ -140,7 +143,9 @@ impl Nodes {
         requires may_split { MaySplit self.old.n self.old.pairs s k (address_at self.old.pairs s) }
         requires second { MaySplitMate self.old.pairs t k j (address_at self.old.pairs s) }
         ensures n { self.new.n ≡ self.old.n }
-        ensures pairs { self.new.pairs ≡ slice_set (slice_set self.old.pairs k (address_at self.old.pairs s)) j (mate_of (address_at self.old.pairs s)) }
+        ensures pairs { self.new.pairs
+            ≡ slice_set (slice_set self.old.pairs k (address_at self.old.pairs s)) j
+            (mate_of (address_at self.old.pairs s)) }
     {
         split_diamond(
             self.n,

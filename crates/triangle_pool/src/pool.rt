@@ -1,6 +1,8 @@
 //! A mesh as linked triangles, in a pool of nodes that are all made at the start.
 
-ghost use Rattle.std.specs.Prelude.{◌≡◌, ◌≢◌, ◌↔◌, ℕ, ◌+◌, ◌-◌, ◌*◌, ◌/◌, ◌%◌, ◌^◌, ◌<◌, ◌≤◌, ◌++◌, IsTrue, OnOk, IfOk, IfSome, IsNone, false, true, List, [], length, map, slice_index, slice_set, ◌∷◌, replicate};
+ghost use Rattle.std.specs.Prelude.{◌≡◌, ◌≢◌, ◌↔◌, ℕ, ◌+◌, ◌-◌, ◌*◌, ◌/◌, ◌%◌, ◌^◌, ◌<◌, ◌≤◌, ◌++◌, IsTrue, OnOk, IfOk};
+ghost use Rattle.std.specs.Prelude.{IfSome, IsNone, false, true, List, [], length, map, slice_index, slice_set, ◌∷◌};
+ghost use Rattle.std.specs.Prelude.{replicate};
 ghost use Rattle.mesh_defs.specs.declared.counters.TheConstants.{MOST_CHANGES};
 ghost use Rattle.mesh_defs.specs.Triangle.{level_of, corners_of, OnOneSide};
 ghost use Rattle.mesh_defs.specs.ClosedSet.{IsClosed, leaves_of};
@@ -9,9 +11,11 @@ ghost use Rattle.arrayvec.specs.ArrayVec.{array_vec_len};
 ghost use Rattle.edge_laws.specs.Edge.{mate_of, owner};
 ghost use Rattle.edge_laws.specs.Net.{nowhere};
 ghost use Rattle.edge_laws.specs.LeafAcross.{IsLeafAcross};
-ghost use Rattle.edge_laws.specs.Slots.{address_at, has_children, IsLive, split_set, room_of, IsPool, IsSplit, IsMergeReady, IsMerge, HasLeaf, IsMateLive, diamond_size};
+ghost use Rattle.edge_laws.specs.Slots.{address_at, has_children, IsLive, split_set, room_of, IsPool, IsSplit};
+ghost use Rattle.edge_laws.specs.Slots.{IsMergeReady, IsMerge, HasLeaf, IsMateLive, diamond_size};
 ghost use Rattle.triangle_pool.specs.declared.pool.TheConstants.{MOST_LEAVES};
-ghost use Rattle.triangle_pool.specs.Answer.{triangle_at, slot_corners, IsSlotAcross, numbers, AreChildren, IsBirth, children_of};
+ghost use Rattle.triangle_pool.specs.Answer.{triangle_at, slot_corners, IsSlotAcross, numbers, AreChildren, IsBirth};
+ghost use Rattle.triangle_pool.specs.Answer.{children_of};
 
 use crate::forest::NOWHERE;
 use crate::free::FreePairs;
@@ -28,8 +32,8 @@ pub const MOST_LEAVES: u32 = 1_048_576;
 /// The triangles of a mesh and those above them, each at a slot, with links to parent, children and neighbours.
 ///
 /// A mesh of so many leaves wants a slot for each leaf and each triangle that is split; all are made by `new`, and no
-/// other call takes memory or is refused. A triangle keeps its slot from the split that makes it to the merge that takes
-/// it away.
+/// other call takes memory or is refused. A triangle keeps its slot from the split that makes it to the merge that
+/// takes it away.
 /// Source: Duchaineau et al., "ROAMing Terrain", IEEE Visualization 1997, the parts on the triangle bintree and on
 /// split and merge; that slots come in pairs of siblings is this project's own.
 #[derive(Drop)]
@@ -49,7 +53,13 @@ impl Model for Pool {
 
     ghost Value = { PoolState };
 
-    ghost view = { λ p. record { n = p.nodes.n; most = p.most; pairs = p.nodes.pairs; splits = p.splits; merges = p.merges } };
+    ghost view = { λ p. record {
+      n = p.nodes.n;
+      most = p.most;
+      pairs = p.nodes.pairs;
+      splits = p.splits;
+      merges = p.merges;
+    } };
 
     ghost invariant = { λ p. HasPairs p.most p.nodes.pairs p.free };
 }
@@ -146,8 +156,8 @@ impl Pool {
 
     /// Splits the leaf, and with it its mate, where it has one.
     ///
-    /// `may_split` tells whether the leaf across the base is its mate, or there is none. Where it is a coarser leaf, that one
-    /// is split first: a forced split.
+    /// `may_split` tells whether the leaf across the base is its mate, or there is none. Where it is a coarser leaf,
+    /// that one is split first: a forced split.
     /// Cost (not proved): a few links, whatever the size of the mesh.
     pub fn split(&mut self, s: Slot) -> Born
         requires leaf { HasLeaf self.old.pairs s.0 }
@@ -203,7 +213,8 @@ impl Pool {
         ensures kept { result.kept ≡ s }
         ensures other { IfSome result.other (λ t. triangle_at self.old t ≡ mate_of (triangle_at self.old s)) }
         ensures alone { IsNone result.other ↔ mate_of (triangle_at self.old s) ≡ 0 }
-        ensures freed { map (address_at self.old.pairs) (numbers result.freed.items) ≡ children_of (triangle_at self.old s) }
+        ensures freed { map (address_at self.old.pairs) (numbers result.freed.items)
+            ≡ children_of (triangle_at self.old s) }
         ensures room { room_of self.new.pairs ≡ room_of self.old.pairs + diamond_size (triangle_at self.old s) }
         ensures splits { self.new.splits ≡ self.old.splits }
         ensures merges { self.new.merges ≡ self.old.merges + diamond_size (triangle_at self.old s) }
@@ -302,10 +313,13 @@ impl Pool {
     /// The slot of the leaf across the base.
     pub fn base(&self, s: Slot) -> Option<Slot>
         requires leaf { HasLeaf self.now.pairs s.0 }
-        ensures none { IsNone result ↔ OnOneSide (2 ^ self.now.n) (slot_corners self.now s).v0 (slot_corners self.now s).v1 }
-        ensures some { IfSome result (IsSlotAcross self.now s (slot_corners self.now s).v0 (slot_corners self.now s).v1) }
+        ensures none { IsNone result
+            ↔ OnOneSide (2 ^ self.now.n) (slot_corners self.now s).v0 (slot_corners self.now s).v1 }
+        ensures some { IfSome result
+            (IsSlotAcross self.now s (slot_corners self.now s).v0 (slot_corners self.now s).v1) }
         ensures border { IsNone result ↔ mate_of (triangle_at self.now s) ≡ 0 }
-        ensures owner { IfSome result (λ t. triangle_at self.now t ≡ owner (has_children self.now.pairs) (mate_of (triangle_at self.now s))) }
+        ensures owner { IfSome result (λ t. triangle_at self.now t
+            ≡ owner (has_children self.now.pairs) (mate_of (triangle_at self.now s))) }
         ensures valid { IsPool self.now.n self.now.pairs }
     {
         let _n = self.nodes.n();
@@ -315,8 +329,10 @@ impl Pool {
     /// The slot of the leaf across the left leg.
     pub fn left(&self, s: Slot) -> Option<Slot>
         requires leaf { HasLeaf self.now.pairs s.0 }
-        ensures none { IsNone result ↔ OnOneSide (2 ^ self.now.n) (slot_corners self.now s).apex (slot_corners self.now s).v0 }
-        ensures some { IfSome result (IsSlotAcross self.now s (slot_corners self.now s).apex (slot_corners self.now s).v0) }
+        ensures none { IsNone result
+            ↔ OnOneSide (2 ^ self.now.n) (slot_corners self.now s).apex (slot_corners self.now s).v0 }
+        ensures some { IfSome result
+            (IsSlotAcross self.now s (slot_corners self.now s).apex (slot_corners self.now s).v0) }
         ensures valid { IsPool self.now.n self.now.pairs }
     {
         let _n = self.nodes.n();
@@ -326,8 +342,10 @@ impl Pool {
     /// The slot of the leaf across the right leg.
     pub fn right(&self, s: Slot) -> Option<Slot>
         requires leaf { HasLeaf self.now.pairs s.0 }
-        ensures none { IsNone result ↔ OnOneSide (2 ^ self.now.n) (slot_corners self.now s).v1 (slot_corners self.now s).apex }
-        ensures some { IfSome result (IsSlotAcross self.now s (slot_corners self.now s).v1 (slot_corners self.now s).apex) }
+        ensures none { IsNone result
+            ↔ OnOneSide (2 ^ self.now.n) (slot_corners self.now s).v1 (slot_corners self.now s).apex }
+        ensures some { IfSome result
+            (IsSlotAcross self.now s (slot_corners self.now s).v1 (slot_corners self.now s).apex) }
         ensures valid { IsPool self.now.n self.now.pairs }
     {
         let _n = self.nodes.n();

@@ -8,8 +8,8 @@ ghost use Rattle.vertex_laws.specs.Vertex.{is_mesh_vertex, centre_of, IsSquareCo
 
 /// The vertices of the mesh of a closed set are the corners of the square and the centres of its members.
 ///
-/// `centre`: the centre of a triangle is a vertex exactly where the triangle is a member. `same`: where two closed sets agree on the
-/// triangles whose centre a point is, it is a vertex of both meshes or of neither.
+/// `centre`: the centre of a triangle is a vertex exactly where the triangle is a member. `same`: where two closed
+/// sets agree on the triangles whose centre a point is, it is a vertex of both meshes or of neither.
 pub fn vertex_laws()
     ensures place { (n : ℕ) (has : ℕ → Bool) (p : Point) → IsClosed n has →
         (IsTrue (is_mesh_vertex n (leaves_of n has) p) ↔ (IsSquareCorner (2 ^ n) p ⊎ IsCentre n has p)) }

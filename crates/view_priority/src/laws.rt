@@ -54,16 +54,20 @@ pub fn distance_laws()
 /// What a triangle passes on to its children, that it is Outside and that it is Inside; and that the lengths of
 /// moves add up: no way round is shorter than the move itself.
 pub fn view_laws()
-    ensures outside_left { (n : ℕ) (heights : List ℕ) (spacing : ℕ) (planes : List ViewPlane) (a : ℕ) → IsSplittable n a →
+    ensures outside_left { (n : ℕ) (heights : List ℕ) (spacing : ℕ) (planes : List ViewPlane) (a : ℕ) →
+        IsSplittable n a →
         mark_of planes (box_of n heights spacing a) ≡ Mark.Outside →
         mark_of planes (box_of n heights spacing (2 * a)) ≡ Mark.Outside }
-    ensures outside_right { (n : ℕ) (heights : List ℕ) (spacing : ℕ) (planes : List ViewPlane) (a : ℕ) → IsSplittable n a →
+    ensures outside_right { (n : ℕ) (heights : List ℕ) (spacing : ℕ) (planes : List ViewPlane) (a : ℕ) →
+        IsSplittable n a →
         mark_of planes (box_of n heights spacing a) ≡ Mark.Outside →
         mark_of planes (box_of n heights spacing (2 * a + 1)) ≡ Mark.Outside }
-    ensures inside_left { (n : ℕ) (heights : List ℕ) (spacing : ℕ) (planes : List ViewPlane) (a : ℕ) → IsSplittable n a →
+    ensures inside_left { (n : ℕ) (heights : List ℕ) (spacing : ℕ) (planes : List ViewPlane) (a : ℕ) →
+        IsSplittable n a →
         mark_of planes (box_of n heights spacing a) ≡ Mark.Inside →
         mark_of planes (box_of n heights spacing (2 * a)) ≡ Mark.Inside }
-    ensures inside_right { (n : ℕ) (heights : List ℕ) (spacing : ℕ) (planes : List ViewPlane) (a : ℕ) → IsSplittable n a →
+    ensures inside_right { (n : ℕ) (heights : List ℕ) (spacing : ℕ) (planes : List ViewPlane) (a : ℕ) →
+        IsSplittable n a →
         mark_of planes (box_of n heights spacing a) ≡ Mark.Inside →
         mark_of planes (box_of n heights spacing (2 * a + 1)) ≡ Mark.Inside }
     ensures no_move { (camera : CameraAt) → move_length camera camera ≡ 0 }

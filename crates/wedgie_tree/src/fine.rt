@@ -189,7 +189,8 @@ fn wedge_4(grid: &Grid, tri: Tri, places: Places) -> Wedge
     over(grid, tri, places, left, right)
 }
 
-/// The wedge of a triangle of the last levels, whose corners have these places, from the heights of the points that it holds.
+/// The wedge of a triangle of the last levels, whose corners have these places, from the heights of the points that
+/// it holds.
 ///
 /// Cost (not proved): at most 15 heights and 15 joins.
 pub(crate) fn fine_wedge_at(grid: &Grid, tri: Tri, places: Places) -> Wedge

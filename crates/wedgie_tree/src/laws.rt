@@ -44,7 +44,8 @@ pub fn wedge_laws()
 /// What a change of heights leaves as it was: the thickness and the box of each triangle that holds no
 /// point whose height changed.
 pub fn edit_laws()
-    ensures same_thickness { (n : ℕ) (heights others : List ℕ) (a : ℕ) → 2 ≤ a → level_of a ≤ 2 * n → AgreesOn n heights others a →
+    ensures same_thickness { (n : ℕ) (heights others : List ℕ) (a : ℕ) → 2 ≤ a → level_of a ≤ 2 * n →
+        AgreesOn n heights others a →
         thickness_of n heights a ≡ thickness_of n others a }
     ensures same_box { (n : ℕ) (heights others : List ℕ) (spacing a : ℕ) → AgreesOn n heights others a →
         box_of n heights spacing a ≡ box_of n others spacing a }

@@ -110,7 +110,8 @@ pub fn mend(table: &mut [Wedge], grid: &Grid, area: Area)
     mend_under(table, grid, area, above_diagonal, above_diagonal.corners(n));
 }
 
-/// Fills the entries of a triangle, whose corners have these places, and of all its descendants, and answers its own wedge.
+/// Fills the entries of a triangle, whose corners have these places, and of all its descendants, and answers its own
+/// wedge.
 ///
 /// `mend_under` over an area that each triangle meets does the same, and asks each of them.
 fn fill_under(table: &mut [Wedge], grid: &Grid, tri: Tri, places: Places) -> Wedge

@@ -1,6 +1,7 @@
 //! A grid with the thickness and the box of each of its triangles.
 
-ghost use Rattle.std.specs.Prelude.{◌≡◌, ℕ, ◌+◌, ◌*◌, ◌<◌, ◌≤◌, ◌^◌, IfOk, pos, ◌≤ℤ◌, true, length, slice_index, slice_set, All};
+ghost use Rattle.std.specs.Prelude.{◌≡◌, ℕ, ◌+◌, ◌*◌, ◌<◌, ◌≤◌, ◌^◌, IfOk, pos, ◌≤ℤ◌, true, length, slice_index};
+ghost use Rattle.std.specs.Prelude.{slice_set, All};
 ghost use Rattle.roam_lanes.specs.Raising.{least_change, greatest_change};
 ghost use Rattle.mesh_defs.specs.HeightField.{IsHeightField, height_at, place_of};
 ghost use Rattle.mesh_defs.specs.State.{is_in_area, raised_heights};
