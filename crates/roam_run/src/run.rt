@@ -33,8 +33,8 @@ use std::alloc::Global;
 pub struct Run {
     /// How the run ended.
     pub status: Status,
-    /// The engine of `mesh`, `strip`, `measure` and `try`, as the last line left it: there exactly with `Done` and
-    /// `ScriptRefused`.
+    /// Of `mesh`, `strip`, `measure` and `try`, if they end `Done` or `ScriptRefused`: the engine, as the last line
+    /// that was carried out left it. Else none.
     pub engine: Option<Engine>,
 }
 
@@ -75,25 +75,30 @@ impl Run {
 
 /// Carries out the words of a command line, those after the program's name.
 ///
-/// - `mesh` reads a grid and a script from the shelf, and writes a mesh for each frame line, and then a line of the
-///   report; `strip` does so with the triangles in the order of their strip; `least` with the least mesh of a
-///   tolerance; `measure` writes a line alone, on how far the mesh is from the surface.
-/// - `fit` reads a grid, and writes the best mesh of it for an error or a budget, and a line.
+/// - `mesh` reads a grid and a script from the shelf, where files are opened by their names. For each `frame` line of
+///   the script it writes the best mesh within the budget, and then a line of the report; `strip` does so with the
+///   triangles in the order of their strip; `least` with the least mesh of a tolerance; `measure` writes a line alone,
+///   on how far the best mesh is from the surface.
+/// - `fit` reads a grid, and writes its fitted mesh for an error or a budget, and a line.
 /// - `certify make` and `certify make-fit` read a grid, and write a certificate of its best mesh, or of its fitted one;
 ///   `certify check` and `certify check-fit` read one beside a mesh, and write whether the mesh is certified by it.
 /// - `info` reads a grid, and writes a line on it. `try` reads nothing: it makes a grid and a script from a level and
 ///   a seed, and writes a line with the sums of their frames.
 ///
-/// Files are read and meshes written in pieces. A mesh is finished before its line is written, which is proved where
-/// the write of either fails (`ends`). The first call that fails ends the run: proved is that an object that had not
-/// failed before the run is not called again once a call of it has failed (`leaves`).
-/// Where shelf and sinks tell what they hold, as those in memory do, the clauses speak of the bytes. Real files tell
-/// nothing. Over them `causes` and `untouched` hold, and of `leaves` and `ends` what they say of counts: how many
-/// files were opened, that the last one was read to its end, and which sink has failed.
-/// All memory is taken before a script is opened: a run without memory has opened none (`ends`).
-/// Cost (not proved): a few steps a byte of the files; for each frame that of `Engine::frame`, which is what has
-/// changed since the frame before, or of `Least::frame`, two passes over the grid; for every frame of `mesh` the
-/// writing of its mesh.
+/// Files are read and meshes written in pieces. A mesh is finished before its line is written, as shows where the
+/// write of either fails (`ends`). The first call that fails ends the run. Proved of this: each of shelf, meshes and
+/// report that had not failed before the run is not called again once a call of it has failed (`leaves`); and where
+/// contents are told, nothing is written after a write that failed (`ends`).
+/// All memory is taken before a script is opened: a run that ends NoMemory has opened no script (`ends`).
+///
+/// A shelf and sinks in memory tell what they hold, in ghost values, and the clauses speak of their bytes. Real files
+/// tell no contents. Over them `causes`, `untouched` and all of `leaves` hold, and `ends` says how many files were
+/// opened before a read failed or memory ran out; of a command that reads files, `best`, `certified` and the rest of
+/// `ends` say nothing. But one body is proved for every shelf and sink, and a body cannot look at ghosts: what it does
+/// where contents are told it does over real files too, if these hand on names and bytes as they are given.
+///
+/// Cost (not proved): a few steps a byte of the files; for each frame that of `Engine::frame`, which goes by what has
+/// changed since the frame before, or of `Least::frame`, two passes over the grid; for each mesh its writing.
 pub fn roam<F: Shelf, M: MeshSink, R: Sink>(
     alloc: Global,
     words: &[String],
@@ -107,12 +112,13 @@ pub fn roam<F: Shelf, M: MeshSink, R: Sink>(
     requires report_faults { R.faults report.old < 2 ^ 64 - 1 }
     requires opens { F.opens shelf.old ≤ 2 ^ 63 }
 
-    // (Counts stand still at 2 ^ 64 - 1, so a rise could not be seen there. The first moment is before the run, the
-    // second after it; F.Shelf is what F tells as a Shelf.)
+    // (Before the run no mesh is begun and not finished. Counts stand still at 2 ^ 64 - 1, so a rise could not be seen
+    // there. In each clause the first moment is before the run, the second after it; F.Shelf is what F tells as a
+    // Shelf.)
     //
-    // The meshes, where shelf and sink tell them: each finished one is the right one for its command, whatever the
-    // status; one that `certify check` accepts is optimal, and one that `certify check-fit` accepts the best for its
-    // error or budget.
+    // The meshes, where shelf and sink tell them: each one that is finished is the right one for its command, whatever
+    // the status. One that is checked and certified, whoever made it, is optimal (`certify check`), or has the fewest
+    // triangles for its error or the least error for its budget (`certify check-fit`).
     ensures best { KeepsBestMeshes (moment F.Shelf M.MeshSink R.Sink shelf.old meshes.old report.old)
         (moment F.Shelf M.MeshSink R.Sink shelf.new meshes.new report.new)
         (map string_bytes words.now) result.status }
@@ -120,7 +126,7 @@ pub fn roam<F: Shelf, M: MeshSink, R: Sink>(
         (moment F.Shelf M.MeshSink R.Sink shelf.new meshes.new report.new)
         (map string_bytes words.now) result.status }
 
-    // What stands after each status, and how the outside and the engine are left.
+    // What stands after each status, and how shelf, sinks and engine are left.
     ensures ends { EndsByStatus (moment F.Shelf M.MeshSink R.Sink shelf.old meshes.old report.old)
         (moment F.Shelf M.MeshSink R.Sink shelf.new meshes.new report.new)
         (command_of (map string_bytes words.now)) result.status (option_map engine_seen result.engine) }
@@ -128,9 +134,10 @@ pub fn roam<F: Shelf, M: MeshSink, R: Sink>(
         (moment F.Shelf M.MeshSink R.Sink shelf.new meshes.new report.new)
         (command_of (map string_bytes words.now)) result.status (option_map engine_seen result.engine) }
 
-    // What words and files determine. These are laws of outcomes and not of this run, which has one by `ends`: there
-    // is one, and but for certificates one alone; where what is read is accepted its status is Done; and what the
-    // line of an engine's frame tells of blocking is a certificate that its mesh is optimal.
+    // What words and files determine. These clauses speak of no run, but of the outcomes with which `ends` compares
+    // one. For any files there is an outcome; there is no other, unless a certificate is made, of which several are
+    // right; where all that is read is accepted its status is Done; and in each of its engine's frames the triangle
+    // that blocks proves the mesh optimal.
     ensures some_outcome { (files : List NamedFile) →
         (end : Outcome) × IsOutcome (command_of (map string_bytes words.now)) files end }
     ensures one_outcome { (files : List NamedFile) (end other : Outcome) →
@@ -142,7 +149,7 @@ pub fn roam<F: Shelf, M: MeshSink, R: Sink>(
         IsOutcome (command_of (map string_bytes words.now)) files end → end.status ≡ Status.Done }
     ensures certificate { TellsCertificates (map string_bytes words.now) }
 
-    // The causes.
+    // The causes of Usage, ReadFault and WriteFault, and which commands may end otherwise; Usage touches nothing.
     ensures causes { IsCaused (moment F.Shelf M.MeshSink R.Sink shelf.old meshes.old report.old)
         (moment F.Shelf M.MeshSink R.Sink shelf.new meshes.new report.new)
         (command_of (map string_bytes words.now)) result.status }

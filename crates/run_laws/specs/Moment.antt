@@ -1,5 +1,5 @@
--- The moment: what the outside of a run tells before it or behind it, and what calls do between two. This project's own
--- words.
+-- The moment: what the outside of a run, which is a shelf, a sink of meshes and a report, tells before the run or after
+-- it, and what calls do between two. This project's own words.
 -- Words: Moment, moment, OnlyReads, SameMeshes, OnlyWrites, Does.
 use Rattle.std.specs.Prelude.{◌≡◌, ℕ, Bool, List, [], Result, OnOk, OnErr}
 use Rattle.roam_edge.specs.declared.shelf.Shelf as reading
@@ -10,8 +10,8 @@ use Rattle.run_laws.specs.Act.{Act, Told, sinks_tell, Stands, IsCutShort, meshes
 use Rattle.run_laws.specs.Cause.{WritesHaveCause}
 use Rattle.run_laws.specs.Promise.{Seen, shelf_tells}
 
--- what the shelf tells, what the two sinks tell, whether a mesh is begun and not finished, how often the shelf has
--- failed, and whether a call of each of the three came after one that had failed
+-- what the shelf tells; what the two sinks tell, and how often each of them has failed; whether a mesh is begun and not
+-- finished; how often the shelf has failed; and whether each of the three is late: called after a call of it had failed
 pub record Moment : Type 0 where
   pub shelf : Seen
   pub sinks : Told
@@ -34,7 +34,7 @@ moment f m r files meshes report = record {
   report_late = r.late report;
 }
 
--- no sink was called, and the shelf has the same files
+-- the sinks tell what they told, and the shelf has the same files
 pub record OnlyReads (before now : Moment) : Type 0 where
   pub files : now.shelf.files ≡ before.shelf.files
   pub sinks : now.sinks ≡ before.sinks
@@ -42,15 +42,15 @@ pub record OnlyReads (before now : Moment) : Type 0 where
   pub mesh_late : now.mesh_late ≡ before.mesh_late
   pub report_late : now.report_late ≡ before.report_late
 
--- the sink of meshes tells what it told: its meshes, its faults, and whether one is under way
+-- the sink of meshes tells what it told: its meshes, its faults, whether one is under way, and whether it is late
 pub record SameMeshes (before now : Moment) : Type 0 where
   pub meshes : now.sinks.meshes ≡ before.sinks.meshes
   pub faults : now.sinks.mesh_faults ≡ before.sinks.mesh_faults
   pub under_way : now.under_way ≡ before.under_way
   pub late : now.mesh_late ≡ before.mesh_late
 
--- The shelf was not called. The call fails exactly where a count of the sinks rose, and else no other mesh is under way
--- than before.
+-- The shelf tells what it told. The call fails exactly where a count of faults of the sinks rose, and else a mesh is
+-- under way exactly where one was before.
 pub record OnlyWrites {T E : Type 0} (before now : Moment) (answer : Result T E) : Type 0 where
   pub shelf : now.shelf ≡ before.shelf
   pub shelf_faults : now.shelf_faults ≡ before.shelf_faults
@@ -61,7 +61,7 @@ pub record OnlyWrites {T E : Type 0} (before now : Moment) (answer : Result T E)
   pub meshes_in_time : IsInTime before.mesh_late before.sinks.mesh_faults now.mesh_late
   pub report_in_time : IsInTime before.report_late before.sinks.report_faults now.report_late
 
--- These acts were done, or cut short where the call fails. Where none is a mesh the sink of meshes is as it was.
+-- These acts were done, or cut short where the call fails. Where none is a mesh the sink of meshes tells what it told.
 pub record Does {T E : Type 0} (before now : Moment) (acts : List Act) (answer : Result T E) : Type 0 where
   pub only : OnlyWrites before now answer
   pub done : OnOk answer (Stands before.sinks now.sinks acts)

@@ -1,9 +1,9 @@
 -- What a run promises: the meshes, what stands, the causes. Each speaks of the moments before the run and after it
 -- (`now`), of the words of its command line or of the command that they are, of its status, and of the engine that it
 -- leaves. This project's own.
--- Three words from elsewhere: `Grows old new more` says that what was told before is told with just `more` at its end,
--- and nothing of what is not told; `IsInTime` that an object which had not failed, and so was not called after a
--- failure, is not called after one now; and a count of faults is how often an object has failed, from its beginning on.
+-- From elsewhere: `Grows old new more` says that what was told before is told with just `more` at its end, and nothing
+-- of what is not told. `IsInTime` says that an object which had not failed, and so was not called after a failure, is
+-- not called after one now. A count of faults is how often an object has failed, from its beginning on.
 -- Words: KeepsBestMeshes, CertifiesMesh, TellsCertificates, DoesAll, IsCutOff, EndsByStatus, LeavesOutside, IsCaused.
 use Rattle.std.specs.Prelude.{◌≡◌, ◌≢◌, ◌⊎◌, ◌↔◌, ℕ, ◌+◌, ◌<◌, ◌≤◌, false, IsTrue, IsSome, is_some, List, All, Option}
 use Rattle.std.specs.Prelude.{Some, None}
@@ -27,9 +27,9 @@ use Rattle.run_laws.specs.Moment.{Moment, SameMeshes}
 
 -- The meshes.
 
--- Each mesh that is finished is the right one, whatever the status: of a script the best of the budget, or the least of
--- the tolerance, at its frame line; of a fit that of its error or its budget. (Where the shelf tells its files, and the
--- sink its meshes.)
+-- Each mesh that is finished is the right one, whatever the status: of a script the best within the budget, or the
+-- least of the tolerance, at its frame line; of a fit the fitted one of its error or its budget. (Where the shelf tells
+-- its files, and the sink its meshes. A grid that is refused has no mesh, as `EndsByStatus` says.)
 pub record KeepsBestMeshes (before now : Moment) (words : List (List ℕ)) (status : Status) : Type 0 where
   pub of_script : (files : List NamedFile) (all : List WrittenMesh) (s : Scripted) (grid : HeightField)
       → before.shelf.files ≡ Some files → before.sinks.meshes ≡ Some all → IsRunOf words files (Frames s) grid
@@ -38,9 +38,10 @@ pub record KeepsBestMeshes (before now : Moment) (words : List (List ℕ)) (stat
       → before.shelf.files ≡ Some files → before.sinks.meshes ≡ Some all → IsRunOf words files (Fit f) grid
       → KeepsFitMesh f grid before.sinks now.sinks all status
 
--- Where a check is done, the report got one line, by which its mesh is certified, whoever made it. One of `certify
--- check` is optimal, though perhaps not the mesh that `mesh` writes; one of `certify check-fit` has the fewest
--- triangles for its error, or the least error for its budget. (Where the shelf tells its files.)
+-- With Done of a check, the report got one line, which says that its mesh is certified; and so it is, whoever made it.
+-- One that `certify check` certifies is optimal, though perhaps not the mesh that `mesh` writes; one that `certify
+-- check-fit` certifies has the fewest triangles for its error, or the least error for its budget. (Where the shelf
+-- tells its files.)
 pub record CertifiesMesh (before now : Moment) (words : List (List ℕ)) (status : Status) : Type 0 where
   pub of_check : (files : List NamedFile) (c : Checking) (grid : HeightField) → before.shelf.files ≡ Some files
       → IsRunOf words files (Check c) grid → status ≡ Done → (line : List ℕ)
@@ -49,15 +50,16 @@ pub record CertifiesMesh (before now : Moment) (words : List (List ℕ)) (status
       → IsRunOf words files (CheckFit c) grid → status ≡ Done → (line : List ℕ)
       × Grows before.sinks.report now.sinks.report line × IsCertifiedFit c grid (bytes_of files c.mesh) line
 
--- in each frame of an engine that is in an outcome of the words, what blocks is a worst leaf of its mesh, and a mesh
--- with it split has more triangles than the budget; where nothing blocks, its worst priority is 0
+-- in each engine's frame of an outcome of the words, the triangle that blocks is a worst leaf of the mesh, and a mesh
+-- with it split has more triangles than the budget; where none blocks, the worst priority is 0
 abbrev pub TellsCertificates : List (List ℕ) → Type 0
 TellsCertificates words = (files : List NamedFile) (end : Outcome) → IsTrue (is_some end.engine)
     → IsOutcome (command_of words) files end → All IsCertified end.pictures
 
--- What stands.
+-- What stands. An act is a whole mesh, or a text of the report. An outcome is what words and files say of a run: its
+-- acts, its status, how many files it opens, and the engine that it leaves.
 
--- All of an outcome was done: its acts stand and nothing else, this is its status, its files were opened, and its
+-- All of an outcome was done: its acts stand and nothing else, this is its status, as many files were opened, and its
 -- engine is left.
 pub record DoesAll (before now : Moment) (command : Option Command) (files : List NamedFile) (status : Status)
     (left : Option EngineEnd) : Type 0 where
@@ -68,18 +70,18 @@ pub record DoesAll (before now : Moment) (command : Option Command) (files : Lis
   pub opened : now.shelf.opens ≡ before.shelf.opens + end.opened
   pub engine : left ≡ end.engine
 
--- The acts of an outcome were cut short: some stand, whole and in order, and of the next one a part. Its files were
--- opened.
+-- The acts of an outcome were cut short: the first ones stand, whole and in order in each sink, and of the next one a
+-- part, perhaps nothing. As many files were opened as the outcome says.
 pub record IsCutOff (before now : Moment) (command : Option Command) (files : List NamedFile) : Type 0 where
   pub end : Outcome
   pub is_outcome : IsOutcome command files end
   pub cut_short : IsCutShort before.sinks now.sinks end.acts
   pub opened : now.shelf.opens ≡ before.shelf.opens + end.opened
 
--- With Done, Usage, the two refusals and Rejected all of an outcome was done, and with WriteFault it was cut off: where
--- the shelf tells its files, or no file is named. With ReadFault what the run had done by then stands (at a script,
--- where the shelf tells its files), and with NoMemory nothing was written. (Where a sink tells nothing, of all this
--- only its count of faults is left.)
+-- Where the shelf tells its files, or the command names none: with Done, Usage, the two refusals and Rejected all of an
+-- outcome was done, and with WriteFault it was cut off. With ReadFault what the run had done by then stands (at a
+-- script, where the shelf tells its files); with NoMemory nothing was written. (Of a sink that tells nothing, what
+-- stands is its count of faults alone.)
 pub record EndsByStatus (before now : Moment) (command : Option Command) (status : Status)
     (left : Option EngineEnd) : Type 0 where
   pub complete : IsTrue (is_complete status) → (files : List NamedFile)
@@ -93,11 +95,12 @@ pub record EndsByStatus (before now : Moment) (command : Option Command) (status
       → (one : Command) × (command ≡ Some one)
       × CommandNoMemory before.sinks now.sinks before.shelf now.shelf one
 
--- How the outside and the engine are left, also where nothing is told. The shelf's files are as before. No mesh is
--- under way, except perhaps after WriteFault; and words that ask for neither frames nor a mesh leave the sink of meshes
--- as it was, as far as it tells. So many files were opened as `OpensForStatus` has for the status, and with Done the
--- last one was read to its end. An engine is left with Done and ScriptRefused where one makes the frames. Of shelf,
--- meshes and report, each that had not failed before the run was not called again once a call of it had failed.
+-- How the outside (shelf, meshes and report) and the engine are left, also where nothing is told. The shelf's files are
+-- as before. No mesh is under way, except perhaps after WriteFault; and words that ask for neither frames nor a mesh
+-- leave the sink of meshes as it was, as far as it tells. As many files were opened as `OpensForStatus` has for the
+-- status, and with Done the last one was read to its end. An engine is left with Done and ScriptRefused where one makes
+-- the frames. Of shelf, meshes and report, each that had not failed before the run was not called again once a call of
+-- it had failed.
 pub record LeavesOutside (before now : Moment) (command : Option Command) (status : Status)
     (left : Option EngineEnd) : Type 0 where
   pub files : now.shelf.files ≡ before.shelf.files
@@ -113,9 +116,9 @@ pub record LeavesOutside (before now : Moment) (command : Option Command) (statu
 
 -- The causes.
 
--- The command may end so (`may_end`), and the status is Usage exactly where there is no command. It is ReadFault
--- exactly where the shelf's count of faults rose, and WriteFault exactly where that of the meshes or of the report
--- rose. No count falls.
+-- The command can have this status (`may_end`: a refusal only where it reads what is refused, Rejected only where it is
+-- a check). The status is Usage exactly where there is no command, ReadFault exactly where the shelf's count of faults
+-- rose, and WriteFault exactly where that of the meshes or of the report rose. No count falls.
 pub record IsCaused (before now : Moment) (command : Option Command) (status : Status) : Type 0 where
   pub allowed : IsTrue (may_end command status)
   pub usage : (status ≡ Usage) ↔ (command ≡ None)
