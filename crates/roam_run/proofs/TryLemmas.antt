@@ -95,12 +95,12 @@ made-ends before now shelf n seed sums engine left files text status all is eith
 -- a generated run was carried out
 pub made-runs : (before now : Moment) (n seed : ℕ) (sums : Sums) (engine : EngineState) (left : Option EngineState)
     (text : List ℕ) (status : Status)
-    → before.under_way ≡ false → SumsUp n seed sums engine →
+    → SumsUp n seed sums engine →
     text ≡ sums_line n seed sums.frames sums.triangles sums.worst sums.blocked
     → left ≡ (if ends_script status then Some engine else None) → (IsSome left ↔ IsTrue (ends_script status))
     → TellsLast before now text ends.Done status →
     Runs before now (Some (Generated n seed)) status (option_map engine_seen left)
-made-runs before now n seed sums engine left text status idle all is by some tells =
+made-runs before now n seed sums engine left text status all is by some tells =
     let P : Seen → Type 0 = λ shelf. (files : List NamedFile)
     → CommandEnds before.sinks now.sinks before.shelf shelf (Generated n seed) files status
     (option_map engine_seen left) in
@@ -114,7 +114,7 @@ made-runs before now n seed sums engine left text status idle all is by some tel
           (λ e. absurd (not-memory tells.ends e));
       leaves = record {
         files = ap (λ (shelf : Seen). shelf.files) tells.shelf;
-        idle = λ not. tells.idle not ∙ idle;
+        idle = λ not. tells.idle not;
         no_mesh = λ text_alone. tells.no_mesh refl;
         opens = record {
           done = λ e. omega (arith, opened);
@@ -162,9 +162,9 @@ made-runs before now n seed sums engine left text status idle all is by some tel
     allowed (inr a) = subst (λ (s : Status). IsTrue (may_end (Some (Generated n seed)) s)) (sym a) refl
 
 -- memory ran out in one
-pub unmade-runs : (now : Moment) (n seed : ℕ) → now.under_way ≡ false →
+pub unmade-runs : (now : Moment) (n seed : ℕ) →
     Runs now now (Some (Generated n seed)) ends.NoMemory None
-unmade-runs now n seed idle = record {
+unmade-runs now n seed = record {
   ends = ends-by-status now now (Generated n seed) ends.NoMemory None
       (λ files are. record { ends = λ m r. absurd (m refl) })
       (λ e. cc)
@@ -180,7 +180,7 @@ unmade-runs now n seed idle = record {
       });
   leaves = record {
     files = refl;
-    idle = λ not. idle;
+    idle = λ not. refl;
     no_mesh = λ text_alone. record { meshes = refl; faults = refl; under_way = refl; late = refl };
     opens = record {
       done = λ e. cc;

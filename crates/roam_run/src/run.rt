@@ -288,7 +288,6 @@ fn run_engine<O: Outside>(
 
 /// Carries out the command `try`, which opens no file and writes no mesh.
 fn run_try<O: Outside>(alloc: Global, n: u32, seed: u32, outside: &mut O) -> Run
-    requires idle { (O.moment outside.old).under_way ≡ false }
     requires n_low { 1 ≤ n }
     requires n_high { n ≤ GREATEST_LEVEL }
     ensures same { O.is_same outside.old outside.new }

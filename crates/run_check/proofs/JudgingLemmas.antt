@@ -81,18 +81,17 @@ behind-memory before old new name c grid count opens low high found faultless = 
 }
 
 module _ (before middle now : Moment) (name : List ℕ) (c : Checking) (grid : HeightField)
-    (idle : before.under_way ≡ false)
     (read : ReadsGrid before middle name grid) where
   -- memory ran out behind the grid
   pub check-memory : JudgesNoMemory c grid middle now → Runs before now (Some (OnGrid name (Check c))) NoMemory None
   check-memory (inl one) =
       let opened = opens-then before middle now 1 1 read.opened one in
-      memory-spent before now name (Check c) 2 idle opened
+      memory-spent before now name (Check c) 2 opened
       (behind-memory _ _ _ name c grid 2 opened.opens (omega arith) (omega arith) read.is_grid
       (λ three. absurd (omega (arith, three))))
   check-memory (inr (two, faultless)) =
       let opened = opens-then before middle now 1 2 read.opened two in
-      memory-spent before now name (Check c) 3 idle opened
+      memory-spent before now name (Check c) 3 opened
       (behind-memory _ _ _ name c grid 3 opened.opens (omega arith) (omega arith) read.is_grid
       (λ three files told. faultless files (read.opened.only.files ∙ told)))
 
@@ -100,7 +99,7 @@ module _ (before middle now : Moment) (name : List ℕ) (c : Checking) (grid : H
   pub check-fault : JudgesFault c grid middle now → Runs before now (Some (OnGrid name (Check c))) ReadFault None
   check-fault (inl one) =
       let failed = fails-then before middle now 1 1 c.certificate _ read.opened one in
-      read-failed before now name (Check c) 2 c.certificate _ idle failed (omega arith) (omega arith)
+      read-failed before now name (Check c) 2 c.certificate _ failed (omega arith) (omega arith)
       (record {
         file = 1;
         opened = failed.opens;
@@ -112,7 +111,7 @@ module _ (before middle now : Moment) (name : List ℕ) (c : Checking) (grid : H
       })
   check-fault (inr (cert, is, faultless, two)) =
       let failed = fails-then before middle now 1 2 c.mesh _ read.opened two in
-      read-failed before now name (Check c) 3 c.mesh _ idle failed (omega arith) (omega arith)
+      read-failed before now name (Check c) 3 c.mesh _ failed (omega arith) (omega arith)
       (record {
         file = 2;
         opened = failed.opens;
@@ -129,7 +128,7 @@ module _ (before middle now : Moment) (name : List ℕ) (c : Checking) (grid : H
 
 module _ (before middle last now : Moment) (name : List ℕ) (c : Checking) (grid : HeightField)
     (text : List ℕ) (meant status : Status)
-    (idle : before.under_way ≡ false) (read : ReadsGrid before middle name grid) where
+    (read : ReadsGrid before middle name grid) where
   -- the line of a judgement ends a check
   pub check-runs : (judgement : Judgement) → HasOpened middle last (1 + mesh_opens judgement)
       → (judged_status judgement ≡ Done → HasEnded last.shelf)
@@ -137,12 +136,12 @@ module _ (before middle last now : Moment) (name : List ℕ) (c : Checking) (gri
       → text ≡ judged_text judgement → meant ≡ judged_status judgement → TellsLast last now text meant status
       → Runs before now (Some (OnGrid name (Check c))) status None
   check-runs (Certified camera triangles worst) opened ended judged is_text is_end tells =
-      certified-runs before middle last now name (Check c) grid 2 _ status idle read opened refl refl
+      certified-runs before middle last now name (Check c) grid 2 _ status read opened refl refl
       (ended refl) refl judged
       (tells-as is_text is_end tells)
   check-runs (Rejected why) opened ended judged is_text is_end tells =
       rejected-runs before middle last now name (Check c) grid
-      (1 + mesh_opens (Rejected why)) _ status idle read opened refl
+      (1 + mesh_opens (Rejected why)) _ status read opened refl
       (omega arith) (two-most why) refl refl
       (λ files told. subst (λ (k : ℕ). IsJobOutcome (Check c) grid files (text_outcome (rejection why) ends.Rejected k))
       (one-more (mesh_opens (Rejected why))) (judged files told))

@@ -34,7 +34,6 @@ pub(crate) enum CheckStop {
 
 /// Carries out the command `certify check`. The first test that fails ends it: nothing further is opened or read.
 pub fn run_check<O: Outside>(alloc: Global, words: &CheckWords<'_>, outside: &mut O) -> Status
-    requires idle { (O.moment outside.old).under_way ≡ false }
     requires opens { (O.moment outside.old).shelf.opens ≤ 2 ^ 63 }
     requires bounds { AreInBounds words.now.budget words.now.spacing }
     ensures same { O.is_same outside.old outside.new }

@@ -85,7 +85,6 @@ pub fn read_grid<O: Outside>(alloc: Global, name: &str, outside: &mut O) -> Resu
 /// Reads the grid of this name, or ends the command: a refusal is told, and a failed read and want of memory are its
 /// end too.
 pub fn grid_or_end<O: Outside>(alloc: Global, name: &str, outside: &mut O) -> Result<Grid, Status>
-    requires idle { (O.moment outside.old).under_way ≡ false }
     requires opens { (O.moment outside.old).shelf.opens ≤ 2 ^ 63 }
     ensures same { O.is_same outside.old outside.new }
     ensures ok { IfOk result (λ grid. ReadsGrid (O.moment outside.old) (O.moment outside.new) name.now grid) }

@@ -23,7 +23,6 @@ use wedgie_tree::Wedges;
 /// Carries out the command `info`: reads the grid of this name, and writes one line about it. All memory is taken
 /// before the line is written.
 pub fn run_info<O: Outside>(alloc: Global, name: &str, outside: &mut O) -> Status
-    requires idle { (O.moment outside.old).under_way ≡ false }
     requires opens { (O.moment outside.old).shelf.opens ≤ 2 ^ 63 }
     ensures same { O.is_same outside.old outside.new }
     ensures runs { Runs (O.moment outside.old) (O.moment outside.new) (Some (OnGrid name.now Facts)) result None }

@@ -121,10 +121,10 @@ acts-fitted w f target grid is =
 -- the mesh and its line end the command, written or cut short
 pub fitted-runs : (before middle now : Moment) (name : List ℕ) (w : Fitting) (grid : HeightField)
     (f : Fitted) (status : Status)
-    → before.under_way ≡ false → ReadsGrid before middle name grid → IsFittedTo f w.target grid
+    → ReadsGrid before middle name grid → IsFittedTo f w.target grid
     → EndsWith middle now (fitted_acts w f) Done status → Runs before now (Some (OnGrid name (Fit w))) status None
-fitted-runs before middle now name w grid f status idle read is ends =
-    job-runs before middle now name (Fit w) grid (fitted_acts w f) status idle read refl refl
+fitted-runs before middle now name w grid f status read is ends =
+    job-runs before middle now name (Fit w) grid (fitted_acts w f) status read refl refl
     (λ files. (
       f.fit.leaves,
       is.fitted,

@@ -112,19 +112,18 @@ behind-memory before old new name c grid count opens low high found faultless = 
 }
 
 module _ (before middle now : Moment) (name : List ℕ) (c : FitChecking) (grid : HeightField)
-    (idle : before.under_way ≡ false)
     (read : ReadsGrid before middle name grid) where
   -- memory ran out behind the grid
   pub check-memory : FitJudgesNoMemory c grid middle now →
       Runs before now (Some (OnGrid name (CheckFit c))) NoMemory None
   check-memory (inl one) =
       let opened = opens-then before middle now 1 1 read.opened one in
-      memory-spent before now name (CheckFit c) 2 idle opened
+      memory-spent before now name (CheckFit c) 2 opened
       (behind-memory _ _ _ name c grid 2 opened.opens (omega arith) (omega arith) read.is_grid
       (λ three. absurd (omega (arith, three))))
   check-memory (inr (two, faultless)) =
       let opened = opens-then before middle now 1 2 read.opened two in
-      memory-spent before now name (CheckFit c) 3 idle opened
+      memory-spent before now name (CheckFit c) 3 opened
       (behind-memory _ _ _ name c grid 3 opened.opens (omega arith) (omega arith) read.is_grid
       (λ three files told. faultless files (read.opened.only.files ∙ told)))
 
@@ -132,7 +131,7 @@ module _ (before middle now : Moment) (name : List ℕ) (c : FitChecking) (grid 
   pub check-fault : FitJudgesFault c grid middle now → Runs before now (Some (OnGrid name (CheckFit c))) ReadFault None
   check-fault (inl one) =
       let failed = fails-then before middle now 1 1 c.certificate _ read.opened one in
-      read-failed before now name (CheckFit c) 2 c.certificate _ idle failed (omega arith) (omega arith)
+      read-failed before now name (CheckFit c) 2 c.certificate _ failed (omega arith) (omega arith)
       (record {
         file = 1;
         opened = failed.opens;
@@ -144,7 +143,7 @@ module _ (before middle now : Moment) (name : List ℕ) (c : FitChecking) (grid 
       })
   check-fault (inr (cert, triangles, is, faultless, two)) =
       let failed = fails-then before middle now 1 2 c.mesh _ read.opened two in
-      read-failed before now name (CheckFit c) 3 c.mesh _ idle failed (omega arith) (omega arith)
+      read-failed before now name (CheckFit c) 3 c.mesh _ failed (omega arith) (omega arith)
       (record {
         file = 2;
         opened = failed.opens;
@@ -161,7 +160,7 @@ module _ (before middle now : Moment) (name : List ℕ) (c : FitChecking) (grid 
 
 module _ (before middle last now : Moment) (name : List ℕ) (c : FitChecking) (grid : HeightField)
     (text : List ℕ) (meant status : Status)
-    (idle : before.under_way ≡ false) (read : ReadsGrid before middle name grid) where
+    (read : ReadsGrid before middle name grid) where
   -- the line of a judgement ends a check
   pub check-runs : (judgement : Judgement) → HasOpened middle last (1 + fit_mesh_opens judgement)
       → (fit_judged_status judgement ≡ Done → HasEnded last.shelf)
@@ -170,15 +169,15 @@ module _ (before middle last now : Moment) (name : List ℕ) (c : FitChecking) (
       TellsLast last now text meant status
       → Runs before now (Some (OnGrid name (CheckFit c))) status None
   check-runs (Certified triangles deviation) opened ended judged is_text is_end tells =
-      certified-runs before middle last now name (CheckFit c) grid 2 _ status idle read opened refl refl
+      certified-runs before middle last now name (CheckFit c) grid 2 _ status read opened refl refl
       (ended refl) refl judged
       (tells-as is_text is_end tells)
   check-runs (Rejected why) opened ended judged is_text is_end tells =
-      rejected-runs before middle last now name (CheckFit c) grid 1 _ status idle read opened refl
+      rejected-runs before middle last now name (CheckFit c) grid 1 _ status read opened refl
       (omega arith) (omega arith) refl refl judged (tells-as is_text is_end tells)
   check-runs (BadLine line) opened ended judged is_text is_end tells =
-      rejected-runs before middle last now name (CheckFit c) grid 1 _ status idle read opened refl
+      rejected-runs before middle last now name (CheckFit c) grid 1 _ status read opened refl
       (omega arith) (omega arith) refl refl judged (tells-as is_text is_end tells)
   check-runs (MeshDiffers place) opened ended judged is_text is_end tells =
-      rejected-runs before middle last now name (CheckFit c) grid 2 _ status idle read opened refl
+      rejected-runs before middle last now name (CheckFit c) grid 2 _ status read opened refl
       (omega arith) (omega arith) refl refl judged (tells-as is_text is_end tells)

@@ -43,7 +43,6 @@ pub fn run_fit_check<O: Outside>(
     words: &FitCheckWords<'_>,
     outside: &mut O,
 ) -> Status
-    requires idle { (O.moment outside.old).under_way ≡ false }
     requires opens { (O.moment outside.old).shelf.opens ≤ 2 ^ 63 }
     requires bounds { AreFitBounds words.now.target words.now.spacing }
     ensures same { O.is_same outside.old outside.new }

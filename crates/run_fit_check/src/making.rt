@@ -19,7 +19,6 @@ use std::alloc::Global;
 
 /// Carries out the command `certify make-fit`. All memory is taken before the first byte is written.
 pub fn run_fit_make<O: Outside>(alloc: Global, words: &FitMakeWords<'_>, outside: &mut O) -> Status
-    requires idle { (O.moment outside.old).under_way ≡ false }
     requires opens { (O.moment outside.old).shelf.opens ≤ 2 ^ 63 }
     requires bounds { AreFitBounds words.now.target words.now.spacing }
     ensures same { O.is_same outside.old outside.new }

@@ -101,11 +101,11 @@ no-text e = cc
 -- a read of one of a command's files failed, or its opening
 pub read-failed : (before now : Moment) (name : List ℕ) (job : Job) (files : ℕ) (last : List ℕ)
     (holds : List ℕ → Type 0)
-    → before.under_way ≡ false → HasFailed before now files last holds → 1 ≤ files →
+    → HasFailed before now files last holds → 1 ≤ files →
     files ≤ file_count (Some (OnGrid name job))
     → CommandReadFault before.sinks before.sinks before.shelf now.shelf (OnGrid name job)
     → Runs before now (Some (OnGrid name job)) ReadFault None
-read-failed before now name job files last holds idle read some within fault = record {
+read-failed before now name job files last holds read some within fault = record {
   ends = ends-by-status before now (OnGrid name job) ReadFault None
       (λ files are. record { ends = λ m r. absurd (r refl) })
       (λ is. (let P : Told → Type 0 = λ t. CommandReadFault before.sinks t before.shelf now.shelf (OnGrid name job) in
@@ -113,7 +113,7 @@ read-failed before now name job files last holds idle read some within fault = r
       (λ e. cc);
   leaves = record {
     files = read.only.files;
-    idle = λ not. read.only.under_way ∙ idle;
+    idle = λ not. read.only.under_way;
     no_mesh = λ text. reads-no-mesh before now read.only;
     opens = record {
       done = λ e. cc;
@@ -147,11 +147,10 @@ read-failed before now name job files last holds idle read some within fault = r
 }
 
 -- memory ran out once so many of a command's files were opened
-pub memory-spent : (before now : Moment) (name : List ℕ) (job : Job) (files : ℕ) → before.under_way ≡ false →
-    HasOpened before now files
+pub memory-spent : (before now : Moment) (name : List ℕ) (job : Job) (files : ℕ) → HasOpened before now files
     → CommandNoMemory before.sinks before.sinks before.shelf now.shelf (OnGrid name job)
     → Runs before now (Some (OnGrid name job)) NoMemory None
-memory-spent before now name job files idle read spent = record {
+memory-spent before now name job files read spent = record {
   ends = ends-by-status before now (OnGrid name job) NoMemory None
       (λ files are. record { ends = λ m r. absurd (m refl) })
       (λ e. cc)
@@ -159,7 +158,7 @@ memory-spent before now name job files idle read spent = record {
       subst P (sym read.only.sinks) spent));
   leaves = record {
     files = read.only.files;
-    idle = λ not. read.only.under_way ∙ idle;
+    idle = λ not. read.only.under_way;
     no_mesh = λ text. reads-no-mesh before now read.only;
     opens = record {
       done = λ e. cc;
@@ -192,8 +191,7 @@ memory-spent before now name job files idle read spent = record {
   };
 }
 
-module _ (before now : Moment) (name : List ℕ) (job : Job) (idle : before.under_way ≡ false)
-    (only : OnlyReads before now)
+module _ (before now : Moment) (name : List ℕ) (job : Job) (only : OnlyReads before now)
     (opened : now.shelf.opens ≡ before.shelf.opens + 1)
     (in_time : IsInTime before.shelf_late before.shelf_faults now.shelf_late) where
   -- a read of its grid failed, or its opening
@@ -202,7 +200,7 @@ module _ (before now : Moment) (name : List ℕ) (job : Job) (idle : before.unde
       → StopsReading IsUndecided (bytes_of files name) now.shelf.rest now.shelf.ended)
       → Runs before now (Some (OnGrid name job)) ReadFault None
   grid-failed rose stops =
-      read-failed before now name job 1 name IsUndecided idle
+      read-failed before now name job 1 name IsUndecided
       (record { only = only; opens = opened; failed = rose; in_time = in_time; stops = stops })
       (omega arith) (omega arith) (grid-fault before.sinks before.shelf now.shelf name job opened stops)
 
@@ -212,11 +210,11 @@ module _ (before now : Moment) (name : List ℕ) (job : Job) (idle : before.unde
       HasReadHeader (bytes_of files name) now.shelf.rest)
       → Runs before now (Some (OnGrid name job)) NoMemory None
   grid-spent calm header =
-      memory-spent before now name job 1 idle (record { only = only; opens = opened; faults = calm; in_time = in_time })
+      memory-spent before now name job 1 (record { only = only; opens = opened; faults = calm; in_time = in_time })
       (grid-memory before.sinks before.shelf now.shelf name job opened header)
 
-module _ (before middle now : Moment) (name : List ℕ) (job : Job) (k : ℕ) (idle : before.under_way ≡ false)
-    (read : HasOpened before middle k) (acts : List Act) (meant : Status)
+module _ (before middle now : Moment) (name : List ℕ) (job : Job) (k : ℕ) (read : HasOpened before middle k)
+    (acts : List Act) (meant : Status)
     (outcome : (files : List NamedFile) → before.shelf.files ≡ Some files
     → IsCommandOutcome (OnGrid name job) files (plain_outcome acts meant k))
     (no_mesh : IsTrue (is_of_text (Some (OnGrid name job))) → meshes_of acts ≡ []) where
@@ -253,7 +251,7 @@ module _ (before middle now : Moment) (name : List ℕ) (job : Job) (k : ℕ) (i
         (λ is. absurd (not_memory is));
     leaves = record {
       files = ap (λ (s : Seen). s.files) tells.shelf ∙ read.only.files;
-      idle = λ not. tells.idle not ∙ (read.only.under_way ∙ idle);
+      idle = λ not. tells.idle not ∙ read.only.under_way;
       no_mesh = λ text. same-meshes-then before middle now (reads-no-mesh before middle read.only)
           (tells.no_mesh (no_mesh text));
       opens = subst O (sym (opens-now status tells)) opens;
@@ -325,7 +323,7 @@ module _ (before middle now : Moment) (name : List ℕ) (job : Job) (k : ℕ) (i
       }
 
 -- one text ended a command
-pub text-runs : (before middle now : Moment) (name : List ℕ) (job : Job) (k : ℕ) → before.under_way ≡ false →
+pub text-runs : (before middle now : Moment) (name : List ℕ) (job : Job) (k : ℕ) →
     HasOpened before middle k
     → (text : List ℕ) (meant : Status) → ((files : List NamedFile) → before.shelf.files ≡ Some files
     → IsCommandOutcome (OnGrid name job) files (text_outcome text meant k))
@@ -334,17 +332,17 @@ pub text-runs : (before middle now : Moment) (name : List ℕ) (job : Job) (k : 
     leaves_engine (Some (OnGrid name job)) meant ≡ false
     → OpensForStatus before.shelf.opens middle.shelf.opens (file_count (Some (OnGrid name job))) meant
     → (meant ≡ Done → HasEnded middle.shelf) → Runs before now (Some (OnGrid name job)) status None
-text-runs before middle now name job k idle read text meant outcome =
-    acts-run before middle now name job k idle read (ReportText text ∷ []) meant outcome (λ text_alone. refl)
+text-runs before middle now name job k read text meant outcome =
+    acts-run before middle now name job k read (ReportText text ∷ []) meant outcome (λ text_alone. refl)
 
 -- the refusal of its grid ended a command
 pub grid-refused : (before middle now : Moment) (name : List ℕ) (job : Job) (fault : PgmFault)
     (text : List ℕ) (status : Status)
-    → before.under_way ≡ false → HasOpened before middle 1 → text ≡ grid_refusal fault
+    → HasOpened before middle 1 → text ≡ grid_refusal fault
     → ((files : List NamedFile) → before.shelf.files ≡ Some files → grid_of (bytes_of files name) ≡ Err fault)
     → TellsLast middle now text GridRefused status → Runs before now (Some (OnGrid name job)) status None
-grid-refused before middle now name job fault text status idle read is refused tells =
-    text-runs before middle now name job 1 idle read text GridRefused
+grid-refused before middle now name job fault text status read is refused tells =
+    text-runs before middle now name job 1 read text GridRefused
     (λ files told. subst (λ (r : Result HeightField PgmFault).
     IsGridOutcome job r files (text_outcome text GridRefused 1)) (sym (refused files told))
     (ap (λ (t : List ℕ). text_outcome t GridRefused 1) is))
@@ -365,13 +363,13 @@ grid-refused before middle now name job fault text status idle read is refused t
 -- a command whose only file is its grid ended with the acts of its job
 pub job-runs : (before middle now : Moment) (name : List ℕ) (job : Job) (grid : HeightField)
     (acts : List Act) (status : Status)
-    → before.under_way ≡ false → ReadsGrid before middle name grid → file_count (Some (OnGrid name job)) ≡ 1
+    → ReadsGrid before middle name grid → file_count (Some (OnGrid name job)) ≡ 1
     → leaves_engine (Some (OnGrid name job)) Done ≡ false
     → ((files : List NamedFile) → IsJobOutcome job grid files (plain_outcome acts Done 1))
     → (IsTrue (is_of_text (Some (OnGrid name job))) → meshes_of acts ≡ [])
     → EndsWith middle now acts Done status → Runs before now (Some (OnGrid name job)) status None
-job-runs before middle now name job grid acts status idle read one left outcome no_mesh ends =
-    acts-run before middle now name job 1 idle read.opened acts Done
+job-runs before middle now name job grid acts status read one left outcome no_mesh ends =
+    acts-run before middle now name job 1 read.opened acts Done
     (λ files told. subst (λ (r : Result HeightField PgmFault). IsGridOutcome job r files (plain_outcome acts Done 1))
     (sym (read.is_grid files told)) (outcome files)) no_mesh
     status ends (omega arith) (omega arith) refl refl left
@@ -391,24 +389,23 @@ job-runs before middle now name job grid acts status idle read one left outcome 
 -- or with one text
 pub line-runs : (before middle now : Moment) (name : List ℕ) (job : Job) (grid : HeightField)
     (text : List ℕ) (status : Status)
-    → before.under_way ≡ false → ReadsGrid before middle name grid → file_count (Some (OnGrid name job)) ≡ 1
+    → ReadsGrid before middle name grid → file_count (Some (OnGrid name job)) ≡ 1
     → leaves_engine (Some (OnGrid name job)) Done ≡ false
     → ((files : List NamedFile) → IsJobOutcome job grid files (text_outcome text Done 1))
     → TellsLast middle now text Done status → Runs before now (Some (OnGrid name job)) status None
-line-runs before middle now name job grid text status idle read one left outcome tells =
-    job-runs before middle now name job grid (ReportText text ∷ []) status idle read one left outcome
+line-runs before middle now name job grid text status read one left outcome tells =
+    job-runs before middle now name job grid (ReportText text ∷ []) status read one left outcome
     (λ text_alone. refl) tells
 
 -- memory ran out behind a grid that was read
-pub spent-runs : (before now : Moment) (name : List ℕ) (job : Job) (grid : HeightField) → before.under_way ≡ false
+pub spent-runs : (before now : Moment) (name : List ℕ) (job : Job) (grid : HeightField)
     → ReadsGrid before now name grid → Runs before now (Some (OnGrid name job)) NoMemory None
-spent-runs before now name job grid idle read =
-    grid-spent before now name job idle read.opened.only read.opened.opens read.opened.in_time
+spent-runs before now name job grid read =
+    grid-spent before now name job read.opened.only read.opened.opens read.opened.in_time
     read.opened.faults read.header
 
 -- a script was carried out over a grid that was read, by what makes its frames
 module _ (before middle now : Moment) (name : List ℕ) (s : Scripted) (grid : HeightField)
-    (idle : before.under_way ≡ false)
     (few : before.shelf.opens ≤ 2 ^ 63) (read : ReadsGrid before middle name grid)
     (follows : Show → Walk → List Picture → Type 0) (left : Option EngineEnd) where
   abbrev scripted : Option Command
@@ -488,7 +485,7 @@ module _ (before middle now : Moment) (name : List ℕ) (s : Scripted) (grid : H
             (λ memory. absurd (script-memory status is memory));
         leaves = record {
           files = leaves.files ∙ read.opened.only.files;
-          idle = λ not. leaves.idle not ∙ (read.opened.only.under_way ∙ idle);
+          idle = λ not. leaves.idle not ∙ read.opened.only.under_way;
           no_mesh = λ text. absurd (no-text text);
           opens = script-opens status is opened;
           read_out = λ done some. leaves.read_out done;
@@ -509,9 +506,9 @@ module _ (before middle now : Moment) (name : List ℕ) (s : Scripted) (grid : H
       }
 
 -- words that are no command do nothing
-pub usage-runs : (now : Moment) (said : Option Command) → now.under_way ≡ false → said ≡ None →
+pub usage-runs : (now : Moment) (said : Option Command) → said ≡ None →
     Runs now now said Usage None
-usage-runs now said idle is = subst (λ (c : Option Command). Runs now now c Usage None) (sym is) (record {
+usage-runs now said is = subst (λ (c : Option Command). Runs now now c Usage None) (sym is) (record {
   ends = record {
     complete = λ e files are. record {
       end = plain_outcome [] Usage 0;
@@ -527,7 +524,7 @@ usage-runs now said idle is = subst (λ (c : Option Command). Runs now now c Usa
   };
   leaves = record {
     files = refl;
-    idle = λ not. idle;
+    idle = λ not. refl;
     no_mesh = λ text. record { meshes = refl; faults = refl; under_way = refl; late = refl };
     opens = record {
       done = λ e. cc;
@@ -614,7 +611,7 @@ tells-as {before = before} {now = now} {text = text} {meant = meant} {status = s
 
 module _ (before middle last now : Moment) (name : List ℕ) (job : Job) (grid : HeightField) (more : ℕ)
     (text : List ℕ) (status : Status)
-    (idle : before.under_way ≡ false) (read : ReadsGrid before middle name grid) (behind : HasOpened middle last more)
+    (read : ReadsGrid before middle name grid) (behind : HasOpened middle last more)
     (three : file_count (Some (OnGrid name job)) ≡ 3) where
   abbrev job-command : Option Command
   job-command = Some (OnGrid name job)
@@ -637,7 +634,7 @@ module _ (before middle last now : Moment) (name : List ℕ) (job : Job) (grid :
       IsJobOutcome job grid files (text_outcome text Done (1 + more)))
       → TellsLast last now text Done status → Runs before now job-command status None
   certified-runs two ended left outcome tells =
-      text-runs before last now name job (1 + more) idle all-opened text Done (job-ends Done outcome) status tells
+      text-runs before last now name job (1 + more) all-opened text Done (job-ends Done outcome) status tells
       (omega arith) (omega (arith, two, three)) refl refl left
       (record {
         done = λ e. omega (arith, all-opened.opens, two, three);
@@ -659,7 +656,7 @@ module _ (before middle last now : Moment) (name : List ℕ) (job : Job) (grid :
       IsJobOutcome job grid files (text_outcome text Rejected (1 + more)))
       → TellsLast last now text Rejected status → Runs before now job-command status None
   rejected-runs some most check left outcome tells =
-      text-runs before last now name job (1 + more) idle all-opened text Rejected
+      text-runs before last now name job (1 + more) all-opened text Rejected
       (job-ends Rejected outcome) status tells
       (omega arith) (omega (arith, most, three)) refl check left
       (record {

@@ -2,8 +2,8 @@
 -- (`now`), of the words of its command line or of the command that they are, of its status, and of the engine that it
 -- leaves. This project's own.
 -- From elsewhere: `Grows old new more` says that what was told before is told with just `more` at its end, and nothing
--- of what is not told. `IsInTime` says that an object which had not failed, and so was not called after a failure, is
--- not called after one now. A count of faults is how often an object has failed, from its beginning on.
+-- of what is not told. `IsInTime` says that an object which had not failed is not called again once a call of it has
+-- failed. A count of faults is how often an object has failed, from its beginning on.
 -- Words: KeepsBestMeshes, CertifiesMesh, TellsCertificates, DoesAll, IsCutOff, EndsByStatus, LeavesOutside, IsCaused.
 use Rattle.std.specs.Prelude.{◌≡◌, ◌≢◌, ◌⊎◌, ◌↔◌, ℕ, ◌+◌, ◌<◌, ◌≤◌, false, IsTrue, IsSome, is_some, List, All, Option}
 use Rattle.std.specs.Prelude.{Some, None}
@@ -57,9 +57,9 @@ TellsCertificates words = (files : List NamedFile) (end : Outcome) → IsTrue (i
     → IsOutcome (command_of words) files end → All IsCertified end.pictures
 
 -- What stands. An act is a whole mesh, or a text of the report. An outcome is what words and files say of a run: its
--- acts, its status, how many files it opens, and the engine that it leaves.
+-- acts, its status, how often it opens a file, and the engine that it leaves.
 
--- All of an outcome was done: its acts stand and nothing else, this is its status, as many files were opened, and its
+-- All of an outcome was done: its acts stand and nothing else, this is its status, files were opened as often, and its
 -- engine is left.
 pub record DoesAll (before now : Moment) (command : Option Command) (files : List NamedFile) (status : Status)
     (left : Option EngineEnd) : Type 0 where
@@ -71,7 +71,7 @@ pub record DoesAll (before now : Moment) (command : Option Command) (files : Lis
   pub engine : left ≡ end.engine
 
 -- The acts of an outcome were cut short: the first ones stand, whole and in order in each sink, and of the next one a
--- part, perhaps nothing. As many files were opened as the outcome says.
+-- part, perhaps nothing. Files were opened as often as the outcome says.
 pub record IsCutOff (before now : Moment) (command : Option Command) (files : List NamedFile) : Type 0 where
   pub end : Outcome
   pub is_outcome : IsOutcome command files end
@@ -96,15 +96,15 @@ pub record EndsByStatus (before now : Moment) (command : Option Command) (status
       × CommandNoMemory before.sinks now.sinks before.shelf now.shelf one
 
 -- How the outside (shelf, meshes and report) and the engine are left, also where nothing is told. The shelf's files are
--- as before. No mesh is under way, except perhaps after WriteFault; and words that ask for neither frames nor a mesh
--- leave the sink of meshes as it was, as far as it tells. As many files were opened as `OpensForStatus` has for the
--- status, and with Done the last one was read to its end. An engine is left with Done and ScriptRefused where one makes
--- the frames. Of shelf, meshes and report, each that had not failed before the run was not called again once a call of
--- it had failed.
+-- as before. A mesh is under way where one was before the run, and else none, except perhaps after WriteFault; words
+-- that ask for neither frames nor a mesh leave the sink of meshes as it was, as far as it tells. Files were opened as
+-- often as `OpensForStatus` has for the status, and with Done the last one was read to its end. An engine is left with
+-- Done and ScriptRefused where one makes the frames. Of shelf, meshes and report, each that had not failed before the
+-- run was not called again once a call of it had failed.
 pub record LeavesOutside (before now : Moment) (command : Option Command) (status : Status)
     (left : Option EngineEnd) : Type 0 where
   pub files : now.shelf.files ≡ before.shelf.files
-  pub idle : status ≢ WriteFault → now.under_way ≡ false
+  pub idle : status ≢ WriteFault → now.under_way ≡ before.under_way
   pub no_mesh : IsTrue (is_of_text command) → SameMeshes before now
   pub opens :
       OpensForStatus before.shelf.opens now.shelf.opens (file_count command) status

@@ -27,7 +27,7 @@ returns-in-Ok-made-clause-runs g c =
     first-begins s c.in-Ok.grid c.requires.accepted.budget_low range.0 range.1
     (EngineHasFollowed frames.showing frames.engine)
     (subst P (sym shown) c.in-Ok-made.ensures.begins) (subst TellsFrames (sym shown) (sum-none c.args.showing))) in
-    rw c.of_script.ensures.status (script-runs _ _ _ _ s c.in-Ok.grid c.requires.idle c.requires.opens read
+    rw c.of_script.ensures.status (script-runs _ _ _ _ s c.in-Ok.grid c.requires.opens read
     (EngineHasFollowed made.showing made.engine) _ run.result run.ensures.status run.ensures.leaves
     (left-of-engine c.args.showing c.args.command.now.grid.now s run.result c.of_script.result.engine shown
     c.of_script.ensures.left)
@@ -42,7 +42,7 @@ returns-in-Ok-made-clause-runs g c =
 pub returns-in_default-clause-runs : goal.returns-in_default-clause-runs
 returns-in_default-clause-runs g c =
     rw (c.without_engine.ensures.status, c.without_engine.ensures.engine)
-    (spent-runs _ _ _ (Frames (scripted_seen c.args.command.now)) c.in-Ok.grid c.requires.idle c.in-Ok.ensures.ok)
+    (spent-runs _ _ _ (Frames (scripted_seen c.args.command.now)) c.in-Ok.grid c.in-Ok.ensures.ok)
 
 pub returns-in-Err-clause-runs : goal.returns-in-Err-clause-runs
 returns-in-Err-clause-runs g c =

@@ -9,7 +9,7 @@ use Rattle.roam_run.proofs.run.run_of_words.Goals as goal
 
 pub returns-in-None-clause-runs : goal.returns-in-None-clause-runs
 returns-in-None-clause-runs g c =
-    usage-runs _ (command_of (map string_bytes c.args.words.now)) c.requires.idle (sym c.in-None.ensures.value)
+    usage-runs _ (command_of (map string_bytes c.args.words.now)) (sym c.in-None.ensures.value)
 
 -- words of a command
 

@@ -7,11 +7,11 @@ returns-in-Ok-clause-runs g c =
     rw (c.of_script.ensures.status)
     (made-runs _ _ c.args.n c.args.seed c.in-Ok.sums c.in-Ok.engine c.of_script.result.engine c.as_slice.result.now
     c.end_with_text-status.result
-    c.requires.idle c.in-Ok.ensures (c.as_slice.ensures.value
+    c.in-Ok.ensures (c.as_slice.ensures.value
     ∙ c.try_report-line.ensures) c.of_script.ensures.engine c.of_script.ensures.left
     c.end_with_text-status.ensures.tells)
 
 pub returns-in-Err-clause-runs : goal.returns-in-Err-clause-runs
 returns-in-Err-clause-runs g c =
     rw (c.without_engine.ensures.status, c.without_engine.ensures.engine)
-    (unmade-runs _ c.args.n c.args.seed c.requires.idle)
+    (unmade-runs _ c.args.n c.args.seed)

@@ -18,4 +18,5 @@ pub returns-clause-files : goal.returns-clause-files
 returns-clause-files g c = c.roam.ensures.leaves.files
 
 pub returns-clause-idle : goal.returns-clause-idle
-returns-clause-idle g c = rw c.into_status.ensures c.roam.ensures.leaves.idle
+returns-clause-idle g c =
+    rw c.into_status.ensures (λ not. c.roam.ensures.leaves.idle not ∙ c.requires.idle)

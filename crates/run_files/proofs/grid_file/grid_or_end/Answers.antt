@@ -8,14 +8,14 @@ pub returns-in-Err-Failed-clause-err : goal.returns-in-Err-Failed-clause-err
 returns-in-Err-Failed-clause-err g c job =
     let read = c.in-Err-Failed.ensures in
     let failed = ap Err c.in-Err-Failed.field-0-is in
-    grid-failed _ _ _ job c.requires.idle read.only
+    grid-failed _ _ _ job read.only
     (next_count-one _ _ c.requires.opens read.opens) read.in_time (read.failed failed)
     (read.undecided failed)
 
 pub returns-in-Err-Refused-clause-err : goal.returns-in-Err-Refused-clause-err
 returns-in-Err-Refused-clause-err g c job =
     let read = c.in-Err-Refused.ensures in
-    grid-refused _ _ _ _ job c.in-Err-Refused.fault c.as_slice.result.now _ c.requires.idle
+    grid-refused _ _ _ _ job c.in-Err-Refused.fault c.as_slice.result.now _
     (record {
       only = read.only;
       opens = next_count-one _ _ c.requires.opens read.opens;

@@ -8,7 +8,7 @@ use Rattle.run_files.proofs.info.run_info.Goals as goal
 
 pub returns-in-Ok-build-clause-runs : goal.returns-in-Ok-build-clause-runs
 returns-in-Ok-build-clause-runs g c =
-    line-runs _ _ _ _ Facts c.in-Ok.grid c.as_slice.result.now _ c.requires.idle c.in-Ok.ensures.ok refl refl
+    line-runs _ _ _ _ Facts c.in-Ok.grid c.as_slice.result.now _ c.in-Ok.ensures.ok refl refl
     (λ files. ap (λ t. text_outcome t Done 1)
     (c.as_slice.ensures.value ∙ c.info_report.ensures ∙ ap info_line c.in-Ok-build.ensures))
     c.end_with_text.ensures.tells

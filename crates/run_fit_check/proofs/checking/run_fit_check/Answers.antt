@@ -11,7 +11,7 @@ returns-in-Ok-judge-clause-runs g c =
     let judged = rw c.in-Ok-build.ensures at c.in-Ok-judge.ensures.ok in
     let j = c.in-Ok-judge.judgement in
     check-runs _ _ _ _ _ (fit_checking_seen c.args.words.now) c.in-Ok.grid c.as_slice.result.now c.status.result _
-    c.requires.idle c.in-Ok.ensures.ok j c.in-Ok-judge.ensures.opened c.in-Ok-judge.ensures.ended judged
+    c.in-Ok.ensures.ok j c.in-Ok-judge.ensures.opened c.in-Ok-judge.ensures.ended judged
     (c.as_slice.ensures.value ∙ c.judgement_report.ensures
     ∙ ap (λ k. fit_judged_text k j) c.n-n.ensures.value) c.status.ensures
     c.end_with_text.ensures.tells
@@ -20,16 +20,16 @@ pub returns-in-Err-NoMemory-clause-runs : goal.returns-in-Err-NoMemory-clause-ru
 returns-in-Err-NoMemory-clause-runs g c =
     let no_memory =
     rw c.in-Ok-build.ensures at (c.in-Err-NoMemory.ensures.no_memory (ap Err c.in-Err-NoMemory.field-0-is)) in
-    check-memory _ _ _ _ (fit_checking_seen c.args.words.now) c.in-Ok.grid c.requires.idle c.in-Ok.ensures.ok no_memory
+    check-memory _ _ _ _ (fit_checking_seen c.args.words.now) c.in-Ok.grid c.in-Ok.ensures.ok no_memory
 
 pub returns-in-Ok-build-clause-runs : goal.returns-in-Ok-build-clause-runs
 returns-in-Ok-build-clause-runs g c =
     let fault = rw c.in-Ok-build.ensures at (c.in-Err-Failed.ensures.failed (ap Err c.in-Err-Failed.field-0-is)) in
-    check-fault _ _ _ _ (fit_checking_seen c.args.words.now) c.in-Ok.grid c.requires.idle c.in-Ok.ensures.ok fault
+    check-fault _ _ _ _ (fit_checking_seen c.args.words.now) c.in-Ok.grid c.in-Ok.ensures.ok fault
 
 pub returns-in-Ok-clause-runs : goal.returns-in-Ok-clause-runs
 returns-in-Ok-clause-runs g c =
-    spent-runs _ _ _ (CheckFit (fit_checking_seen c.args.words.now)) c.in-Ok.grid c.requires.idle c.in-Ok.ensures.ok
+    spent-runs _ _ _ (CheckFit (fit_checking_seen c.args.words.now)) c.in-Ok.grid c.in-Ok.ensures.ok
 
 pub returns-clause-runs : goal.returns-clause-runs
 returns-clause-runs g c = c.in-Err.ensures.err (CheckFit (fit_checking_seen c.args.words.now))

@@ -25,7 +25,7 @@ returns-in-Ok-made-clause-runs g c =
     λ files told. (let range = c.state_laws.ensures.levels c.in-Ok.grid _ (read.is_grid files told) in
     first-begins s c.in-Ok.grid c.requires.accepted.budget_low range.0 range.1 (LeastFollows frames)
     (subst P (sym shown) c.in-Ok-made.ensures.begins) (subst TellsFrames (sym shown) (λ ps. refl))) in
-    script-runs _ _ _ _ s c.in-Ok.grid c.requires.idle c.requires.opens read (LeastFollows run.new.frames) _ run.result
+    script-runs _ _ _ _ s c.in-Ok.grid c.requires.opens read (LeastFollows run.new.frames) _ run.result
     run.ensures.status run.ensures.leaves (none-left (Some (OnGrid c.args.command.now.grid.now (Frames s))) run.result
     (ap (λ (show : Show). is_of_engine show && ends_script run.result) shown))
     (λ end complete leaves. least-leaves c.args.prefix.now c.args.tolerance (LeastFollows run.new.frames) end
@@ -35,7 +35,7 @@ returns-in-Ok-made-clause-runs g c =
 
 pub returns-in_default-clause-runs : goal.returns-in_default-clause-runs
 returns-in_default-clause-runs g c =
-    spent-runs _ _ _ (Frames (scripted_seen c.args.command.now)) c.in-Ok.grid c.requires.idle c.in-Ok.ensures.ok
+    spent-runs _ _ _ (Frames (scripted_seen c.args.command.now)) c.in-Ok.grid c.in-Ok.ensures.ok
 
 pub returns-in-Err-clause-runs : goal.returns-in-Err-clause-runs
 returns-in-Err-clause-runs g c = c.in-Err.ensures.err (Frames (scripted_seen c.args.command.now))
