@@ -19,7 +19,9 @@ use bintree_addr::{Rank, Slot, Tri};
 /// A triangle, and the slot at which a mesh has it.
 #[derive(Clone, Copy)]
 pub struct Located {
+    /// The triangle.
     pub tri: Tri,
+    /// Its slot in the pool.
     pub slot: Slot,
 }
 

@@ -1,7 +1,7 @@
 -- What a reader of files has come to, and what it answers: the header's answer, and behind an accepted
 -- header the raster's. The laws of `Laws` say in the format's own words what these answers are.
 --
--- Words: Progress, header_fault, raster_fault, grid_with, grid_answer, file_answer, resume, grid_of, taken,
+-- Words: Progress, header_fault, raster_fault, grid_with, grid_answer, samples_at, file_answer, resume, grid_of, taken,
 -- StaysRefused, StandsFor, EndsHeaderOf, EndsHeader.
 use Rattle.std.specs.Prelude.{◌≡◌, ℕ, ◌+◌, ◌-◌, ◌<◌, List, ◌++◌, length, Result, Ok, Err}
 use Rattle.pgm_header.specs.declared.reader.TheConstants.{MOST_HEADER_BYTES}

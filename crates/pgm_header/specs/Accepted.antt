@@ -1,6 +1,6 @@
 -- Which headers are accepted, and what is answered for the others: this project's own profile of PGM files.
 --
--- Words: IsLevel, IsMaxval, IsHeader, Accepts, side_level, judged, HeaderAnswer.
+-- Words: IsLevel, IsMaxval, IsHeader, Accepts, side_level, with_level, judged, HeaderAnswer.
 use Rattle.std.specs.Prelude.{◌≡◌, ℕ, ◌≤◌, ◌==◌, ◌||◌, not, nat_lt, if◌then◌else◌, List, Option, Some, None, Result, Ok}
 use Rattle.std.specs.Prelude.{Err}
 use Rattle.pgm_header.specs.declared.accepted.TheConstants.{GREATEST_MAXVAL}

@@ -1,7 +1,7 @@
 -- The header as a machine of bytes, without places and without a limit of length. The laws of `Laws` say
 -- in the format's own words what it reads.
 --
--- Words: gap_step, number_ended, number_step, step_of, IsState, IsStep.
+-- Words: letter_step, gap_step, number_ended, number_step, step_of, IsState, IsStep.
 use Rattle.std.specs.Prelude.{ℕ, ◌+◌, ◌-◌, ◌*◌, ◌^◌, ◌<◌, ◌≤◌, true, false, ◌==◌, ◌&&◌, nat_lt, if◌then◌else◌, ⊤}
 use Rattle.std.specs.Char.{is_ascii_digit}
 use Rattle.text_laws.specs.Blanks.{is_white, is_line_end}

@@ -1,9 +1,8 @@
 -- The raster of a PGM file: what stands behind its header. The forms are those of the Netpbm manual,
 -- "pgm": raw (`P5`) with one or two bytes a sample, and plain (`P2`) with decimal texts.
 --
--- Words: IsSampleText, IsTextOfSample, AreEndedTexts, AreEnded, HasOpenEnd,
--- IsRaster; IsSampleCut, IsRasterCutShort, IsStray, IsTrailingAt, EndsThere, IsAboveAt, IsBadSampleAt,
--- IsRasterOpen.
+-- Words: IsSampleText, IsTextOfSample, AreEndedTexts, AreEnded, HasOpenEnd, IsRaster; IsSampleCut, IsRasterCutShort,
+-- IsStray, IsTrailingAt, EndsThere, IsAboveAt, IsBadSampleAt, IsRasterOpen.
 use Rattle.std.specs.Prelude.{◌≡◌, ℕ, ◌+◌, ◌<◌, ◌≤◌, ⊤, ◌⊎◌, List, [], ◌∷◌, ◌++◌, length, All}
 use Rattle.std.specs.List.{flat_map}
 use Rattle.text_laws.specs.Digits.{IsDigit, value_of}

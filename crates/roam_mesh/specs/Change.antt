@@ -1,8 +1,8 @@
 -- What each call does to the parts of a mesh, as functions.
 -- All of it is this project's own.
--- Words: chief_slot, diamond_slots, child_slots, above_slots, with_above, with_mate, with_chain, gone_entry, taken_out,
--- left, left_all, pushed, pushed_all, rekeyed, is_mate_fresh, put_in, heard, rated, read_entry, entered, seated,
--- unheard, forgotten, begun_at, expired_at.
+-- Words: chief_slot, diamond_slots, child_slots, above_slots, with_above, with_mate, with_chain, with_children,
+-- gone_entry, taken_out, left, left_all, pushed, pushed_all, rekeyed, is_mate_fresh, put_in, heard, rated,
+-- read_entry, entered, seated, unheard, forgotten, begun_at, expired_at.
 use Rattle.std.specs.Prelude.{ℕ, ◌+◌, ◌*◌, ◌/◌, ◌&&◌, ◌||◌, Bool, true, false, cond, nat_le, nat_lt, List, [], ◌∷◌}
 use Rattle.std.specs.Prelude.{◌++◌, None, Some, option_map, slice_index_or, slice_set}
 use Rattle.edge_laws.specs.Edge.{mate_of}

@@ -1,6 +1,6 @@
 -- The log of a mesh, and what steps put into it.
 -- All of it is this project's own.
--- Words: noted, noted_all, parents_of, diamond_of, IsBornOfSplit.
+-- Words: with_one, noted, noted_all, second_parent, parents_of, diamond_of, IsBornOfSplit.
 use Rattle.std.specs.Prelude.{◌≡◌, ℕ, ◌+◌, ◌/◌, ◌≤◌, ◌⊎◌, true, cond, nat_lt, List, [], ◌∷◌, ◌++◌, length, Option, None}
 use Rattle.std.specs.Prelude.{Some}
 use Rattle.std.specs.List.{AllByRecursion}

@@ -4,9 +4,9 @@
 -- QueuedState, mesh_of, is_leaf_at, is_bare, is_ready, is_ready_at, is_chief_at, is_entry_at, is_out, leaf_rank,
 -- worst_rank, better_of, diamond_rank, IsSlotList, IsWhole, IsPlaced, IsNear, IsParts.
 use Rattle.std.specs.Prelude.{◌≡◌, ℕ, ◌+◌, ◌*◌, ◌^◌, ◌≤◌, Bool, true, false, not, ◌&&◌, ◌||◌, cond, nat_eq, nat_le}
-use Rattle.mesh_defs.specs.declared.counters.TheConstants.{LONGEST_WAY}
 use Rattle.std.specs.Prelude.{nat_lt, List, length, map, take, reverse, Option, None, Some, slice_index, slice_index_or}
 use Rattle.std.specs.List.{IsDistinct}
+use Rattle.mesh_defs.specs.declared.counters.TheConstants.{LONGEST_WAY}
 use Rattle.mesh_defs.specs.ClosedSet.{among}
 use Rattle.edge_laws.specs.Edge.{mate_of}
 use Rattle.edge_laws.specs.Slots.{address_at, has_children, IsPool}

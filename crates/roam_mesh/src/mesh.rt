@@ -118,8 +118,8 @@ impl Mesh {
     /// not before it is among them, and each that was and is not; one that was split and merged again is listed
     /// twice. None where the frame split and merged more triangles than `make` took room for leaves.
     ///
-    /// Nothing is listed before the first frame, and no other call changes the list. Cost (not proved): nothing;
-    /// `advance` pays for the list, a place for each triangle that it splits or merges.
+    /// Nothing is listed before the first frame, and no other call changes the list.
+    /// Cost (not proved): nothing; `advance` pays for the list, a place for each triangle that it splits or merges.
     pub fn changed(&self) -> Option<&[Tri]>
         ensures { MatchOption result
             (self.now.log.changed ≡ None)

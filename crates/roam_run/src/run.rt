@@ -13,7 +13,7 @@ ghost use Rattle.run_laws.specs.Statement.{LeavesOutside, IsCaused};
 ghost use Rattle.run_laws.specs.Leaving.{Runs};
 ghost use Rattle.run_engine.specs.EngineSeen.{engine_seen};
 ghost use Rattle.run_words.specs.WordView.{show_for, scripted_seen, command_seen, IsFrameCommand};
-ghost use Rattle.run_words.specs.WordView.{IsCommandInBounds as IsAcceptedCommand};
+ghost use Rattle.run_words.specs.WordView.{IsCommandInBounds};
 ghost use Rattle.run_words.specs.ShowView.{show_seen, IsShowing};
 
 use frame_loop::Engine;
@@ -85,8 +85,8 @@ impl Run {
 /// - `info` reads a grid, and writes a line on it. `try` reads nothing: it makes a grid and a script from a level and
 ///   a seed, and writes a line with the sums of their frames.
 ///
-/// Files are read and meshes written in pieces. A mesh is finished before its line is written, as shows where the
-/// write of either fails (`ends`). The first call that fails ends the run. Proved of this: each of shelf, meshes and
+/// Files are read and meshes written in pieces. A mesh is finished before its line is written (`ends` shows it
+/// where the write of either fails). The first call that fails ends the run. Proved of this: each of shelf, meshes and
 /// report that had not failed before the run is not called again once a call of it has failed (`leaves`); and where
 /// contents are told, nothing is written after a write that failed (`ends`).
 /// All memory is taken before a script is opened: a run that ends NoMemory has opened no script (`ends`).
@@ -219,7 +219,7 @@ fn run_of_words<O: Outside>(alloc: Global, words: &[String], outside: &mut O) ->
 /// Carries out a command.
 fn run_command<O: Outside>(alloc: Global, command: &Command<'_>, outside: &mut O) -> Run
     requires idle { (O.moment outside.old).under_way ≡ false }
-    requires accepted { IsAcceptedCommand command.now }
+    requires accepted { IsCommandInBounds command.now }
     requires opens { (O.moment outside.old).shelf.opens ≤ 2 ^ 63 }
     ensures same { O.is_same outside.old outside.new }
     ensures runs { Runs (O.moment outside.old) (O.moment outside.new) (Some (command_seen command.now))

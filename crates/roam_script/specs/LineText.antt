@@ -1,8 +1,7 @@
 -- The line that bytes of a script are, or the first test that refuses them. This project's own format.
 --
--- Words: command_in, Range, from_to, around, number_of_field, size_at,
--- ranges_of, field_number, fields_fault, line_with, line_of, counted_line, checked_line, is_comment, fields_line,
--- line_in.
+-- Words: command_in, Range, from_to, around, is_in_range, number_of_field, size_at, ranges_of, field_number,
+-- fields_fault, line_with, line_of, counted_line, checked_line, is_comment, fields_line, line_in.
 use Rattle.std.specs.Prelude.{ℕ, zero, suc, ◌+◌, ◌^◌, Bool, false, ◌==◌, ◌&&◌, nat_lt, if◌then◌else◌, List, [], ◌∷◌}
 use Rattle.std.specs.Prelude.{length, Option, Some, None, unwrap_or, Result, Ok, Err, codes, bytes_eq, ℤ, pos, neg_ℤ}
 use Rattle.std.specs.Prelude.{int_le, unsigned_abs}

@@ -1,11 +1,10 @@
 -- What a check of a certificate and a mesh comes to, and where it stops.
 -- Words: judged_text, judged_status, mesh_opens, judged_outcome, cert_mesh_text, IsJudged, IsFaultlessFile,
--- MeshHasRead, NoMemoryBehind, FailsBehind, JudgesNoMemory, JudgesFault.
+-- NoMemoryBehind, FailsBehind, JudgesNoMemory, JudgesFault.
 use Rattle.std.specs.Prelude.{◌≡◌, ℕ, ◌+◌, ◌⊎◌, List, Some, Ok}
 use Rattle.mesh_defs.specs.HeightField.{HeightField}
 use Rattle.mesh_defs.specs.State.{text_in}
 use Rattle.roam_edge.specs.Shelf.{NamedFile, bytes_of}
-use Rattle.roam_edge.specs.Told.{IsPrefix}
 use Rattle.certificate_laws.specs.declared.reason.Reject.TheVariants.{BadLine, NotConforming, OverBudget, BadReason}
 use Rattle.certificate_laws.specs.declared.reason.Reject.TheVariants.{TooFewReasons, MeshDiffers}
 use Rattle.cert_text.specs.Certificate.{Certificate}
@@ -17,7 +16,7 @@ use Rattle.run_laws.specs.Certify.{checks_at, IsFaultless}
 use Rattle.run_laws.specs.ReportText.{certified_line, rejection}
 use Rattle.run_laws.specs.Outcome.{Outcome, text_outcome, IsCheckOutcome}
 use Rattle.run_laws.specs.Moment.{Moment}
-use Rattle.run_laws.specs.Leaving.{HasOpened, HasFailed}
+use Rattle.run_laws.specs.Leaving.{HasOpened, HasFailed, MeshHasRead}
 use Rattle.run_check.specs.declared.verdict_report.Judgement.{Judgement}
 use Rattle.run_check.specs.declared.verdict_report.Judgement.TheVariants.{Certified, Rejected}
 
@@ -59,10 +58,6 @@ IsJudged c grid files judgement =
 abbrev pub IsFaultlessFile : Checking → HeightField → List NamedFile → Type 0
 IsFaultlessFile c grid files =
     (cert : Certificate) × (cert_in grid.n (bytes_of files c.certificate) ≡ Ok cert) × IsFaultless c grid cert
-
--- so much of a mesh was read: a prefix of this text
-abbrev pub MeshHasRead : List ℕ → List ℕ → Type 0
-MeshHasRead text read = IsPrefix read text
 
 -- behind this certificate memory ran out: at once, or, if it has no fault, when the mesh was opened
 abbrev pub NoMemoryBehind : Checking → HeightField → Certificate → Moment → Moment → Type 0

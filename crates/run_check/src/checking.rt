@@ -7,10 +7,10 @@ ghost use Rattle.mesh_compare.specs.Differs.{first_difference};
 ghost use Rattle.word_laws.specs.Words.{OnGrid, Check};
 ghost use Rattle.run_laws.specs.Outcome.{IsCheckOutcome};
 ghost use Rattle.run_laws.specs.Promise.{HasEnded};
-ghost use Rattle.run_laws.specs.Leaving.{Runs, HasOpened, HasFailed};
+ghost use Rattle.run_laws.specs.Leaving.{Runs, HasOpened, HasFailed, MeshHasRead};
 ghost use Rattle.run_words.specs.CertifyView.{checking_seen, AreInBounds};
 ghost use Rattle.run_check.specs.Judging.{judged_status, mesh_opens, judged_outcome, cert_mesh_text, IsJudged};
-ghost use Rattle.run_check.specs.Judging.{JudgesNoMemory, MeshHasRead, JudgesFault, NoMemoryBehind, FailsBehind};
+ghost use Rattle.run_check.specs.Judging.{JudgesNoMemory, JudgesFault, NoMemoryBehind, FailsBehind};
 
 use crate::verdict_report::{Judgement, judgement_report};
 use cert_text::Cert;

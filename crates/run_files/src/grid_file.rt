@@ -82,8 +82,8 @@ pub fn read_grid<O: Outside>(alloc: Global, name: &str, outside: &mut O) -> Resu
     }
 }
 
-/// Reads the grid of this name, or ends the command: a refusal is told, and a failed read and want of memory are its
-/// end too.
+/// Reads the grid of this name, or ends the command: where the grid is refused, the report is told why; a failed read
+/// and running out of memory end it too.
 pub fn grid_or_end<O: Outside>(alloc: Global, name: &str, outside: &mut O) -> Result<Grid, Status>
     requires opens { (O.moment outside.old).shelf.opens ≤ 2 ^ 63 }
     ensures same { O.is_same outside.old outside.new }

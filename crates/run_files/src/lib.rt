@@ -1,8 +1,9 @@
 //! The files that a command line names, and the lines of the report that tell of no frame.
 //!
-//! For the crates that carry a command out. Grids and certificates are read from a shelf, in pieces, to
-//! their end or their first refusal. A text that ends a run is written here, and so is the whole command `info`.
-//! Nothing here knows what makes a frame.
+//! For the crates that carry a command out. An `Outside` is what a run calls: a shelf, a sink of meshes and a report
+//! (`Lent`). Grids and certificates are read from it, in pieces, to their end or their first refusal; a mesh with its
+//! line is written to it, and so is a text that ends a run. The whole command `info` is here. What makes a frame is a
+//! trait here (`FrameMaker`), and who makes one is not known.
 
 #![tactic(auto)]
 

@@ -12,7 +12,7 @@ ghost use Rattle.wedgie_tree.specs.declared.wedges.TheConstants.{GREATEST_SPACIN
 ghost use Rattle.obj_write.specs.MeshView.{view_text, IsView};
 ghost use Rattle.cert_text.specs.CertText.{cert_text};
 ghost use Rattle.fit_cert_text.specs.FitCertText.{fit_cert_text};
-ghost use Rattle.mesh_compare.specs.Differs.{FindsDifference, IsReadInPart as IsPartRead};
+ghost use Rattle.mesh_compare.specs.Differs.{FindsDifference, IsReadInPart};
 ghost use Rattle.mesh_compare.specs.declared.comparing.CompareFault.{CompareFault as CompareFaultSeen};
 ghost use Rattle.run_laws.specs.Act.{WholeMesh, ReportText};
 ghost use Rattle.run_laws.specs.Moment.{Moment, moment, OnlyReads, Does};
@@ -90,7 +90,7 @@ pub trait Outside {
         ensures calm { IfOk result (λ _. (moment self.new).shelf_faults ≡ (moment self.old).shelf_faults) }
         ensures failed { result ≡ Err CompareFaultSeen.Failed →
             Rose (moment self.old).shelf_faults (moment self.new).shelf_faults }
-        ensures cut { result ≡ Err CompareFaultSeen.Failed → IsPartRead
+        ensures cut { result ≡ Err CompareFaultSeen.Failed → IsReadInPart
             (mesh_text w.now.n w.now.heights spacing [] leaves.now) (moment self.old).shelf.rest
             (moment self.new).shelf.rest }
         ensures goes_on { result ≡ Err CompareFaultSeen.Failed → (moment self.new).shelf.ended ≡ false }

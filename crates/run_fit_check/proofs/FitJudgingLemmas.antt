@@ -15,7 +15,7 @@ use Rattle.run_laws.specs.Fit.{goal_of, fit_text}
 use Rattle.run_laws.specs.Outcome.{IsFitCheckOutcome}
 use Rattle.run_laws.specs.Promise.{Seen, HasEnded, CommandNoMemory}
 use Rattle.run_laws.specs.Moment.{Moment}
-use Rattle.run_laws.specs.Leaving.{Runs, HasOpened, HasFailed, ReadsGrid, TellsLast}
+use Rattle.run_laws.specs.Leaving.{Runs, HasOpened, HasFailed, ReadsGrid, TellsLast, MeshHasRead}
 use Rattle.run_laws.proofs.ActLemmas.{stands-nothing}
 use Rattle.run_laws.proofs.GridLemmas.{file-fault, same-name}
 use Rattle.run_laws.proofs.RunLemmas.{read-failed, memory-spent, opens-then, fails-then, certified-runs, rejected-runs}
@@ -23,7 +23,7 @@ use Rattle.run_laws.proofs.RunLemmas.{tells-as}
 use Rattle.run_fit_check.specs.declared.verdict_report.Judgement.{Judgement}
 use Rattle.run_fit_check.specs.declared.verdict_report.Judgement.TheVariants.{Certified, Rejected, BadLine, MeshDiffers}
 use Rattle.run_fit_check.specs.FitJudging.{fit_judged_text, fit_judged_status, fit_mesh_opens, fit_judged_outcome}
-use Rattle.run_fit_check.specs.FitJudging.{IsFitJudged, IsFaultlessFitFile, FitMeshHasRead, IsSoundFor, FitFailsBehind}
+use Rattle.run_fit_check.specs.FitJudging.{IsFitJudged, IsFaultlessFitFile, IsSoundFor, FitFailsBehind}
 use Rattle.run_fit_check.specs.FitJudging.{FitJudgesNoMemory, FitJudgesFault}
 
 -- The triangles are those of a certificate without a fault, of so many that are off by so much.
@@ -63,12 +63,12 @@ module _ (c : FitChecking) (grid : HeightField) (cert : FitCertificate) (count d
 
   -- a read of the file failed
   pub fails-behind : (before now : Moment) →
-      HasFailed before now 1 c.mesh (FitMeshHasRead (fit_text c.spacing grid triangles))
+      HasFailed before now 1 c.mesh (MeshHasRead (fit_text c.spacing grid triangles))
       → FitFailsBehind c grid cert before now
   fails-behind before now failed = (
     sound.0,
     sound.1,
-    subst (λ (l : List ℕ). HasFailed before now 1 c.mesh (FitMeshHasRead (fit_text c.spacing grid l))) mesh-is failed,
+    subst (λ (l : List ℕ). HasFailed before now 1 c.mesh (MeshHasRead (fit_text c.spacing grid l))) mesh-is failed,
   )
 
 -- commands that check are the same

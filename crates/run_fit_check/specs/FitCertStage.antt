@@ -1,5 +1,5 @@
 -- How far a certificate of a fitted mesh was read, and what the calls do that read it.
--- Words: fit_place_seen, IsFitStageCounted, fit_refuses, TakesFitCert, EndsFitCert.
+-- Words: fit_place_seen, IsFitStageCounted, TakesFitCert, EndsFitCert.
 use Rattle.std.specs.Prelude.{◌≡◌, ℕ, ◌≤◌, List, length, None, Result}
 use Rattle.roam_script.specs.declared.limits.TheConstants.{MOST_LINE_BYTES}
 use Rattle.fit_certificate_laws.specs.declared.limits.TheConstants.{MOST_REASONS}
@@ -7,7 +7,7 @@ use Rattle.fit_certificate_laws.specs.Certificate.{FitCertificate}
 use Rattle.fit_cert_text.specs.FitCertReader.{nothing_fit_read, fit_line_in}
 use Rattle.fit_cert_text.specs.Laws.{fit_line_count}
 use Rattle.run_files.specs.declared.cert_file.CertStop.{CertStop}
-use Rattle.run_files.specs.declared.cert_file.CertStop.TheVariants.{BadLine}
+use Rattle.run_files.specs.CertStage.{refuses}
 use Rattle.run_laws.specs.CertFile.{FitCertPlace, fit_cert_in, TakesLines, EndsLines}
 use Rattle.run_fit_check.specs.declared.fit_cert_file.FitCertStage.{FitCertStage}
 
@@ -23,15 +23,11 @@ pub record IsFitStageCounted (stage : FitCertStage) : Type 0 where
   pub few_beyond : length stage.reader.read.beyond ≤ MOST_REASONS
   pub short : length stage.part.items ≤ MOST_LINE_BYTES
 
--- the answer that tells a line that is refused
-abbrev pub fit_refuses : ℕ → CertStop
-fit_refuses line = BadLine line
-
 -- what taking bytes does, by its answer: a place was reached, or a line is refused, whatever follows
 abbrev pub TakesFitCert : {T : Type 0} → ℕ → List ℕ → FitCertStage → Result T CertStop → Type 0
 TakesFitCert n read stage answer =
-    TakesLines (fit_line_in n) nothing_fit_read (fit_cert_in n) fit_refuses read (fit_place_seen stage) answer
+    TakesLines (fit_line_in n) nothing_fit_read (fit_cert_in n) refuses read (fit_place_seen stage) answer
 
 -- what the end of a file comes to, by the answer
 abbrev pub EndsFitCert : ℕ → List ℕ → Result FitCertificate CertStop → Type 0
-EndsFitCert n file answer = EndsLines (fit_cert_in n) fit_refuses file answer
+EndsFitCert n file answer = EndsLines (fit_cert_in n) refuses file answer

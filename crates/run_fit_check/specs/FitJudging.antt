@@ -1,10 +1,9 @@
 -- What a check of a fitted mesh by a certificate comes to, and where it stops.
 -- Words: fit_judged_text, fit_judged_status, fit_mesh_opens, fit_judged_outcome, IsFitJudged, IsFaultlessFitFile,
--- IsSoundFor, FitMeshHasRead, FitNoMemoryBehind, FitFailsBehind, FitJudgesNoMemory, FitJudgesFault.
+-- IsSoundFor, FitNoMemoryBehind, FitFailsBehind, FitJudgesNoMemory, FitJudgesFault.
 use Rattle.std.specs.Prelude.{◌≡◌, ℕ, ◌+◌, ◌⊎◌, List, length, Some, Ok}
 use Rattle.mesh_defs.specs.HeightField.{HeightField}
 use Rattle.roam_edge.specs.Shelf.{NamedFile, bytes_of}
-use Rattle.roam_edge.specs.Told.{IsPrefix}
 use Rattle.certificate_laws.specs.declared.reason.Reject.TheVariants as view
 use Rattle.fit_certificate_laws.specs.Certificate.{FitCertificate}
 use Rattle.deviation_laws.specs.PlaneHeight.{deviation_of}
@@ -17,7 +16,7 @@ use Rattle.run_laws.specs.Fit.{fit_text}
 use Rattle.run_laws.specs.ReportText.{certified_fit_line, fit_rejection, rejection}
 use Rattle.run_laws.specs.Outcome.{Outcome, text_outcome, IsFitCheckOutcome}
 use Rattle.run_laws.specs.Moment.{Moment}
-use Rattle.run_laws.specs.Leaving.{HasOpened, HasFailed}
+use Rattle.run_laws.specs.Leaving.{HasOpened, HasFailed, MeshHasRead}
 use Rattle.run_fit_check.specs.declared.verdict_report.Judgement.{Judgement}
 use Rattle.run_fit_check.specs.declared.verdict_report.Judgement.TheVariants.{Certified, Rejected, BadLine, MeshDiffers}
 
@@ -65,10 +64,6 @@ IsSoundFor c grid cert count deviation =
     (triangles : List ℕ) × IsFitFaultless c grid cert triangles × (count ≡ length triangles)
     × (deviation ≡ deviation_of grid.n grid.heights triangles)
 
--- so much of a mesh was read: a prefix of this text
-abbrev pub FitMeshHasRead : List ℕ → List ℕ → Type 0
-FitMeshHasRead text read = IsPrefix read text
-
 -- behind this certificate memory ran out: at once, or, if it has no fault, when the mesh was opened
 abbrev pub FitNoMemoryBehind : FitChecking → HeightField → FitCertificate → Moment → Moment → Type 0
 FitNoMemoryBehind c grid cert before now =
@@ -78,7 +73,7 @@ FitNoMemoryBehind c grid cert before now =
 abbrev pub FitFailsBehind : FitChecking → HeightField → FitCertificate → Moment → Moment → Type 0
 FitFailsBehind c grid cert before now =
     (triangles : List ℕ) × IsFitFaultless c grid cert triangles
-    × HasFailed before now 1 c.mesh (FitMeshHasRead (fit_text c.spacing grid triangles))
+    × HasFailed before now 1 c.mesh (MeshHasRead (fit_text c.spacing grid triangles))
 
 -- memory ran out once the certificate was opened, or once the mesh was too, behind a certificate without a fault
 abbrev pub FitJudgesNoMemory : FitChecking → HeightField → Moment → Moment → Type 0
@@ -95,4 +90,4 @@ FitJudgesFault c grid before now =
     × ((files : List NamedFile) → before.shelf.files ≡ Some files →
     fit_cert_in grid.n (bytes_of files c.certificate) ≡ Ok cert)
     × IsFitFaultless c grid cert triangles
-    × HasFailed before now 2 c.mesh (FitMeshHasRead (fit_text c.spacing grid triangles)))
+    × HasFailed before now 2 c.mesh (MeshHasRead (fit_text c.spacing grid triangles)))

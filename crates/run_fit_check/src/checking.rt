@@ -9,10 +9,10 @@ ghost use Rattle.word_laws.specs.Words.{OnGrid, CheckFit};
 ghost use Rattle.run_laws.specs.Fit.{fit_text};
 ghost use Rattle.run_laws.specs.Outcome.{IsFitCheckOutcome};
 ghost use Rattle.run_laws.specs.Promise.{HasEnded};
-ghost use Rattle.run_laws.specs.Leaving.{Runs, HasOpened, HasFailed};
+ghost use Rattle.run_laws.specs.Leaving.{Runs, HasOpened, HasFailed, MeshHasRead};
 ghost use Rattle.run_words.specs.FitView.{fit_checking_seen, AreFitBounds};
 ghost use Rattle.run_fit_check.specs.FitJudging.{fit_judged_status, fit_mesh_opens, fit_judged_outcome, IsFitJudged};
-ghost use Rattle.run_fit_check.specs.FitJudging.{FitJudgesNoMemory, FitMeshHasRead, FitJudgesFault, IsSoundFor};
+ghost use Rattle.run_fit_check.specs.FitJudging.{FitJudgesNoMemory, FitJudgesFault, IsSoundFor};
 ghost use Rattle.run_fit_check.specs.FitJudging.{FitNoMemoryBehind, FitFailsBehind};
 
 use crate::fit_cert_file::read_fit_cert;
@@ -117,9 +117,11 @@ fn judge_cert<O: Outside>(
     ensures ended { IfOk result (λ judgement. fit_judged_status judgement ≡ Status.Done →
         HasEnded (O.moment outside.new).shelf) }
     ensures no_memory { result ≡ Err CheckStop.NoMemory →
-        FitNoMemoryBehind (fit_checking_seen words.now) wedges.now cert.now (O.moment outside.old) (O.moment outside.new) }
+        FitNoMemoryBehind (fit_checking_seen words.now) wedges.now cert.now (O.moment outside.old)
+        (O.moment outside.new) }
     ensures failed { result ≡ Err CheckStop.Failed →
-        FitFailsBehind (fit_checking_seen words.now) wedges.now cert.now (O.moment outside.old) (O.moment outside.new) }
+        FitFailsBehind (fit_checking_seen words.now) wedges.now cert.now (O.moment outside.old)
+        (O.moment outside.new) }
 {
     let grid = wedges.grid();
     match check(alloc, grid, cert, goal_in(words.target, grid.n())) {
@@ -155,9 +157,11 @@ fn judge_mesh<O: Outside>(
     ensures ended { IfOk result (λ judgement. fit_judged_status judgement ≡ Status.Done →
         HasEnded (O.moment outside.new).shelf) }
     ensures no_memory { result ≡ Err CheckStop.NoMemory →
-        FitNoMemoryBehind (fit_checking_seen words.now) wedges.now cert.now (O.moment outside.old) (O.moment outside.new) }
+        FitNoMemoryBehind (fit_checking_seen words.now) wedges.now cert.now (O.moment outside.old)
+        (O.moment outside.new) }
     ensures failed { result ≡ Err CheckStop.Failed →
-        FitFailsBehind (fit_checking_seen words.now) wedges.now cert.now (O.moment outside.old) (O.moment outside.new) }
+        FitFailsBehind (fit_checking_seen words.now) wedges.now cert.now (O.moment outside.old)
+        (O.moment outside.new) }
 {
     difference_laws();
     let _level = wedges.grid().n();
@@ -192,7 +196,7 @@ fn difference<O: Outside>(
     ensures ended { IfOk result (λ found. found ≡ None → HasEnded (O.moment outside.new).shelf) }
     ensures opened { result ≢ Err CheckStop.Failed → HasOpened (O.moment outside.old) (O.moment outside.new) 1 }
     ensures failed { result ≡ Err CheckStop.Failed → HasFailed (O.moment outside.old) (O.moment outside.new) 1
-        words.now.mesh.now (FitMeshHasRead (fit_text words.now.spacing wedges.now mesh.now)) }
+        words.now.mesh.now (MeshHasRead (fit_text words.now.spacing wedges.now mesh.now)) }
 {
     let Ok(()) = outside.open_named(words.mesh) else {
         return Err(CheckStop::Failed);

@@ -2,7 +2,7 @@
 //! whether one is sound, and a mesh the one that it is of.
 //!
 //! For the run of `roam`. The first reads a grid, and writes the certificate to the report. For the second a grid, a
-//! certificate and a mesh are read from a shelf, in this order, and the first test that fails ends the check with its
+//! certificate and a mesh are read from an `Outside`, in this order, and the first test that fails ends the check with its
 //! line. It is a crate beside `run_check`, so that the two are proved side by side.
 
 #![tactic(auto)]

@@ -1,10 +1,11 @@
 -- How a command is carried out: how it ends, what its engine tells then, and what reading its files and telling its end
 -- come to.
--- Words: CommandEnds, Runs, HasOpened, HasFailed, ReadsGrid, EndsWith, TellsLast, LeavesByScript.
+-- Words: CommandEnds, Runs, HasOpened, HasFailed, MeshHasRead, ReadsGrid, EndsWith, TellsLast, LeavesByScript.
 use Rattle.std.specs.Prelude.{◌≡◌, ◌≢◌, ◌⊎◌, ℕ, ◌+◌, IsTrue, List, [], ◌∷◌, Option, Some, Ok}
 use Rattle.mesh_defs.specs.HeightField.{HeightField}
 use Rattle.roam_edge.specs.Fault.{Rose, IsInTime, next_count}
 use Rattle.roam_edge.specs.Shelf.{NamedFile, bytes_of}
+use Rattle.roam_edge.specs.Told.{IsPrefix}
 use Rattle.pgm_grid.specs.Progress.{grid_of}
 use Rattle.run_laws.specs.declared.status.Status.{Status}
 use Rattle.run_laws.specs.declared.status.Status.TheVariants.{Done, NoMemory, ReadFault, WriteFault}
@@ -26,8 +27,8 @@ pub record CommandEnds (before now : Told) (old new : Seen) (command : Command)
       → (end : Outcome) × IsCommandOutcome command files end × EndsAs before now old new end status
       × (IsTrue (is_complete status) → left ≡ end.engine)
 
--- The words were carried out that are this command, or none: what stands by the status, how the outside and the engine
--- are left, and that the status has its cause. Every function that carries a command out promises this.
+-- This command was carried out, or the words are none: what stands by the status, how the outside and the engine are
+-- left, and that the status has its cause. Every function that carries a command out promises this.
 pub record Runs (before now : Moment) (command : Option Command) (status : Status)
     (left : Option EngineEnd) : Type 0 where
   pub ends : EndsByStatus before now command status left
@@ -36,7 +37,7 @@ pub record Runs (before now : Moment) (command : Option Command) (status : Statu
   pub causes : StatusHasCause before.shelf_faults now.shelf_faults before.sinks.mesh_faults now.sinks.mesh_faults
       before.sinks.report_faults now.sinks.report_faults status
 
--- so many files were opened and read, no read failed, and no sink was called
+-- so many files were opened and read, no read failed, and the sinks tell what they told
 pub record HasOpened (before now : Moment) (files : ℕ) : Type 0 where
   pub only : OnlyReads before now
   pub opens : now.shelf.opens ≡ before.shelf.opens + files
@@ -52,6 +53,10 @@ pub record HasFailed (before now : Moment) (files : ℕ) (name : List ℕ) (hold
   pub in_time : IsInTime before.shelf_late before.shelf_faults now.shelf_late
   pub stops : (all : List NamedFile) → before.shelf.files ≡ Some all
       → StopsReading holds (bytes_of all name) now.shelf.rest now.shelf.ended
+
+-- so much of a mesh with this text was read: a prefix
+abbrev pub MeshHasRead : List ℕ → List ℕ → Type 0
+MeshHasRead text read = IsPrefix read text
 
 -- the grid of this name was read to its end, and it is this grid, where the shelf tells its files
 pub record ReadsGrid (before now : Moment) (name : List ℕ) (grid : HeightField) : Type 0 where

@@ -104,9 +104,10 @@ may_end (Some command) ScriptRefused = has_script command
 may_end (Some command) Rejected = is_check command
 may_end (Some command) _ = true
 
--- How many files were opened, of so many that the words name: all where the run was done or its script refused, one
--- where the grid is refused, none for words that are no command, and else at most all: at least one where a read
--- failed, or a write if any is named, and at least two where a check rejects. (Which ones is said by the outcome.)
+-- How often a file was opened, an opening that failed included, where the words name so many: each once where the run
+-- was done or its script refused, the grid alone where that is refused, none for words that are no command, and else
+-- at most each once. At least one was opened where a read failed, and where a write failed if the words name any; at
+-- least two where a check rejects.
 pub record OpensForStatus (before now files : ℕ) (status : Status) : Type 0 where
   pub done : status ≡ Done → now ≡ before + files
   pub script_refused : status ≡ ScriptRefused → now ≡ before + files
@@ -229,8 +230,7 @@ FitCheckHasCome name c files opened = 2 ≤ opened → (grid : HeightField) × (
     × IsFitFaultless c grid cert triangles)
 
 -- Memory ran out. Nothing was written, and no script was opened; if the command names a grid, a whole accepted header
--- of it was read;
--- and a check opened its later files only behind accepted ones. Within these nothing says that it may not.
+-- of it was read; and a check opened a later file only after accepted ones. Where this holds nothing forbids the status.
 pub record CommandNoMemory (before now : Told) (old new : Seen) (command : Command) : Type 0 where
   pub opened : ℕ
   pub count : new.opens ≡ old.opens + opened
@@ -282,7 +282,7 @@ IsAccepted (Some (OnGrid name job)) files =
     (grid : HeightField) × IsHeightField grid × IsFileText grid (bytes_of files name) × IsAcceptedJob job grid files
 IsAccepted (Some (Generated n seed)) files = ⊤
 
--- they are no words that ask for frames or for a mesh: all that they write is one text
+-- the words ask neither for frames nor for a mesh: they write one text at most
 abbrev pub is_of_text : Option Command → Bool
 is_of_text None = true
 is_of_text (Some (OnGrid name (Frames s))) = false
@@ -294,7 +294,7 @@ is_of_text (Some (OnGrid name (MakeFit m))) = true
 is_of_text (Some (OnGrid name (CheckFit c))) = true
 is_of_text (Some (Generated n seed)) = true
 
--- an engine is left where it made the frames and all lines were carried out
+-- an engine is left where it made the frames, and the script came to its end or to a line that is refused
 abbrev pub leaves_engine : Option Command → Status → Bool
 leaves_engine (Some (OnGrid name (Frames s))) status = is_of_engine s.show && ends_script status
 leaves_engine (Some (OnGrid name Facts)) status = false

@@ -14,7 +14,7 @@ pub enum Showing<'a> {
 /// Which meshes the frames of a script have, and how they are shown.
 #[derive(Clone, Copy)]
 pub enum Meshing<'a> {
-    /// An engine, whose frames are shown so.
+    /// The best meshes within the budget, which an engine makes, and which are shown so.
     ByEngine(Showing<'a>),
     /// The least meshes of a tolerance, whose names begin with the prefix.
     ByTolerance { prefix: &'a str, tolerance: u64 },

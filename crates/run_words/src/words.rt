@@ -153,7 +153,8 @@ fn measure_in<'a>(
     spacing: &str,
 ) -> Option<Command<'a>>
     ensures value { option_map command_seen result ≡ (if bytes_eq word.now (codes "measure")
-        then frames_command grid.now script.now as_measures (budget_word budget.now) (spacing_word spacing.now) else None) }
+        then frames_command grid.now script.now as_measures (budget_word budget.now) (spacing_word spacing.now)
+        else None) }
     ensures accepted { IfSome result IsCommandInBounds }
 {
     if word == "measure" {

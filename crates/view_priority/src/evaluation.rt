@@ -1,4 +1,4 @@
-//! The priority of a triangle, and between what it stays while the camera moves, for a caller that makes no scene.
+//! The priority of a triangle, and bounds on it while the camera moves, for a caller that makes no scene.
 
 ghost use Rattle.std.specs.Prelude.{◌≡◌, ◌+◌, ◌-◌, ◌*◌, ◌/◌, ◌<◌, ◌≤◌, ◌^◌};
 ghost use Rattle.mesh_defs.specs.Triangle.{level_of};
@@ -43,8 +43,8 @@ pub fn rank(
     scene.rank(t, meter)
 }
 
-/// Between what a triangle's rank stays while the camera moves by at most the slack, added up over the
-/// three axes, and heights, spacing and planes stay. The meter counts one more.
+/// Bounds on a triangle's rank while the camera moves by at most the slack (the sum of its moves along the three axes)
+/// and heights, spacing and planes do not change. The meter counts one more.
 pub fn bounds(
     w: &Wedges,
     camera: &Camera,

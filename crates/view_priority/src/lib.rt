@@ -2,7 +2,7 @@
 //!
 //! A `Scene` is all that priorities depend on; an `Outlook` owns one and changes it. The distance from the `Camera`
 //! to a triangle's box and the triangle's thickness give its priority, which is 0 for what the view planes leave out.
-//! `Scene::rank` answers it with the triangle, `Scene::bounds` between what it stays while the camera moves by no more
+//! `Scene::rank` answers it with the triangle, `Scene::bounds` two bounds that hold while the camera moves by no more
 //! than a slack; a `Meter` counts both. `rank` and `bounds` are the same for a caller that makes no scene.
 //! Queues and the choice of triangles are the business of the crates above.
 

@@ -95,8 +95,8 @@ impl<'a> Scene<'a> {
         self.rank(t, &mut Meter::new()).p
     }
 
-    /// Between what a triangle's rank stays while the camera moves by at most the slack, added up over the
-    /// three axes, and heights, spacing and planes stay. The meter counts one more.
+    /// Bounds on a triangle's rank while the camera moves by at most the slack (the sum of its moves along the three
+    /// axes) and heights, spacing and planes do not change. The meter counts one more.
     pub fn bounds(&self, t: Tri, slack: u64, meter: &mut Meter) -> Bounds
         requires level { level_of t ≤ 2 * self.now.grid.n }
         requires slack { slack ≤ 2 ^ 32 }

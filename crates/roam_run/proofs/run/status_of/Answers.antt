@@ -1,4 +1,4 @@
-use Rattle.std.proofs.Common.{option_map}
+use Rattle.std.proofs.Common.{◌∙◌, option_map}
 use Rattle.run_engine.specs.EngineSeen.{engine_seen}
 use Rattle.roam_run.proofs.run.status_of.Goals as goal
 
