@@ -15,7 +15,7 @@ ghost use Rattle.frame_loop.specs.Outlook.{AreBracketed};
 ghost use Rattle.frame_loop.specs.Changes.{no_changes};
 ghost use Rattle.frame_loop.specs.Engine.{is_split, mesh_seen};
 
-use crate::laws::outlook_laws;
+use crate::laws::scene_laws;
 use crate::listing::number_leaves;
 use crate::lists::Lists;
 use crate::note::FrameNote;
@@ -154,7 +154,7 @@ impl Engine {
           odometer = self.old.odometer + move_length self.old.state.view.camera camera;
         } }
     {
-        outlook_laws();
+        scene_laws();
         if self.outlook.way_to(camera) == 0 {
             return;
         }

@@ -38,23 +38,23 @@ returns-in-Some-clause-done c =
 pub returns-in-Some-clause-best : goal.returns-in-Some-clause-best
 returns-in-Some-clause-best c =
     c.frame_laws.ensures.best _ _ _ _ _ _ (c.self.invariant.6 c.in-Some.note c.in-Some.is).frame
-    (c.outlook_laws.ensures.falls c.self.inside.outlook) c.self.invariant.0.budget_low
+    (c.scene_laws.ensures.falls c.self.inside.outlook) c.self.invariant.0.budget_low
 
 pub returns-in-Some-clause-unblocked : goal.returns-in-Some-clause-unblocked
 returns-in-Some-clause-unblocked c =
     c.frame_laws.ensures.unblocked _ _ _ _ _ _ (c.self.invariant.6 c.in-Some.note c.in-Some.is).frame
-    (c.outlook_laws.ensures.falls c.self.inside.outlook) c.self.invariant.0.budget_low
+    (c.scene_laws.ensures.falls c.self.inside.outlook) c.self.invariant.0.budget_low
 
 pub returns-in-Some-clause-certificate : goal.returns-in-Some-clause-certificate
 returns-in-Some-clause-certificate c =
     c.frame_laws.ensures.certificate _ _ _ _ _ _ (c.self.invariant.6 c.in-Some.note c.in-Some.is).frame
-    (c.outlook_laws.ensures.falls c.self.inside.outlook) c.self.invariant.0.budget_low
+    (c.scene_laws.ensures.falls c.self.inside.outlook) c.self.invariant.0.budget_low
 
 pub returns-in-Some-clause-spares : goal.returns-in-Some-clause-spares
 returns-in-Some-clause-spares c = rw (← c.self.view_is)
     (spared _ _ _ _ _ (subst (λ k. IsGridSet k (pool_members c.self.inside.mesh.pool)) c.self.invariant.0.n
     (split_list-closed c.self.inside.mesh.pool.n c.self.inside.mesh.pool.pairs c.pool-pool.ensures.valid))
-    (c.outlook_laws.ensures.falls c.self.inside.outlook))
+    (c.scene_laws.ensures.falls c.self.inside.outlook))
 
 pub invariant_of-self-2 : goal.invariant_of-self-2
 invariant_of-self-2 c = (
