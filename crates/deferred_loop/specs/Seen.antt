@@ -1,6 +1,5 @@
 -- A mesh as its loop sees it: the set, the stamps of its entries, what was told in this frame, and what is still to be
--- entered;
--- and what each call of the mesh does to these.
+-- entered; and what each call of the mesh does to these.
 -- Source: Duchaineau et al., "ROAMing Terrain", IEEE Visualization 1997, the parts on the two queues and on deferred
 -- priority lists; the list of fresh entries is this project's own.
 -- Words: PoolSet, SeenMesh, upper_of, lower_of, best_key, worst_key, sure, IsHead, IsDecided, IsToAsk, IsLastHead,

@@ -8,8 +8,8 @@ use Rattle.roam_edge.specs.Shelf.{NamedFile, bytes_of}
 use Rattle.edge_doubles.specs.declared.shelf_call.ShelfCall.{ShelfCall}
 use Rattle.edge_doubles.specs.declared.shelf_call.ShelfCall.TheVariants.{Open, Read}
 
--- the files, the unread bytes of the file chosen last, whether nothing is left to read, the calls
--- that are to fail, how many calls of each kind and failures there were, and whether a call came after a failure
+-- the files, the unread bytes of the file chosen last, whether nothing is left to read, the calls that are to fail, how
+-- many calls of each kind and failures there were, and whether a call came after a failure
 pub record KeptFiles : Type 0 where
   pub files : List NamedFile
   pub unread : List ℕ

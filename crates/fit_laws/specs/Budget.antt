@@ -5,8 +5,8 @@ use Rattle.mesh_defs.specs.Tiling.{IsConforming}
 use Rattle.mesh_defs.specs.Priority.{worst_of}
 use Rattle.least_laws.specs.Least.{IsLeastMesh}
 
--- Conforming and within the budget; no conforming list within the budget has a lower greatest error;
--- and each conforming list with an error as low refines this one, so it has at least as many triangles.
+-- Conforming and within the budget; no conforming list within the budget has a lower greatest error; and each
+-- conforming list with an error as low refines this one, so it has at least as many triangles.
 pub record IsBudgetMesh (n budget : ℕ) (error : ℕ → ℕ) (triangles : List ℕ) : Type 0 where
   pub within : length triangles ≤ budget
   pub optimal : (others : List ℕ) → IsConforming n others → length others ≤ budget →

@@ -24,8 +24,8 @@ pub record IsLeastSettled (n tolerance : ℕ) (error : ℕ → ℕ) (has : ℕ �
   pub settled : IsFineEnough n tolerance error has
   pub needed : IsNeeded n tolerance error has
 
--- The set that a list of reasons makes, the last reason in front. Each reason is a leaf of the set
--- that those before it make, with an error above the tolerance; it is split, with what that forces.
+-- The set that a list of reasons makes, the last reason in front. Each reason is a leaf of the set that those before it
+-- make, with an error above the tolerance; it is split, with what that forces.
 abbrev pub IsMadeBy : ℕ → ℕ → (ℕ → ℕ) → List ℕ → (ℕ → Bool) → Type 0
 IsMadeBy n tolerance error [] has = (a : ℕ) → has a ≡ false
 IsMadeBy n tolerance error (t ∷ reasons) has =

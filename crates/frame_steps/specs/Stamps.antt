@@ -1,8 +1,7 @@
 -- Stamps: the bounds that an entry keeps from the frame in which it was read, and how long they hold.
 -- Source: Duchaineau et al., "ROAMing Terrain", IEEE Visualization 1997, the part on deferred priority lists. That time
 -- is the way that the camera went, and that an edit expires stamps, is this project's own.
--- Words: Stamp, Readings, is_due, stamp_now, counted_stamp, HasStamps, IsInStamp, StampsHold,
--- ReadingsHold.
+-- Words: Stamp, Readings, is_due, stamp_now, counted_stamp, HasStamps, IsInStamp, StampsHold, ReadingsHold.
 use Rattle.std.specs.Prelude.{◌≡◌, ℕ, ◌+◌, ◌≤◌, Bool, true, false, ◌||◌, nat_lt, Option, None, Some}
 use Rattle.mesh_defs.specs.Triangle.{IsAddress}
 use Rattle.frame_steps.specs.Deferred.{DeferredFrame}

@@ -1,8 +1,7 @@
 -- The box around the part of the surface that a triangle stands for, and the camera's distance to it.
 -- Lengths are in world units: a grid step is as many of them as the spacing, a unit of height is one.
--- Source: the nested bounds of Duchaineau et al., "ROAMing Terrain", IEEE Visualization 1997,
--- the part on nested bounds;
--- that every grid point of the closed triangle counts is this project's own choice.
+-- Source: the nested bounds of Duchaineau et al., "ROAMing Terrain", IEEE Visualization 1997, the part on nested
+-- bounds; that every grid point of the closed triangle counts is this project's own choice.
 use Rattle.std.specs.Prelude.{ℕ, zero, suc, ◌+◌, ◌*◌, ◌/◌, ◌<◌, ◌≤◌, min, max, Bool, ◌&&◌, nat_le, if◌then◌else◌, List}
 use Rattle.std.specs.Prelude.{[], ◌∷◌, map, filter, flat_map, ℤ, pos, ◌-ℤ◌, int_lt, unsigned_abs}
 use Rattle.std.specs.List.{range_with_len}

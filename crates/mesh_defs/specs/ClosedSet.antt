@@ -1,6 +1,6 @@
 -- Closed sets of split triangles, and the mesh that each of them is.
--- Source: Duchaineau et al., "ROAMing Terrain", IEEE Visualization 1997, the part on forced splits;
--- they speak of a triangulation, this project of the set of triangles that were split.
+-- Source: Duchaineau et al., "ROAMing Terrain", IEEE Visualization 1997, the part on forced splits; they speak of a
+-- triangulation, this project of the set of triangles that were split.
 use Rattle.std.specs.Prelude.{ℕ, zero, suc, ◌+◌, ◌*◌, ◌/◌, ◌≤◌, Bool, true, false, IsTrue, nat_eq, List, [], ◌∷◌, ◌++◌}
 use Rattle.std.specs.List.{list_any}
 use Rattle.mesh_defs.specs.Triangle.{IsSplittable, IsMate}

@@ -1,7 +1,7 @@
 -- How much a triangle needs to be split, seen from the camera.
--- Source: the priority queues of Duchaineau et al., "ROAMing Terrain", IEEE Visualization 1997,
--- the parts on priorities and on the projected error; thickness over distance stands here in the place of the projected
--- error, in whole numbers.
+-- Source: the priority queues of Duchaineau et al., "ROAMing Terrain", IEEE Visualization 1997, the parts on priorities
+-- and on the projected error; thickness over distance stands here in the place of the projected error, in whole
+-- numbers.
 use Rattle.std.specs.Prelude.{ℕ, ◌+◌, ◌*◌, ◌/◌, max, List, [], ◌∷◌}
 use Rattle.mesh_defs.specs.declared.mark.Mark.{Mark}
 use Rattle.mesh_defs.specs.declared.mark.Mark.TheVariants.{Inside, Cut, Outside}

@@ -1,8 +1,7 @@
 -- The order in which triangles deserve to be split, and the mesh of a budget that follows from it.
--- Source: the greedy algorithm of Duchaineau et al., "ROAMing Terrain", IEEE Visualization 1997,
--- the part on the greedy algorithm; that ties go by address and that a later, smaller triangle is not tried are this
--- project's own.
--- Priorities are any function of the address here.
+-- Source: the greedy algorithm of Duchaineau et al., "ROAMing Terrain", IEEE Visualization 1997, the part on the greedy
+-- algorithm; that ties go by address and that a later, smaller triangle is not tried are this project's own. Priorities
+-- are any function of the address here.
 use Rattle.std.specs.Prelude.{◌≡◌, ℕ, ◌+◌, ◌<◌, ◌≤◌, ◌⊎◌, ◌↔◌, Bool, List, length, take, Contains, AllPairs, Some}
 use Rattle.std.specs.Prelude.{slice_get}
 use Rattle.mesh_defs.specs.Triangle.{IsSplittable}

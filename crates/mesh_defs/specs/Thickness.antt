@@ -1,8 +1,7 @@
 -- The thickness of a triangle: its deviation and those of its descendants, added up along the worst way
 -- down, in half units of height.
 -- Source: the nested wedgies of Duchaineau et al., "ROAMing Terrain", IEEE Visualization 1997, the part on nested
--- bounds;
--- counted here in half units of height, so that it is a whole number.
+-- bounds; counted here in half units of height, so that it is a whole number.
 use Rattle.std.specs.Prelude.{ℕ, zero, suc, ◌+◌, ◌-◌, ◌*◌, max, List}
 use Rattle.mesh_defs.specs.declared.point.Point.{Point}
 use Rattle.mesh_defs.specs.declared.point.Corners.{Corners}

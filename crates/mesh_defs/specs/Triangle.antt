@@ -1,6 +1,6 @@
--- Triangles of the bintree, named by addresses: 2 and 3 are the halves of the square, 2a and 2a + 1
--- the left and right child of a. Source: Duchaineau et al., "ROAMing Terrain", IEEE Visualization 1997,
--- the part on the triangle bintree; the numbering is that of a binary heap, this project's own choice.
+-- Triangles of the bintree, named by addresses: 2 and 3 are the halves of the square, 2a and 2a + 1 the left and right
+-- child of a. Source: Duchaineau et al., "ROAMing Terrain", IEEE Visualization 1997, the part on the triangle bintree;
+-- the numbering is that of a binary heap, this project's own choice.
 -- Words: halvings, level_of, IsAddress, IsSplittable, midpoint, base_triangle, child, corners_at, corners_of,
 -- IsCorner, IsEdge, SameEnds, IsMate, OnOneSide, HasBorderBase.
 use Rattle.std.specs.Prelude.{◌≡◌, ◌≢◌, ℕ, zero, suc, ◌+◌, ◌*◌, ◌/◌, ◌%◌, ◌^◌, ◌<◌, ◌≤◌, ◌⊎◌, true, false, nat_lt}

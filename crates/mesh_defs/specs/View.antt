@@ -1,6 +1,6 @@
 -- What is seen: the camera, the spacing, and the planes of the view frustum.
--- Source: the view frustum culling of Duchaineau et al., "ROAMing Terrain", IEEE Visualization 1997,
--- the part on view frustum culling; a mark is decided here by the eight corners of the box alone.
+-- Source: the view frustum culling of Duchaineau et al., "ROAMing Terrain", IEEE Visualization 1997, the part on view
+-- frustum culling; a mark is decided here by the eight corners of the box alone.
 use Rattle.std.specs.Prelude.{ℕ, Bool, if◌then◌else◌, List, [], ◌∷◌, ℤ, pos, ◌+ℤ◌, ◌*ℤ◌, int_lt}
 use Rattle.std.specs.List.{list_any, list_all}
 use Rattle.mesh_defs.specs.declared.mark.Mark.{Mark}

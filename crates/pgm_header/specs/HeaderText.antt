@@ -2,9 +2,8 @@
 -- comment stands directly after whitespace, that exactly one whitespace byte follows the maxval, and that
 -- a number has at most nine digits are this project's own.
 --
--- Words: GapItem, item_bytes, is_comment_text, is_item, IsGap,
--- IsNumberText, magic_text, IsHeaderText, comment_line, written_header, IsHeaderPrefix, IsProperPrefix, IsUnfitAt,
--- BeginsWithHeader.
+-- Words: GapItem, item_bytes, is_comment_text, is_item, IsGap, IsNumberText, magic_text, IsHeaderText, comment_line,
+-- written_header, IsHeaderPrefix, IsProperPrefix, IsUnfitAt, BeginsWithHeader.
 use Rattle.std.specs.Prelude.{◌≡◌, ℕ, ◌+◌, ◌<◌, ◌≤◌, Bool, true, false, ◌&&◌, not, IsTrue, List, [], ◌∷◌, ◌++◌, length}
 use Rattle.std.specs.Prelude.{take}
 use Rattle.std.specs.Char.{is_ascii_digit}
@@ -55,8 +54,8 @@ abbrev pub magic_text : Bool → List ℕ
 magic_text true = 80 ∷ 50 ∷ []
 magic_text false = 80 ∷ 53 ∷ []
 
--- the bytes are the text of a header with these values: the magic, a gap, the width, a gap, the height,
--- a gap, the maxval, and one whitespace byte
+-- the bytes are the text of a header with these values: the magic, a gap, the width, a gap, the height, a gap, the
+-- maxval, and one whitespace byte
 pub record IsHeaderText (bytes : List ℕ) (values : HeaderValues) : Type 0 where
   pub gap : List ℕ
   pub width_text : List ℕ

@@ -1,9 +1,9 @@
 -- What further bytes of a raster mean, read byte by byte: the samples, or the first refusal. The laws of
 -- `Laws` say in the format's own words what these answers are.
 --
--- Words: most_bytes, RasterAnswer, after, sample_then, samples_then, end_at, bytes_from, words_from,
--- no_digits, with_digit, ended_then, plain_from, rest_of, reads, nothing_of, raster_of, RasterProgress, resume_raster,
--- next_place, refusal_of, RasterStaysRefused.
+-- Words: most_bytes, RasterAnswer, after, sample_then, samples_then, end_at, bytes_from, words_from, no_digits,
+-- with_digit, ended_then, plain_from, rest_of, reads, nothing_of, raster_of, RasterProgress, resume_raster, next_place,
+-- refusal_of, RasterStaysRefused.
 use Rattle.std.specs.Prelude.{◌≡◌, ℕ, ◌+◌, ◌-◌, ◌*◌, ◌&&◌, cond, List, [], ◌∷◌, ◌++◌, length, Option, Some, None}
 use Rattle.std.specs.Prelude.{Result, Ok, Err, nat_eq, nat_lt}
 use Rattle.std.specs.Char.{is_ascii_digit}

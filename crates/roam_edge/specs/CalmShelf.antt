@@ -3,8 +3,7 @@ use Rattle.std.specs.Prelude.{ℕ, Bool, List}
 use Rattle.roam_edge.specs.Shelf.{NamedFile}
 use Rattle.roam_edge.specs.declared.calm_shelf.CalmFile.{CalmFile}
 
--- the files, the unread bytes of the file chosen last, how often a file was opened, and whether
--- nothing is left to read
+-- the files, the unread bytes of the file chosen last, how often a file was opened, and whether nothing is left to read
 pub record CalmFiles : Type 0 where
   pub files : List NamedFile
   pub unread : List ℕ

@@ -8,8 +8,8 @@ use Rattle.roam_edge.specs.MeshSink.{WrittenMesh, begun, longer, closed}
 use Rattle.roam_edge.specs.declared.mesh_call.MeshCall.{MeshCall}
 use Rattle.roam_edge.specs.declared.mesh_call.MeshCall.TheVariants.{Begin, Write, Finish}
 
--- the finished meshes, the mesh under way, for how many more meshes and bytes there is room, the
--- calls that are to fail, how many calls of each kind and failures there were, and whether a call came after a failure
+-- the finished meshes, the mesh under way, for how many more meshes and bytes there is room, the calls that are to
+-- fail, how many calls of each kind and failures there were, and whether a call came after a failure
 pub record KeptMeshes : Type 0 where
   pub done : List WrittenMesh
   pub current : Option WrittenMesh

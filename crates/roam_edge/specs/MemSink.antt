@@ -4,8 +4,8 @@ use Rattle.std.specs.Prelude.{ℕ, ◌-◌, Bool, List, ◌++◌, length, nat_lt
 use Rattle.std.specs.List.{list_any}
 use Rattle.roam_edge.specs.Fault.{next_count, late_after}
 
--- the bytes so far, for how many more there is room, the numbers of the writes that are to fail,
--- how many writes and failures there were, and whether a write came after a failure
+-- the bytes so far, for how many more there is room, the numbers of the writes that are to fail, how many writes and
+-- failures there were, and whether a write came after a failure
 pub record KeptBytes : Type 0 where
   pub contents : List ℕ
   pub room : ℕ

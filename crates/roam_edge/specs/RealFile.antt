@@ -1,5 +1,5 @@
--- What the adapters to real files do to the file that is open, in the words of std: which bytes a
--- reader has left, which bytes a writer holds, where the file tells them. This project's own words.
+-- What the adapters to real files do to the file that is open, in the words of std: which bytes a reader has left,
+-- which bytes a writer holds, where the file tells them. This project's own words.
 use Rattle.std.specs.Prelude.{◌≡◌, ℕ, ◌<◌, List, take, Option, Some, None, Result, IfOk, OnErr}
 use Rattle.std.specs.Io.KnownBytes.{Consumes, IsAtEnd, Keeps}
 
@@ -8,8 +8,8 @@ abbrev pub of_open : {F : Type 0} → (F → Option (List ℕ)) → Option F →
 of_open tells None = None
 of_open tells (Some file) = tells file
 
--- a read of a file gives the first of the bytes that it has left and takes them, gives no byte only
--- where none is left, and takes nothing where it fails
+-- a read of a file gives the first of the bytes that it has left and takes them, gives no byte only where none is left,
+-- and takes nothing where it fails
 -- `before` and `now` are the bytes that the file has left, `buf` is the buffer after the read
 pub record TakesNext {E : Type 0} (before now : Option (List ℕ)) (buf : List ℕ) (answer : Result ℕ E) : Type 0 where
   pub some : IfOk answer (λ k. 0 < k → Consumes before now (take k buf))

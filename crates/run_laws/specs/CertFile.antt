@@ -88,8 +88,7 @@ fit_cert_of said = elim said.tolerance as (λ _. Result FitCertificate ℕ) [
 ]
 
 -- The certificate of a fitted mesh that a file's bytes are, of the grid with this n, or the number of the first line
--- that is refused:
--- the one behind the last where the line of the mesh is not there, and so 1 where there is no line.
+-- that is refused: the one behind the last where the line of the mesh is not there, and so 1 where there is no line.
 unfoldable pub fit_cert_in : ℕ → List ℕ → Result FitCertificate ℕ
 fit_cert_in n bytes = file_in (fit_line_in n) fit.nothing_fit_read fit_cert_of bytes
 

@@ -1,9 +1,8 @@
 -- What a run of `roam` promises, by its status.
 -- Words: Seen, seen, shelf_tells, AreFiles, is_complete, ends_script, EndsAs, EndsRight, HasEnded, may_end,
 -- OpensForStatus, IsUndecided, ScriptHasRead, CheckHasRead, FitCheckHasRead, JobHasRead, HasRead, FileReadFault,
--- CommandReadFault, LeavesAtReadFault, most_open, HasReadHeader, CheckHasCome,
--- FitCheckHasCome, CommandNoMemory, LeavesAtNoMemory, IsAcceptedCheck, IsAcceptedFitCheck, IsAcceptedJob,
--- IsAccepted, is_of_text, leaves_engine.
+-- CommandReadFault, LeavesAtReadFault, most_open, HasReadHeader, CheckHasCome, FitCheckHasCome, CommandNoMemory,
+-- LeavesAtNoMemory, IsAcceptedCheck, IsAcceptedFitCheck, IsAcceptedJob, IsAccepted, is_of_text, leaves_engine.
 use Rattle.std.specs.Prelude.{◌≡◌, ◌≢◌, ⊤, ℕ, zero, suc, ◌+◌, ◌<◌, ◌≤◌, Bool, true, false, ◌&&◌, nat_lt, IsTrue, List}
 use Rattle.std.specs.Prelude.{[], ◌++◌, length, Option, Some, None, Ok, Err, slice_get}
 use Rattle.mesh_defs.specs.HeightField.{HeightField, IsHeightField}

@@ -15,13 +15,13 @@ use Rattle.std.proofs.lemmas.Option.{slice_get_past, slice_get_read}
 use Rattle.bintree_addr.specs.declared.slot.Slot.{Slot}
 use Rattle.slot_heap.specs.declared.entry.Entry.{Entry}
 use Rattle.slot_heap.specs.Keys.{key_of, IsLeastKey}
-use Rattle.slot_heap.specs.Entries.{IsLinked, HasKeysOf, key_in, keys_of}
+use Rattle.slot_heap.specs.Entries.{HasPlaces, HasKeysOf, key_in, keys_of}
 use Rattle.slot_heap.specs.Order.{parent, key_at, IsHeap, IsHeapButAt}
 use Rattle.slot_heap.specs.Sound.{IsSoundHeap}
 use Rattle.slot_heap.proofs.OrderLemmas.{not_less_back, IsUpTo-along, IsUpTo-trans, IsUpTo-first}
-use Rattle.slot_heap.proofs.LinkLemmas.{slot_at, slot_at-distinct, IsLinked-push, IsLinked-set, IsLinked-take}
+use Rattle.slot_heap.proofs.LinkLemmas.{slot_at, slot_at-distinct, HasPlaces-push, HasPlaces-set, HasPlaces-take}
 use Rattle.slot_heap.proofs.KeyLemmas.{length-keys_of, get_or-keys_of, keys_of-present, keys_of-absent, keys_of-unique}
-use Rattle.slot_heap.proofs.KeyLemmas.{keys_of-push, keys_of-set, keys_of-pop, keys_of-remove, IsLinked-remove}
+use Rattle.slot_heap.proofs.KeyLemmas.{keys_of-push, keys_of-set, keys_of-pop, keys_of-remove, HasPlaces-remove}
 use Rattle.slot_heap.proofs.KeyLemmas.{slot_at-vacant, IsFound, IsFound-from_key, count_more, count_same, count_less}
 use Rattle.slot_heap.proofs.KeyLemmas.{count_room}
 
@@ -133,7 +133,7 @@ module _ {K : Type 0} {cmp : K → K → Ordering} (o : IsTotalOrder cmp) where
 
   -- an entry x that is held at a place of es may be placed, and the keys are then u
   pub record IsHeld (es : List (Entry K)) (ps : List ℕ) (at : ℕ) (x : Entry K) (u : List (Option K)) : Type 0 where
-    pub linked : IsLinked (set es at x) (set ps x.slot.0 at)
+    pub linked : HasPlaces (set es at x) (set ps x.slot.0 at)
     pub order : IsHeapButAt cmp (set es at x) at
     pub keys : keys_of (set es at x) (set ps x.slot.0 at) ≡ u
     pub count : count_by is_some u ≡ length es
@@ -144,7 +144,7 @@ module _ {K : Type 0} {cmp : K → K → Ordering} (o : IsTotalOrder cmp) where
 
     -- what is noted for a slot that has no entry does not matter
     module _ (s v : ℕ) (vacant : get_or (keys_of xs ps) s None ≡ None) where
-      linked_still : IsLinked xs (set ps s v)
+      linked_still : HasPlaces xs (set ps s v)
       linked_still i d h = (
         omega (arith, (sound.linked i d h).0, length-set ps s v),
         get_or-set_other ps s (slot_at xs i d) v 0 (slot_at-vacant xs ps sound.linked s vacant i d h)
@@ -183,7 +183,7 @@ module _ {K : Type 0} {cmp : K → K → Ordering} (o : IsTotalOrder cmp) where
         let last : set es n x ≡ xs ++ x ∷ [] = ap (λ zs. set zs n x) e ∙ set_at xs x [] x n (sym f) in
         let noted : set ps x.slot.0 n ≡ set ps x.slot.0 (length xs) = ap (set ps x.slot.0) f in
         record {
-          linked = rw (last, noted) (IsLinked-push xs ps sound.linked x within apart);
+          linked = rw (last, noted) (HasPlaces-push xs ps sound.linked x within apart);
           order = IsHeapButAt-push xs es x n e f sound.order;
           keys = ap (λ zs. keys_of zs (set ps x.slot.0 n)) last ∙ ap (keys_of (xs ++ x ∷ [])) noted
               ∙ keys_of-push xs ps sound.linked x within apart;
@@ -214,7 +214,7 @@ module _ {K : Type 0} {cmp : K → K → Ordering} (o : IsTotalOrder cmp) where
         let inside : at < length xs = omega (arith, found.inside) in
         let own : (d : Entry K) → slot_at xs at d ≡ x.slot.0 = λ d. ap (λ j. slot_at xs j d) is_at ∙ found.own d in
         rw e (record {
-          linked = IsLinked-set xs ps sound.linked x at found.in_places
+          linked = HasPlaces-set xs ps sound.linked x at found.in_places
               (λ i d h u e. slot_at-distinct xs ps sound.linked i at d h inside u (e ∙ sym (own d))) inside;
           order = IsHeapButAt-set xs x at inside sound.order;
           keys = keys_of-set xs ps sound.linked x at inside own;
@@ -246,7 +246,7 @@ module _ {K : Type 0} {cmp : K → K → Ordering} (o : IsTotalOrder cmp) where
 
       pub IsSound-last : (c : ℕ) → capacity ≤ c → m ≤ at → IsSoundHeap cmp es ps c
       IsSound-last c more h = record {
-        linked = rw rest (IsLinked-take xs ps sound.linked m (omega arith));
+        linked = rw rest (HasPlaces-take xs ps sound.linked m (omega arith));
         order = rw rest (IsHeap-take xs m (omega arith) sound.order);
         count = ap (count_by is_some) (keys_of-last h) ∙ fewer;
         room = omega (arith, sound.room);
@@ -257,7 +257,7 @@ module _ {K : Type 0} {cmp : K → K → Ordering} (o : IsTotalOrder cmp) where
       pub IsHeld-remove : (x : Entry K) → ((d : Entry K) → get_or xs m d ≡ x) → at < m → (zs : List (Entry K)) →
           zs ≡ es → IsHeld zs ps at x (set (keys_of xs ps) s None)
       IsHeld-remove x is_x h zs e = rw (e, rest) (record {
-        linked = IsLinked-remove xs ps sound.linked x at m long h is_x;
+        linked = HasPlaces-remove xs ps sound.linked x at m long h is_x;
         order = IsHeapButAt-set (take m xs) x at (omega (arith, length-take-le m xs (omega arith)))
             (IsHeap-take xs m (omega arith) sound.order);
         keys = keys_of-remove xs ps sound.linked x at m s long h is_x own_slot;
@@ -272,7 +272,7 @@ module _ {K : Type 0} {cmp : K → K → Ordering} (o : IsTotalOrder cmp) where
       pub keys_of-placed : keys_of (with_items v ys).items (with_items w qs).items ≡ u
       keys_of-placed = rw (with_items_is v ys long, with_items_is w qs same) (placed ∙ held.keys)
 
-      pub IsSound-placed : (c : ℕ) → IsLinked ys qs → IsHeap cmp ys → length ys ≡ length es → length qs ≤ c →
+      pub IsSound-placed : (c : ℕ) → HasPlaces ys qs → IsHeap cmp ys → length ys ≡ length es → length qs ≤ c →
           length qs < 2 ^ 32 → IsSoundHeap cmp (with_items v ys).items (with_items w qs).items c
       IsSound-placed c linked order n room few = rw (with_items_is v ys long, with_items_is w qs same) (record {
         linked = linked;

@@ -3,7 +3,7 @@
 //! In each of these the entry to be placed is held apart, and the clauses see it at `at`.
 
 ghost use Rattle.std.specs.Prelude.{◌≡◌, ◌+◌, ◌*◌, ◌^◌, ◌<◌, ◌≤◌, length, slice_set};
-ghost use Rattle.slot_heap.specs.Entries.{IsLinked, HasKeysOf};
+ghost use Rattle.slot_heap.specs.Entries.{HasPlaces, HasKeysOf};
 ghost use Rattle.slot_heap.specs.Order.{IsHeap, IsHeapButAt, IsNotBelow, IsNotAbove, IsLeastChild};
 
 use crate::entry::{Entry, is_less, store};
@@ -21,9 +21,9 @@ pub fn place<K: Copy + Ord>(
 )
     requires in_heap { at < length entries.old }
     requires few { length entries.old < 2 ^ 32 }
-    requires linked { IsLinked (slice_set entries.old at entry) (slice_set places.old entry.slot.0 at) }
+    requires linked { HasPlaces (slice_set entries.old at entry) (slice_set places.old entry.slot.0 at) }
     requires order { IsHeapButAt K.cmp (slice_set entries.old at entry) at }
-    ensures linked { IsLinked entries.new places.new }
+    ensures linked { HasPlaces entries.new places.new }
     ensures order { IsHeap K.cmp entries.new }
     ensures same { HasKeysOf (slice_set entries.old at entry) (slice_set places.old entry.slot.0 at)
         entries.new places.new }
@@ -39,10 +39,10 @@ pub fn place<K: Copy + Ord>(
 fn rise<K: Copy + Ord>(entries: &mut [Entry<K>], places: &mut [u32], mut at: usize, entry: Entry<K>)
     requires in_heap { at < length entries.old }
     requires few { length entries.old < 2 ^ 32 }
-    requires linked { IsLinked (slice_set entries.old at entry) (slice_set places.old entry.slot.0 at) }
+    requires linked { HasPlaces (slice_set entries.old at entry) (slice_set places.old entry.slot.0 at) }
     requires order { IsHeapButAt K.cmp (slice_set entries.old at entry) at }
     requires children { IsNotAbove K.cmp (slice_set entries.old at entry) at }
-    ensures linked { IsLinked entries.new places.new }
+    ensures linked { HasPlaces entries.new places.new }
     ensures order { IsHeap K.cmp entries.new }
     ensures same { HasKeysOf (slice_set entries.old at entry) (slice_set places.old entry.slot.0 at)
         entries.new places.new }
@@ -63,10 +63,10 @@ fn rise<K: Copy + Ord>(entries: &mut [Entry<K>], places: &mut [u32], mut at: usi
 fn sink<K: Copy + Ord>(entries: &mut [Entry<K>], places: &mut [u32], mut at: usize, entry: Entry<K>)
     requires in_heap { at < length entries.old }
     requires few { length entries.old < 2 ^ 32 }
-    requires linked { IsLinked (slice_set entries.old at entry) (slice_set places.old entry.slot.0 at) }
+    requires linked { HasPlaces (slice_set entries.old at entry) (slice_set places.old entry.slot.0 at) }
     requires order { IsHeapButAt K.cmp (slice_set entries.old at entry) at }
     requires parent { IsNotBelow K.cmp (slice_set entries.old at entry) at }
-    ensures linked { IsLinked entries.new places.new }
+    ensures linked { HasPlaces entries.new places.new }
     ensures order { IsHeap K.cmp entries.new }
     ensures same { HasKeysOf (slice_set entries.old at entry) (slice_set places.old entry.slot.0 at)
         entries.new places.new }

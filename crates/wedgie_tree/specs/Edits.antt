@@ -1,6 +1,6 @@
 -- Changes of heights, and the triangles that they reach. This project's own words.
--- Words: area_between, is_in_row, placed_at, with_row, IsClearOf, AgreesOn; which rectangles share a point says `Areas`
--- of bintree_laws.
+-- Which rectangles share a point, `Areas` of bintree_laws says.
+-- Words: area_between, is_in_row, placed_at, with_row, IsClearOf, AgreesOn.
 use Rattle.std.specs.Prelude.{◌≡◌, ℕ, ◌+◌, ◌-◌, ◌^◌, ◌/◌, ◌%◌, true, Bool, ◌&&◌, nat_le, nat_lt, nat_eq, if◌then◌else◌}
 use Rattle.std.specs.Prelude.{List, length, map, slice_index}
 use Rattle.std.specs.List.{enumerate_from}
