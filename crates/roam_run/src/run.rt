@@ -85,17 +85,18 @@ impl Run {
 /// - `info` reads a grid, and writes a line on it. `try` reads nothing: it makes a grid and a script from a level and
 ///   a seed, and writes a line with the sums of their frames.
 ///
-/// Files are read and meshes written in pieces. A mesh is finished before its line is written (`ends` shows it
-/// where the write of either fails). The first call that fails ends the run. Proved of this: each of shelf, meshes and
-/// report that had not failed before the run is not called again once a call of it has failed (`leaves`); and where
-/// contents are told, nothing is written after a write that failed (`ends`).
-/// All memory is taken before a script is opened: a run that ends NoMemory has opened no script (`ends`).
+/// Files are read and meshes written in pieces. A mesh is finished before its line is written; no order of the
+/// two sinks is told, so `ends` shows it where the write of either fails. The first call that fails ends the run.
+/// Proved of this: each of shelf, meshes and report that had not failed before the run is not called again once a call
+/// of it has failed (`leaves`); and where contents are told, nothing is written after a write that failed (`ends`).
+/// A run that ends NoMemory has opened no script (`ends`), since all memory is taken before.
 ///
 /// A shelf and sinks in memory tell what they hold, in ghost values, and the clauses speak of their bytes. Real files
-/// tell no contents. Over them `causes`, `untouched` and all of `leaves` hold, and `ends` says how many files were
-/// opened before a read failed or memory ran out; of a command that reads files, `best`, `certified` and the rest of
-/// `ends` say nothing. But one body is proved for every shelf and sink, and a body cannot look at ghosts: what it does
-/// where contents are told it does over real files too, if these hand on names and bytes as they are given.
+/// tell no contents. Over them `causes`, `untouched` and `leaves` hold, and what speaks of outcomes alone; of a command
+/// that reads files, `best` and `certified` say nothing, and `ends` how often a file was opened. The rest is an
+/// argument, and no clause: one body is proved for every shelf and sink, and a body cannot look at ghosts; so it does
+/// over real files what it does where contents are told, as long as these answer as such a shelf and such sinks may,
+/// and no mesh is written over a file that is still read.
 ///
 /// Cost (not proved): a few steps a byte of the files; for each frame that of `Engine::frame`, which goes by what has
 /// changed since the frame before, or of `Least::frame`, two passes over the grid; for each mesh its writing.
@@ -113,8 +114,8 @@ pub fn roam<F: Shelf, M: MeshSink, R: Sink>(
     requires opens { F.opens shelf.old ≤ 2 ^ 63 }
 
     // (Before the run no mesh is begun and not finished. Counts stand still at 2 ^ 64 - 1, so a rise could not be seen
-    // there. In each clause the first moment is before the run, the second after it; F.Shelf is what F tells as a
-    // Shelf.)
+    // there. In each clause the first moment is before the run, the second one after it; `words.now` are the words,
+    // which do not change; and F.Shelf is what F tells as a Shelf.)
     //
     // The meshes, where shelf and sink tell them: each one that is finished is the right one for its command, whatever
     // the status. One that is checked and certified, whoever made it, is optimal (`certify check`), or has the fewest
@@ -134,10 +135,11 @@ pub fn roam<F: Shelf, M: MeshSink, R: Sink>(
         (moment F.Shelf M.MeshSink R.Sink shelf.new meshes.new report.new)
         (command_of (map string_bytes words.now)) result.status (option_map engine_seen result.engine) }
 
-    // What words and files determine. These clauses speak of no run, but of the outcomes with which `ends` compares
-    // one. For any files there is an outcome; there is no other, unless a certificate is made, of which several are
-    // right; where all that is read is accepted its status is Done; and in each of its engine's frames the triangle
-    // that blocks proves the mesh optimal.
+    // What words and files determine. An outcome is what they say of a run: its acts, its status, how often it opens a
+    // file, and the engine that it leaves. `ends` compares the run with one, and the next clauses speak of outcomes
+    // alone. For any files there is one; there is no other, unless a certificate is made, of which several are right;
+    // where all that is read is accepted its status is Done; and in each frame that its engine makes, the triangle that
+    // blocks, if one does, proves the mesh optimal.
     ensures some_outcome { (files : List NamedFile) →
         (end : Outcome) × IsOutcome (command_of (map string_bytes words.now)) files end }
     ensures one_outcome { (files : List NamedFile) (end other : Outcome) →
@@ -149,7 +151,8 @@ pub fn roam<F: Shelf, M: MeshSink, R: Sink>(
         IsOutcome (command_of (map string_bytes words.now)) files end → end.status ≡ Status.Done }
     ensures certificate { TellsCertificates (map string_bytes words.now) }
 
-    // The causes of Usage, ReadFault and WriteFault, and which commands may end otherwise; Usage touches nothing.
+    // The causes of Usage, ReadFault and WriteFault, which statuses the command may have, and that Usage touches
+    // nothing.
     ensures causes { IsCaused (moment F.Shelf M.MeshSink R.Sink shelf.old meshes.old report.old)
         (moment F.Shelf M.MeshSink R.Sink shelf.new meshes.new report.new)
         (command_of (map string_bytes words.now)) result.status }

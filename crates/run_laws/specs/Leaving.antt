@@ -37,7 +37,7 @@ pub record Runs (before now : Moment) (command : Option Command) (status : Statu
   pub causes : StatusHasCause before.shelf_faults now.shelf_faults before.sinks.mesh_faults now.sinks.mesh_faults
       before.sinks.report_faults now.sinks.report_faults status
 
--- so many files were opened and read, no read failed, and the sinks tell what they told
+-- so many files were opened and read, no read failed, and the sinks tell the same as before
 pub record HasOpened (before now : Moment) (files : ℕ) : Type 0 where
   pub only : OnlyReads before now
   pub opens : now.shelf.opens ≡ before.shelf.opens + files

@@ -34,7 +34,7 @@ moment f m r files meshes report = record {
   report_late = r.late report;
 }
 
--- the sinks tell what they told, and the shelf has the same files
+-- the sinks tell the same as before, and so does the shelf of its files
 pub record OnlyReads (before now : Moment) : Type 0 where
   pub files : now.shelf.files ≡ before.shelf.files
   pub sinks : now.sinks ≡ before.sinks
@@ -42,15 +42,15 @@ pub record OnlyReads (before now : Moment) : Type 0 where
   pub mesh_late : now.mesh_late ≡ before.mesh_late
   pub report_late : now.report_late ≡ before.report_late
 
--- the sink of meshes tells what it told: its meshes, its faults, whether one is under way, and whether it is late
+-- the sink of meshes tells the same as before: its meshes, its faults, whether one is under way, and whether it is late
 pub record SameMeshes (before now : Moment) : Type 0 where
   pub meshes : now.sinks.meshes ≡ before.sinks.meshes
   pub faults : now.sinks.mesh_faults ≡ before.sinks.mesh_faults
   pub under_way : now.under_way ≡ before.under_way
   pub late : now.mesh_late ≡ before.mesh_late
 
--- The shelf tells what it told. The call fails exactly where a count of faults of the sinks rose, and else a mesh is
--- under way exactly where one was before.
+-- The shelf tells the same as before. The call fails exactly where a count of faults of the sinks rose, and else a mesh
+-- is under way exactly where one was before.
 pub record OnlyWrites {T E : Type 0} (before now : Moment) (answer : Result T E) : Type 0 where
   pub shelf : now.shelf ≡ before.shelf
   pub shelf_faults : now.shelf_faults ≡ before.shelf_faults
@@ -61,7 +61,7 @@ pub record OnlyWrites {T E : Type 0} (before now : Moment) (answer : Result T E)
   pub meshes_in_time : IsInTime before.mesh_late before.sinks.mesh_faults now.mesh_late
   pub report_in_time : IsInTime before.report_late before.sinks.report_faults now.report_late
 
--- These acts were done, or cut short where the call fails. Where none is a mesh the sink of meshes tells what it told.
+-- These acts were done, or cut short where the call fails. Where none is a mesh the sink of meshes tells the same.
 pub record Does {T E : Type 0} (before now : Moment) (acts : List Act) (answer : Result T E) : Type 0 where
   pub only : OnlyWrites before now answer
   pub done : OnOk answer (Stands before.sinks now.sinks acts)

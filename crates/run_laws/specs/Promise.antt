@@ -229,7 +229,8 @@ FitCheckHasCome name c files opened = 2 ≤ opened → (grid : HeightField) × (
     × IsFitFaultless c grid cert triangles)
 
 -- Memory ran out. Nothing was written, and no script was opened; if the command names a grid, a whole accepted header
--- of it was read; and a check opened a later file only after accepted ones. Where this holds nothing forbids the status.
+-- of it was read; and a check opened a later file only after accepted ones. Where this holds nothing forbids the
+-- status.
 pub record CommandNoMemory (before now : Told) (old new : Seen) (command : Command) : Type 0 where
   pub opened : ℕ
   pub count : new.opens ≡ old.opens + opened

@@ -1,9 +1,9 @@
 -- What a run promises: the meshes, what stands, the causes. Each speaks of the moments before the run and after it
 -- (`now`), of the words of its command line or of the command that they are, of its status, and of the engine that it
 -- leaves. This project's own.
--- From elsewhere: `Grows old new more` says that what was told before is told with just `more` at its end, and nothing
--- of what is not told. `IsInTime` says that an object which had not failed is not called again once a call of it has
--- failed. A count of faults is how often an object has failed, from its beginning on.
+-- Contents are told (`Some ..`) or not (`None`). From elsewhere: `Grows old new more` says that where the old ones are
+-- told, the new ones are these with just `more` at their end; `IsInTime`, that an object which had not failed is not
+-- called again once a call of it has failed. A count of faults is how often an object has failed, from its beginning.
 -- Words: KeepsBestMeshes, CertifiesMesh, TellsCertificates, DoesAll, IsCutOff, EndsByStatus, LeavesOutside, IsCaused.
 use Rattle.std.specs.Prelude.{◌≡◌, ◌≢◌, ◌⊎◌, ◌↔◌, ℕ, ◌+◌, ◌<◌, ◌≤◌, false, IsTrue, IsSome, is_some, List, All, Option}
 use Rattle.std.specs.Prelude.{Some, None}
@@ -27,9 +27,9 @@ use Rattle.run_laws.specs.Moment.{Moment, SameMeshes}
 
 -- The meshes.
 
--- Each mesh that is finished is the right one, whatever the status: of a script the best within the budget, or the
--- least of the tolerance, at its frame line; of a fit the fitted one of its error or its budget. (Where the shelf tells
--- its files, and the sink its meshes. A grid that is refused has no mesh, as `EndsByStatus` says.)
+-- Each mesh that the run finished is the right one, whatever the status: of a script the best within the budget in
+-- force at its frame line, or the least of the tolerance; of a fit the fitted one of its error or its budget. (Where
+-- the shelf tells its files, and the sink its meshes. `IsRunOf`: the words are this command, and its grid is accepted.)
 pub record KeepsBestMeshes (before now : Moment) (words : List (List ℕ)) (status : Status) : Type 0 where
   pub of_script : (files : List NamedFile) (all : List WrittenMesh) (s : Scripted) (grid : HeightField)
       → before.shelf.files ≡ Some files → before.sinks.meshes ≡ Some all → IsRunOf words files (Frames s) grid
@@ -50,8 +50,8 @@ pub record CertifiesMesh (before now : Moment) (words : List (List ℕ)) (status
       → IsRunOf words files (CheckFit c) grid → status ≡ Done → (line : List ℕ)
       × Grows before.sinks.report now.sinks.report line × IsCertifiedFit c grid (bytes_of files c.mesh) line
 
--- in each engine's frame of an outcome of the words, the triangle that blocks is a worst leaf of the mesh, and a mesh
--- with it split has more triangles than the budget; where none blocks, the worst priority is 0
+-- in each frame that an engine makes in an outcome of the words: if a triangle blocks, it is a worst leaf of the mesh,
+-- and a mesh with it split has more triangles than the budget; if none blocks, the worst priority is 0
 abbrev pub TellsCertificates : List (List ℕ) → Type 0
 TellsCertificates words = (files : List NamedFile) (end : Outcome) → IsTrue (is_some end.engine)
     → IsOutcome (command_of words) files end → All IsCertified end.pictures
@@ -79,9 +79,10 @@ pub record IsCutOff (before now : Moment) (command : Option Command) (files : Li
   pub opened : now.shelf.opens ≡ before.shelf.opens + end.opened
 
 -- Where the shelf tells its files, or the command names none: with Done, Usage, the two refusals and Rejected all of an
--- outcome was done, and with WriteFault it was cut off. With ReadFault what the run had done by then stands (at a
--- script, where the shelf tells its files); with NoMemory nothing was written. (Of a sink that tells nothing, what
--- stands is its count of faults alone.)
+-- outcome was done, and with WriteFault it was cut off. With ReadFault at the script the acts of its whole lines that
+-- were read stand (where the shelf tells its files), and at any other file nothing; with NoMemory nothing was written,
+-- and the header of a grid was read and is accepted. Both say how often a file was opened. (Of a sink that tells
+-- nothing, only how its count of faults changed.)
 pub record EndsByStatus (before now : Moment) (command : Option Command) (status : Status)
     (left : Option EngineEnd) : Type 0 where
   pub complete : IsTrue (is_complete status) → (files : List NamedFile)
@@ -95,12 +96,12 @@ pub record EndsByStatus (before now : Moment) (command : Option Command) (status
       → (one : Command) × (command ≡ Some one)
       × CommandNoMemory before.sinks now.sinks before.shelf now.shelf one
 
--- How the outside (shelf, meshes and report) and the engine are left, also where nothing is told. The shelf's files are
--- as before. A mesh is under way where one was before the run, and else none, except perhaps after WriteFault; words
--- that ask for neither frames nor a mesh leave the sink of meshes as it was, as far as it tells. Files were opened as
--- often as `OpensForStatus` has for the status, and with Done the last one was read to its end. An engine is left with
--- Done and ScriptRefused where one makes the frames. Of shelf, meshes and report, each that had not failed before the
--- run was not called again once a call of it had failed.
+-- How the outside (shelf, meshes and report) and the engine are left, also where nothing is told. The files that the
+-- shelf tells are as before. Except perhaps after WriteFault, a mesh is under way exactly if one was before; and
+-- `info`, `try`, `certify` and words that are no command leave the sink of meshes as it was, as far as it tells. Files
+-- were opened as often as `OpensForStatus` has for the status, and with Done the last one was read to its end. An
+-- engine is left with Done and ScriptRefused where one makes the frames. Of shelf, meshes and report, each that had not
+-- failed before the run was not called again once a call of it had failed.
 pub record LeavesOutside (before now : Moment) (command : Option Command) (status : Status)
     (left : Option EngineEnd) : Type 0 where
   pub files : now.shelf.files ≡ before.shelf.files
