@@ -123,6 +123,10 @@ length-some : (n : ℕ) (vs : List Point) (some : List ℕ) →
 length-some n vs [] = refl
 length-some n vs (a ∷ some) = omega (arith, length-some n vs some)
 
+-- each triangle has three places
+length-places_of : (n : ℕ) (triangles : List ℕ) → length (places_of n triangles) ≡ 3 * length triangles
+length-places_of n triangles = length-some n (vertices_of n triangles) triangles
+
 module _ (n : ℕ) (heights : List ℕ) (spacing : ℕ) where
   abbrev position_at : Point → List ℕ
   position_at p = position_of n heights spacing p
@@ -169,3 +173,16 @@ module _ (n : ℕ) (heights : List ℕ) (spacing : ℕ) where
       (All-weaker (IsShown n triangles) (λ a. AreAmong (vertices_of n triangles) (corners_of n a))
       (among-shown n triangles)
       triangles (shown-all n triangles))
+
+-- and so it is of the first places of an array
+pub told_drawn : (n : ℕ) (heights : List ℕ) (spacing : ℕ) (triangles before array : List ℕ) →
+    array ≡ places_of n triangles ++ drop (3 * length triangles) before →
+    drawn (positions_of n heights spacing triangles) (take (3 * length triangles) array)
+    ≡ flat_map (corner_positions n heights spacing) triangles
+told_drawn n heights spacing triangles before array written =
+    let rest : List ℕ = drop (3 * length triangles) before in
+    let front : take (3 * length triangles) array ≡ places_of n triangles =
+    ap (take (3 * length triangles)) written
+    ∙ ap (λ k. take k (places_of n triangles ++ rest)) (sym (length-places_of n triangles))
+    ∙ take-append_seam (places_of n triangles) rest in
+    ap (drawn (positions_of n heights spacing triangles)) front ∙ all-drawn n heights spacing triangles

@@ -1,3 +1,2 @@
 pub mod CertificateLemmas
 pub mod DrawnLemmas
-mod OpenLemmas
