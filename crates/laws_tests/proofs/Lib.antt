@@ -1,3 +1,4 @@
 mod ClosedLists
 mod RankingExamples
 mod CornerExample
+mod TileNumbers

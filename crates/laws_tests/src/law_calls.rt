@@ -82,3 +82,31 @@ fn laws_of_certificates_are_calls() {
     certificate_laws::reason_laws();
     certificate_laws::verdict_laws();
 }
+
+#[test]
+fn laws_of_required_triangles_are_calls() {
+    required_laws::required_laws();
+}
+
+#[test]
+fn laws_of_tiles_are_calls() {
+    tile_laws::quarter_laws();
+    tile_laws::address_laws();
+    tile_laws::place_laws();
+    tile_laws::mate_laws();
+    tile_laws::side_laws();
+    tile_laws::closed_laws();
+    tile_laws::list_laws();
+    tile_laws::height_laws();
+}
+
+#[test]
+fn laws_of_mosaics_are_calls() {
+    mosaic_laws::round_laws();
+    mosaic_laws::run_laws();
+    mosaic_laws::neighbour_laws();
+    mosaic_laws::mosaic_laws();
+    mosaic_laws::rectangle_laws();
+    mosaic_laws::error_laws();
+    mosaic_laws::terrain_laws();
+}
