@@ -4,10 +4,10 @@
 
 mkdir -- "$room/library" && cd -- "$room/library" || exit 1
 
-# lib/build over a small repository with a toolchain of a few lines: what it builds and when, as launcher.sh has it of the program.
+# lib/build over a small repository with a toolchain of a few lines: what it builds and when, as test_launcher.py has it of the program.
 if has library_build cc ar touch; then
   mkdir -p small/bin small/crates/{low,roam_c,unused}/src
-  cp -R -- "$top/roam" "$top/lib" small/
+  cp -R -- "$top/tools" "$top/lib" small/
   rm -rf small/lib/out
   printf 'low:\nunused:\nroam_c staticlib: low kit_library\n' >small/crates.txt
   for name in low roam_c unused; do echo 'int roam_open(void) { return 0; }' >"small/crates/$name/src/text.c"; done
