@@ -1,0 +1,15 @@
+"""Terrain meshes of the fewest triangles for an error, by the proved engine of libroam.
+
+    mesh = calfrewin.fit(heights, error=2.5)       # the fewest triangles that are nowhere off by more than 2.5
+    mesh.vertices, mesh.triangles                  # numpy arrays of shape (n, 3) and (m, 3)
+    mesh.save("my.glb")
+
+`Engine` makes the best mesh for a moving camera, `view` for one. `calfrewin.raster` reads what rasterio reads, by windows;
+`calfrewin.export` writes; `calfrewin.tiles` makes 3D Tiles of terrain of any size. Importing this package imports numpy alone.
+"""
+from ._version import __version__
+from .engine import SIDES, Changes, Engine, Fit, Note, State, Worn, changes
+from .mesh import Mesh, fit, surface, view
+
+__all__ = ["SIDES", "Changes", "Engine", "Fit", "Mesh", "Note", "State", "Worn", "__version__", "changes", "fit",
+           "surface", "view"]

@@ -1,0 +1,115 @@
+"""libroam by ctypes: the structures and calls of roam.h. Each call lets go of the interpreter's lock."""
+from __future__ import annotations
+
+import ctypes
+import os
+import pathlib
+import platform
+from ctypes import POINTER, c_char_p, c_int32, c_int64, c_size_t, c_uint16, c_uint32, c_uint64, c_void_p
+
+__all__ = ["ChangesNote", "DeviationNote", "FitNote", "FrameNote", "Handle", "Plane", "StateNote", "library", "path"]
+
+
+class Handle(ctypes.Structure):
+    _fields_ = [("mark", c_uint64), ("at", c_void_p)]
+
+
+class FrameNote(ctypes.Structure):
+    _fields_ = [("worst", c_uint64)] + [(name, c_uint32) for name in (
+        "triangles", "vertices", "splits", "merges", "blocking", "need", "inside", "cut", "outside", "spare")]
+
+
+class Plane(ctypes.Structure):
+    _fields_ = [(name, c_int64) for name in "abcd"]
+
+
+class ChangesNote(ctypes.Structure):
+    _fields_ = [("gone", c_size_t), ("come", c_size_t)]
+
+
+class DeviationNote(ctypes.Structure):
+    _fields_ = [("off", c_uint64), ("over", c_uint64)]
+
+
+class FitNote(ctypes.Structure):
+    _fields_ = [("off", c_uint64), ("over", c_uint64), ("triangles", c_uint32), ("vertices", c_uint32)]
+
+
+class StateNote(ctypes.Structure):
+    _fields_ = [("side", c_size_t), ("way", c_uint64), ("evaluations", c_uint64), ("frames", c_uint32),
+                ("most", c_uint32), ("budget", c_uint32), ("planes", c_uint32)]
+
+
+_HANDLE, _COUNT, _ARRAY = POINTER(Handle), POINTER(c_size_t), c_void_p
+_PLACE = [c_int64, c_int64, c_int64]
+_LIST = [_HANDLE, _ARRAY, c_size_t, _COUNT]
+CALLS = {
+    "open": [_HANDLE, _ARRAY, c_size_t, c_uint32, c_uint32],
+    "close": [_HANDLE],
+    "camera": [_HANDLE, *_PLACE],
+    "add_plane": [_HANDLE, c_int64, c_int64, c_int64, c_int64],
+    "clear_planes": [_HANDLE],
+    "look": [_HANDLE, POINTER(Plane), c_size_t],
+    "renew": [_HANDLE],
+    "budget": [_HANDLE, c_uint32],
+    "set": [_HANDLE, c_uint32, c_uint32, c_uint16],
+    "raise": [_HANDLE, c_uint32, c_uint32, c_uint32, c_uint32, c_int32],
+    "frame": [_HANDLE, POINTER(FrameNote)],
+    "indices": _LIST,
+    "leaves": _LIST,
+    "positions": _LIST,
+    "compact": _LIST,
+    "strip": _LIST,
+    "deviation": [_HANDLE, POINTER(DeviationNote)],
+    "fit": [_HANDLE, c_uint32, c_uint32, _ARRAY, c_size_t, POINTER(FitNote)],
+    "certificate": [_HANDLE, *_PLACE, c_char_p, c_size_t, _COUNT],
+    "changed": [_HANDLE, _ARRAY, c_size_t, _ARRAY, c_size_t, POINTER(ChangesNote)],
+    "changes": [_ARRAY, c_size_t, _ARRAY, c_size_t, _ARRAY, c_size_t, _ARRAY, c_size_t, POINTER(ChangesNote)],
+    "state": [_HANDLE, POINTER(StateNote)],
+}
+HERE = pathlib.Path(__file__).resolve().parent
+PLACES = (
+    HERE / "libroam.so",  # of a wheel
+    HERE.parents[2] / "lib/out/lib/libroam.so",  # of a clone, by lib/build
+    HERE.parents[1] / "libroam.so",  # of an installation by lib/build PREFIX: PREFIX/lib/python/calfrewin
+)
+
+
+def _wants_v2() -> None:
+    """Refuses a processor below x86-64-v2, for which the library is built: it would die of SIGILL, without a word."""
+    if platform.machine() != "x86_64":
+        return
+    try:
+        with open("/proc/cpuinfo") as file:
+            flags = next(line for line in file if line.startswith("flags")).split()
+    except (OSError, StopIteration):
+        return
+    lacks = sorted({"cx16", "lahf_lm", "popcnt", "sse4_1", "sse4_2", "ssse3"} - set(flags))
+    if lacks:
+        raise ImportError(f"calfrewin wants a processor of x86-64-v2 (2009 and later); this one lacks {', '.join(lacks)}")
+
+
+def _found() -> str:
+    """The library: as CALFREWIN_LIBRARY says, else in the places of a wheel, a clone, an installation, the system."""
+    named = os.environ.get("CALFREWIN_LIBRARY")
+    if named:
+        return named
+    return next((str(place) for place in PLACES if place.exists()), "libroam.so.1")
+
+
+def _load(found: str) -> ctypes.CDLL:
+    _wants_v2()
+    try:
+        loaded = ctypes.CDLL(found)
+    except OSError as why:
+        raise ImportError(f"{why}: build the library with lib/build, or name it in CALFREWIN_LIBRARY") from None
+    for name, types in CALLS.items():
+        call = getattr(loaded, "roam_" + name, None)
+        if call is None:
+            raise ImportError(f"{found} has no roam_{name}: it is older than this package; lib/build makes it anew")
+        call.argtypes, call.restype = types, None if name == "changes" else c_int32
+    return loaded
+
+
+path = _found()
+library = _load(path)

@@ -1,0 +1,123 @@
+"""The vertices and triangles of an engine's mesh as far as a rectangle goes: what a padded grid has beyond is cut off.
+
+Edges of such meshes are level, upright or diagonal, so a cut along a column or a row of points meets them at points. A cut
+edge gets one new vertex, whichever of its triangles is asked, so no cracks come.
+"""
+from __future__ import annotations
+
+from typing import Callable, NamedTuple, Optional
+
+import numpy as np
+import numpy.typing as npt
+
+from ._types import Flags, Floats, Numbers
+
+
+class GridMesh(NamedTuple):
+    """A mesh by columns and rows of a grid, and numbers or heights."""
+    column: Floats  #: of each vertex
+    row: Floats
+    number: Floats
+    triangles: Numbers  #: of shape (count, 3): places among the vertices
+
+
+Clip = Callable[[GridMesh], GridMesh]  #: what of a mesh is wanted
+
+
+def compact(indices: Numbers, size: int) -> tuple[npt.NDArray[np.int64], Numbers]:
+    """Which of `size` places the triangles use, in order, and the triangles by these.
+
+    >>> places, triangles = compact(np.array([[7, 2, 5]], np.uint32), 9)
+    >>> places.tolist(), triangles.tolist()
+    ([2, 5, 7], [[2, 0, 1]])
+    """
+    is_used = np.zeros(size, bool)
+    is_used[indices.reshape(-1)] = True
+    number = np.cumsum(is_used, dtype=np.uint32)
+    number -= 1
+    return np.flatnonzero(is_used), number[indices]
+
+
+def with_triangles(mesh: GridMesh, triangles: Numbers) -> GridMesh:
+    """These triangles, and the vertices that they use."""
+    places, triangles = compact(triangles, len(mesh.column))
+    return GridMesh(mesh.column[places], mesh.row[places], mesh.number[places], triangles)
+
+
+def grid_mesh(indices: Numbers, numbers: npt.NDArray[np.uint16], last_column: float, last_row: float) -> GridMesh:
+    """The mesh of an engine's indices, as far as the last column and row go.
+
+    Args:
+        indices: shape (count, 3): places in the grid, as `Engine.indices` and `Engine.fit` give them.
+        numbers: side x side numbers, the grid.
+        last_column, last_row: where the mesh is to end, above 0; it may be between two points.
+    """
+    side = numbers.shape[0]
+    places, triangles = compact(indices, side * side)
+    row, column = np.divmod(places, side)
+    found = GridMesh(column.astype(np.float64), row.astype(np.float64),
+                     numbers.reshape(-1)[places].astype(np.float64), triangles)
+    if last_column < side - 1:
+        found = _cut(found, last_column)
+    if last_row < side - 1:
+        found = _turned(_cut(_turned(found), last_row))
+    return found
+
+
+def _turned(mesh: GridMesh) -> GridMesh:
+    """Columns for rows."""
+    return GridMesh(mesh.row, mesh.column, mesh.number, mesh.triangles)
+
+
+def _cut(mesh: GridMesh, end: float) -> GridMesh:
+    """What of the mesh has column <= end."""
+    beyond = mesh.column - end
+    is_within, is_beyond = (beyond[mesh.triangles] < 0).any(1), (beyond[mesh.triangles] > 0).any(1)
+    kept, count = mesh.triangles[is_within & ~is_beyond], len(mesh.column)
+    mesh, pieces = split(mesh, mesh.triangles[is_within & is_beyond], beyond)
+    mesh.column[count:] = end
+    return with_triangles(mesh, np.concatenate((kept, pieces[(mesh.column[pieces] <= end).all(1)])))
+
+
+def split(mesh: GridMesh, triangles: Numbers, value: Floats, asked: Optional[Flags] = None) -> tuple[GridMesh, Numbers]:
+    """Triangles split along a straight line: the mesh with the new vertices at its end, and the pieces.
+
+    Args:
+        triangles: some of the mesh, of which each edge that crosses the line gets one new vertex.
+        value: of each vertex, linear over the plane, and 0 on the line.
+        asked: which of `triangles` the line is meant for; their neighbours are split where an edge is shared, and no
+            other ones. Without it all are.
+    """
+    corners = [triangles, np.roll(triangles, -1, axis=1)]
+    low, high = np.minimum(*corners).astype(np.int64), np.maximum(*corners).astype(np.int64)
+    edges = low * np.int64(len(mesh.column)) + high  # both triangles of an edge name it alike
+    crosses = value[low] * value[high] < 0
+    edge = np.unique(edges[crosses if asked is None else crosses & asked[:, None]])
+    i, j = edge // len(mesh.column), edge % len(mesh.column)
+    part = value[i] / (value[i] - value[j])
+    column, row, number = (np.concatenate((values, values[i] + part * (values[j] - values[i]))) for values in mesh[:3])
+    return GridMesh(column, row, number, mesh.triangles), _pieces(triangles, edges, edge, len(mesh.column))
+
+
+def _pieces(triangles: Numbers, edges: npt.NDArray[np.int64], split_edges: npt.NDArray[np.int64], first: int) -> Numbers:
+    """The triangles with a vertex more on some edges: `first` and so on, in the order of these."""
+    if not len(split_edges):
+        return triangles
+    at = np.minimum(np.searchsorted(split_edges, edges), len(split_edges) - 1)
+    is_split = split_edges[at] == edges
+    new = (at + first).astype(np.uint32)
+    count = is_split.sum(1)
+    found = [triangles[count == 0]]
+    # One edge: it is turned to be the first, and its vertex is joined to the opposite corner.
+    (a, b, c), (ab, _, _) = _turned_by(is_split.argmax(1), count == 1, triangles, new)
+    found += [np.column_stack((a, ab, c)), np.column_stack((ab, b, c))]
+    # Two edges: the one that is whole is turned to be the last; the corner between the two is cut off.
+    (a, b, c), (ab, bc, _) = _turned_by((is_split.argmin(1) + 1) % 3, count == 2, triangles, new)
+    found += [np.column_stack((ab, b, bc)), np.column_stack((a, ab, bc)), np.column_stack((a, bc, c))]
+    return np.concatenate(found)
+
+
+def _turned_by(first: npt.NDArray[np.int64], which: Flags, triangles: Numbers, new: Numbers) -> tuple[Numbers, Numbers]:
+    """Some triangles and the new vertices of their edges, turned so that corner `first` comes first, by columns."""
+    turn = (first[which, None] + np.arange(3)) % 3
+    return np.take_along_axis(triangles[which], turn, 1).T, np.take_along_axis(new[which], turn, 1).T

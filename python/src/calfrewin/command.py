@@ -1,0 +1,285 @@
+"""The program `calfrewin`: its words, its stages, its report."""
+from __future__ import annotations
+
+import contextlib
+import json
+import os
+import pathlib
+import sys
+import time
+from dataclasses import dataclass
+from typing import Any, Callable, Iterator, Optional
+
+import click
+
+from . import __version__
+from .export import KINDS
+from .formats import ENCODINGS
+
+Progress = Callable[[int, int], None]
+MUCH_FILLED = 0.05  # of the points: above this it warns
+
+
+@dataclass(frozen=True)
+class Words:
+    """The words of a call, as `mesh` has them."""
+    source: str
+    out: str
+    error: Optional[float]
+    triangles: Optional[int]
+    camera: Optional[tuple[float, float, float]]
+    window: Optional[tuple[int, int, int, int]]
+    bounds: Optional[tuple[float, float, float, float]]
+    every: Optional[int]
+    band: int
+    nodata: Optional[float]
+    fill: Optional[float]
+    spacing: Optional[float]
+    encoding: Optional[str]
+    unit: Optional[float]
+    crs: Optional[str]
+    vertical: Optional[str]
+    origin: Optional[tuple[float, float, float]]
+    normals: bool
+    texture: Optional[str]
+    uv: bool
+    quantize: bool
+    base: Optional[float]
+    size: Optional[float]
+    exaggerate: float
+    tile: Optional[int]
+    kind: Optional[str]
+    zoom: Optional[int]
+    skirts: bool
+    workers: int
+    scheduler: Optional[str]
+    measure: bool
+    overwrite: bool
+    as_json: bool
+    quiet: bool
+
+
+def numbers(kind: Callable[[str], Any], names: str) -> Callable[[click.Context, click.Parameter, Optional[str]], Any]:
+    """Reads a word as X,Y,Z."""
+    def read(context: click.Context, parameter: click.Parameter, text: Optional[str]) -> Any:
+        if text is None:
+            return None
+        try:
+            found = tuple(kind(word) for word in text.replace(",", " ").split())
+        except ValueError:
+            found = ()
+        if len(found) != names.count(",") + 1:
+            raise click.BadParameter(f"{text!r} has to be {names}, numbers with commas and without spaces")
+        return found
+    return read
+
+
+@contextlib.contextmanager
+def stage(label: str, words: Words) -> Iterator[Optional[Progress]]:
+    """A progress bar on standard error where that is a terminal, else one line."""
+    if words.quiet:
+        yield None
+        return
+    if not sys.stderr.isatty():
+        click.echo(f"calfrewin: {label}", err=True)
+        yield None
+        return
+    with click.progressbar(length=1, label=label, file=sys.stderr, width=30) as bar:
+        def tell(done: int, total: int) -> None:
+            bar.length = total
+            bar.update(done - bar.pos)
+        yield tell
+        tell(1, 1)
+
+
+@click.command("mesh", context_settings={"help_option_names": ["-h", "--help"], "max_content_width": 120})
+@click.argument("source", metavar="IN")
+@click.argument("out", metavar="OUT")
+@click.option("--error", type=click.FloatRange(0), help="The fewest triangles that are nowhere off by more metres.")
+@click.option("--triangles", type=click.IntRange(2), help="The least greatest error of at most so many.")
+@click.option("--camera", callback=numbers(float, "X,Y,Z"), help="With --triangles: the best mesh for a viewer there, X and "
+              "Y in metres from the window's lower left point.")
+@click.option("--window", callback=numbers(int, "COLUMN,ROW,COLUMNS,ROWS"), help="Only this part of IN.")
+@click.option("--bounds", callback=numbers(float, "X,Y,X,Y"), help="Only what lies between these coordinates of IN's system: "
+              "least X, least Y, greatest X, greatest Y.")
+@click.option("--every", type=click.IntRange(1), help="Takes every Nth point; without it as few are left out as 2049 points "
+              "a side need.")
+@click.option("--measure", is_flag=True, help="Reads IN once more and tells the error at all its points, those left out too.")
+@click.option("--band", type=int, default=1, show_default=True)
+@click.option("--encoding", type=click.Choice(ENCODINGS), help="For pictures whose colours are heights.")
+@click.option("--nodata", type=float, help="The number that stands for no height, where IN does not say.")
+@click.option("--fill", type=float, help="The height of points without one; without it they are filled from their edges.")
+@click.option("--spacing", type=click.FloatRange(0, min_open=True), help="Metres from point to point, where IN does not say.")
+@click.option("--unit", type=click.FloatRange(0, min_open=True), help="Heights are rounded to multiples of it; without it the "
+              "finest that their range allows.")
+@click.option("--crs", help="The system of the vertices, as EPSG:25832; without it IN's own if it is in metres, else UTM.")
+@click.option("--vertical", metavar="EPSG:CODE", help="What heights are over: EPSG:5773 for SRTM, EPSG:3855 for Copernicus; "
+              "without it what IN says, else the ellipsoid.")
+@click.option("--origin", callback=numbers(float, "X,Y,Z"), help="What is 0 in OUT; without it a whole place in the middle.")
+@click.option("--normals/--no-normals", default=True, show_default=True, help="For .glb and tiles.")
+@click.option("--texture", type=click.Path(exists=True, dir_okay=False), help="A PNG or JPEG over the window, for .glb.")
+@click.option("--uv", is_flag=True, help="Texture coordinates over the window, for .glb.")
+@click.option("--quantize", is_flag=True, help="Two bytes a coordinate, without loss, for .glb (KHR_mesh_quantization).")
+@click.option("--base", type=float, help="Closes the mesh to a solid down to this height, for a print.")
+@click.option("--size", type=click.FloatRange(0, min_open=True), help="A solid whose longer side is so many millimetres; "
+              "without --base its floor is 2 mm below the lowest point.")
+@click.option("--exaggerate", type=click.FloatRange(0, min_open=True), default=1.0, help="Heights are multiplied by it.")
+@click.option("--tile", type=int, help="OUT is a folder of 3D Tiles with so many points a side [513]; of quantized-mesh [129].")
+@click.option("--format", "kind", type=click.Choice(["3dtiles", "quantized-mesh"]), help="What a folder OUT holds [3dtiles].")
+@click.option("--zoom", type=click.IntRange(0, 22), help="The finest zoom of quantized-mesh; without it as fine as IN.")
+@click.option("--skirts/--no-skirts", default=True, show_default=True, help="Walls down from the borders of tiles.")
+@click.option("--workers", type=click.IntRange(1), default=1, show_default=True, help="Processes for tiles.")
+@click.option("--dask", "scheduler", metavar="ADDRESS", help="Makes tiles on the workers of this scheduler, as "
+              "tcp://127.0.0.1:8786.")
+@click.option("--overwrite", is_flag=True, help="Replaces OUT where it is there.")
+@click.option("--json", "as_json", is_flag=True, help="The report as one line of JSON.")
+@click.option("--quiet", "-q", is_flag=True, help="No progress.")
+@click.version_option(__version__)
+def mesh(**words: Any) -> None:
+    """Meshes of few triangles of the heights of IN, with a proved error.
+
+    IN is what GDAL reads (GeoTIFF, .hgt, .vrt, .zip, a URL), PGM or .npy. OUT is a file (.glb .ply .stl .obj .vtk .vtu .off
+    .npz), or a folder, which gets 3D Tiles.
+
+    \b
+      calfrewin my.tif my.glb --error 2.5
+      calfrewin N36W085.hgt my.ply --triangles 20000
+      calfrewin my.tif print.stl --error 5 --size 150 --exaggerate 2
+      calfrewin my.tif tiles/ --error 1
+    """
+    asked = Words(**words)
+    try:
+        report = run(asked)
+    except KeyboardInterrupt:
+        raise click.ClickException(f"interrupted; {asked.out} was not written") from None
+    except (ValueError, TypeError, OSError, MemoryError, ImportError) as why:
+        raise click.ClickException(str(why) or type(why).__name__) from None
+    click.echo(json.dumps(report) if asked.as_json else told(report))
+
+
+def main() -> None:
+    """`calfrewin`, and `python3 -m calfrewin`."""
+    # A window of a raster wants no more than some rows; GDAL takes a twentieth of the memory if nothing is said.
+    os.environ.setdefault("GDAL_CACHEMAX", "64")
+    mesh(prog_name="calfrewin")
+
+
+def run(words: Words) -> dict[str, Any]:
+    """Does what the words say; the report."""
+    is_folder = words.kind is not None or words.tile is not None or words.out.endswith("/") or os.path.isdir(words.out)
+    _refuse(words, is_folder)
+    from .raster import open_raster
+    began = time.perf_counter()
+    raster = open_raster(words.source, band=words.band, nodata=words.nodata, spacing=words.spacing,
+                         vertical=words.vertical, encoding=words.encoding)
+    report = folder(raster, words) if is_folder else one(raster, words)
+    return report | {"seconds": round(time.perf_counter() - began, 2)}
+
+
+def _refuse(words: Words, is_folder: bool) -> None:
+    """What can be said of the words without the file."""
+    kind = pathlib.PurePath(words.out).suffix.lower()
+    wrong = {
+        f"OUT is {words.out!r}, and has to end in one of {' '.join(KINDS)}, or in / for a folder of tiles":
+            not is_folder and kind not in KINDS,
+        "one of --error METRES and --triangles N is wanted":
+            words.kind != "quantized-mesh" and (words.error is None) == (words.triangles is None),
+        f"OUT is {words.out!r}, and no such folder is there":
+            not is_folder and not pathlib.Path(words.out).resolve().parent.is_dir(),
+        "--camera is for --triangles": words.camera is not None and words.triangles is None,
+        "one of --window and --bounds is wanted": words.window is not None and words.bounds is not None,
+    }
+    for text, is_so in wrong.items():
+        if is_so:
+            raise click.UsageError(text)
+    if not is_folder and os.path.exists(words.out) and not words.overwrite:
+        raise click.ClickException(f"{words.out} is there already: --overwrite replaces it")
+
+
+def folder(raster: Any, words: Words) -> dict[str, Any]:
+    """A folder of tiles."""
+    with stage("making tiles", words) as progress:
+        if words.kind == "quantized-mesh":
+            from .quantized import terrain
+            found = terrain(raster, words.out, zoom=words.zoom, side=words.tile or 129, normals=words.normals, progress=progress)
+            return {"out": words.out, "kind": words.kind} | found
+        if words.error is None:
+            raise click.UsageError("tiles want --error METRES")
+        from . import tiles
+        client, out = None, words.out
+        if words.scheduler:
+            from dataclasses import replace
+            from distributed import Client
+            client = Client(words.scheduler)  # type: ignore[no-untyped-call]
+            out = os.path.abspath(out)
+            raster = replace(raster, path=raster.path if "://" in raster.path else os.path.abspath(raster.path))
+        plan = tiles.plan_of(raster, out, error=words.error, tile=words.tile or 513, unit=words.unit, fill=words.fill or 0.0,
+                             normals=words.normals, skirts=words.skirts)
+        found = tiles.build(plan, client=client, workers=words.workers, progress=progress)
+        return {"out": os.path.join(out, "tileset.json"), "kind": "3dtiles"} | found
+
+
+def one(raster: Any, words: Words) -> dict[str, Any]:
+    """One file."""
+    from . import raster as r
+    from . import systems
+    from .export import save
+    window = raster.window_of(words.bounds) if words.bounds else raster.window(_by_rows(words.window))
+    crs = words.crs or (None if words.camera else systems.metres_crs(raster.crs, raster.transform, raster.shape))
+    texture = pathlib.Path(words.texture).read_bytes() if words.texture else None
+    with stage(f"reading {words.source}, {window.columns} x {window.rows} points, and meshing", words) as progress:
+        found = r.fit_raster(raster, error=words.error, triangles=words.triangles, window=window, every=words.every,
+                             fill=words.fill, unit=words.unit, camera=words.camera, progress=progress)
+    made = found.mesh
+    with stage(f"writing {words.out}", words):
+        report = save(made, words.out, crs=crs, origin=words.origin, normals=words.normals, uv=words.uv, texture=texture,
+                      quantize=words.quantize, base=words.base, size=words.size, exaggerate=words.exaggerate)
+    rows, columns = made.shape
+    covered = (rows - 1) * found.every * (columns - 1) * found.every / ((raster.shape[0] - 1) * (raster.shape[1] - 1))
+    report |= {"out": words.out, "rounding": made.rounding, "unit": made.unit, "points": list(made.shape),
+               "of": list(raster.shape), "every": found.every, "covered": round(covered, 4), "filled": made.filled}
+    if crs and made.crs and crs != made.crs:
+        report["sideways"] = round(systems.sideways(made, crs), 3)
+    if words.measure:
+        with stage(f"measuring {words.source}", words) as progress:
+            report["error_at_all_points"] = r.measured(raster, found, progress)
+    return report
+
+
+def _by_rows(window: Optional[tuple[int, int, int, int]]) -> Optional[tuple[int, int, int, int]]:
+    """(row, column, rows, columns) of (column, row, columns, rows)."""
+    return None if window is None else (window[1], window[0], window[3], window[2])
+
+
+def told(report: dict[str, Any]) -> str:
+    """The report for people."""
+    if report.get("kind") == "quantized-mesh":
+        return "{out}: {tiles} tiles to zoom {zoom}, {triangles} triangles, {bytes} bytes, {seconds} s".format(**report)
+    if report.get("kind") == "3dtiles":
+        return ("{out}: {tiles} tiles in {levels} levels, {triangles} triangles in the finest, {bytes} bytes, {seconds} s\n"
+                "greatest error {error:.6g} m in the finest level, {root_error:.6g} m in the coarsest, over all points of the "
+                "file").format(**report)
+    return "\n".join(_lines(report))
+
+
+def _lines(report: dict[str, Any]) -> Iterator[str]:
+    from .systems import name_of
+    rows, columns = report["points"]
+    points = rows * columns
+    yield "{out}: {triangles} triangles, {vertices} vertices, {seconds} s".format(**report)
+    taken = "all points" if report["every"] == 1 else f"the {columns} x {rows} points taken, one of {report['every']} each way"
+    rounding = f"{report['rounding']:.2g} m for rounding to {report['unit']:g} m"
+    yield f"greatest error {report['error']:.6g} m at {taken}, of which {rounding}"
+    if "error_at_all_points" in report:
+        yield f"greatest error {report['error_at_all_points']:.6g} m at all points of the file, measured"
+    elif report["every"] > 1:
+        yield "what lies between the points taken was not looked at: --measure tells the error there"
+    if report.get("sideways"):
+        yield f"the middles of the longest edges lie {report['sideways']:g} m sideways of their ground, as the two systems bend"
+    whole = f"{report['of'][1]} x {report['of'][0]} points"
+    yield f"covers {100 * report['covered']:.4g} % of the file's {whole}"
+    share = report["filled"] / points
+    if report["filled"]:
+        warning = "warning: " if share > MUCH_FILLED else ""
+        yield f"{warning}{report['filled']} points, {100 * share:.2g} %, had no height and were filled"
+    yield f"origin {' '.join(f'{number:.10g}' for number in report['origin'])}; {name_of(report['crs'])}"

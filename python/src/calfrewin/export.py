@@ -1,0 +1,176 @@
+"""Writing a mesh: .glb by this package, .npz by numpy, and by meshio .ply, .stl, .obj, .vtk, .vtu and .off."""
+from __future__ import annotations
+
+import json
+import pathlib
+from typing import Any, NamedTuple, Optional
+
+import numpy as np
+
+from . import glb as gltf
+from ._types import Floats, Numbers
+from .files import whole_file, write_bytes
+from .mesh import Mesh
+from .solid import normals_of, solid
+
+BY_MESHIO = (".ply", ".stl", ".obj", ".vtk", ".vtu", ".off")
+BINARY = (".ply", ".stl", ".vtk", ".vtu")
+NARROW = (".glb", ".ply", ".stl")  # floats of 32 bits
+KINDS = (".glb", ".npz", *BY_MESHIO)
+GLOBE = "globe"
+FLOOR = 2.0  # millimetres below the lowest point of a print
+
+
+class Places(NamedTuple):
+    """Where vertices are."""
+    x: Floats
+    y: Floats
+    z: Floats
+    frame: Optional[Floats]  #: 4 x 4, from these to EPSG:4978, where they are about a place of the globe
+
+
+def kind_of(path: str) -> str:
+    """The ending of a name, which is that of a format.
+
+    >>> kind_of("my.GLB")
+    '.glb'
+    """
+    kind = pathlib.PurePath(path).suffix.lower()
+    if kind not in KINDS:
+        raise ValueError(f"path is {path!r}, and has to end in one of {' '.join(KINDS)}")
+    return kind
+
+
+def save(mesh: Mesh, path: str, *, crs: Optional[str] = None, origin: Optional[tuple[float, float, float]] = None,
+         normals: bool = True, uv: bool = False, texture: Optional[bytes] = None, quantize: bool = False,
+         base: Optional[float] = None, size: Optional[float] = None, exaggerate: float = 1.0) -> dict[str, Any]:
+    """Writes the mesh, and PATH.json beside it with the origin and the coordinate system; what that says comes back.
+
+    Args:
+        path: its ending is the format: .glb .npz .ply .stl .obj .vtk .vtu .off.
+        crs: the system to write in; without it that of the mesh. "globe": metres to the east, to the north and up about
+            the middle, with the matrix from there to EPSG:4978; for a mesh that was made with globe=True.
+        origin: x, y, z that are 0 in the file; without it a whole place in the middle for .glb, .ply, .stl and .obj, and
+            0 for the rest.
+        normals: writes them, in .glb.
+        uv: writes texture coordinates over the array, in .glb: (0, 0) at its first point.
+        texture: the bytes of a PNG or a JPEG over the array, in .glb.
+        quantize: writes columns, rows and heights as they are, in two bytes each, in .glb: nothing is lost
+            (KHR_mesh_quantization, which f3d 1 and Blender before 3 do not read).
+        base: closes the mesh to a solid down to this height.
+        size: makes a solid whose longer side is so many millimetres; without `base` its floor is 2 mm below the lowest
+            point.
+        exaggerate: heights are multiplied by it.
+    """
+    kind = kind_of(path)
+    if crs == GLOBE and (base is not None or size is not None or origin is not None):
+        raise ValueError("crs globe is no system for base, size and origin: give one of a map")
+    x, y, z, frame = _places(mesh, crs, exaggerate)
+    if origin is not None:
+        zero = np.array(origin, np.float64)
+    elif frame is None and (kind in NARROW or kind == ".obj"):
+        zero = origin_of(x, y)
+    else:
+        zero = np.zeros(3)
+    told = {"origin": zero.tolist(), "crs": crs or mesh.crs, "error": mesh.error * exaggerate,
+            "triangles": len(mesh.triangles), "vertices": len(mesh.height), "exaggerate": exaggerate}
+    if frame is not None:
+        told["to_EPSG:4978"] = frame.T.reshape(-1).tolist()
+    if kind == ".glb" and quantize:
+        write_bytes(path, *_quantized(mesh, zero, uv, normals, texture, exaggerate, told))
+    else:
+        points = np.column_stack((x, y, z))
+        points -= zero
+        points, triangles = _printable(mesh, points, zero, base, size, exaggerate, told)
+        is_solid = len(triangles) != len(mesh.triangles)
+        if kind == ".glb":
+            up = gltf.y_up(normals_of(points, triangles)) if normals else None
+            st = _texture_places(mesh) if (uv or texture) and not is_solid else None
+            write_bytes(path, *gltf.glb(gltf.y_up(points).astype("<f4"), triangles, normals=up, uv=st, image=texture,
+                                        extras=told))
+        elif kind == ".npz":
+            _npz(path, points, triangles, told)
+        else:
+            _by_meshio(path, kind, points, triangles)
+    write_bytes(path + ".json", (json.dumps(told, indent=1) + "\n").encode())
+    return told
+
+
+def _places(mesh: Mesh, crs: Optional[str], exaggerate: float) -> Places:
+    """x, y and z of each vertex in a system; heights change where that one says so."""
+    heights = mesh.height if exaggerate == 1 else mesh.height * exaggerate
+    if crs is None or crs == mesh.crs:
+        return Places(*mesh.xy(), heights, None)
+    if mesh.crs is None:
+        raise ValueError(f"crs is {crs}, and the mesh has no system from which it could be brought there")
+    from . import systems
+    if crs != GLOBE:
+        x, y, *z = systems.transformer(mesh.crs, crs).transform(*mesh.xy(), heights)
+        return Places(x, y, z[0], None)
+    if not mesh.is_curved:
+        raise ValueError("crs is globe, and the mesh was not made with globe=True, so its error would not hold there")
+    middle = systems.transformer(mesh.crs, systems.GEOCENTRIC).transform(*systems.middle_of(mesh.transform, mesh.shape), 0.0)
+    frame = systems.east_north_up(*middle)
+    over = systems.transformer(mesh.crs, systems.GEODETIC).transform(*mesh.xy(), heights)
+    x, y, z = ((systems.geocentric(*over) - middle) @ frame[:3, :3]).T
+    return Places(x, y, z, frame)
+
+
+def _printable(mesh: Mesh, points: Floats, zero: Floats, base: Optional[float], size: Optional[float], exaggerate: float,
+               told: dict[str, Any]) -> tuple[Floats, Numbers]:
+    """The points in millimetres where a size is wanted, and the solid where one is."""
+    scale = 1.0 if size is None else size / float(np.ptp(points[:, :2], axis=0).max())
+    if size is not None:
+        points *= scale
+        told["millimetres_to_a_metre"] = scale
+    floor = None if base is None else (base * exaggerate - float(zero[2])) * scale
+    if floor is None and size is not None:
+        floor = float(points[:, 2].min()) - FLOOR
+    return (points, mesh.triangles) if floor is None else solid(points, mesh.triangles, floor, not mesh.is_clipped)
+
+
+def origin_of(x: Floats, y: Floats) -> Floats:
+    """A whole place in the middle, so that floats of 32 bits lose less than a millimetre within 16 km of it.
+
+    >>> origin_of(np.array([500000.0, 500901.0]), np.array([5000000.0, 5000090.0])).tolist()
+    [500450.0, 5000045.0, 0.0]
+    """
+    return np.array([np.floor((x.min() + x.max()) / 2), np.floor((y.min() + y.max()) / 2), 0.0])
+
+
+def _texture_places(mesh: Mesh) -> Floats:
+    rows, columns = mesh.shape
+    return np.column_stack((mesh.column / (columns - 1), mesh.row / (rows - 1)))
+
+
+def _npz(path: str, points: Floats, triangles: Numbers, told: dict[str, Any]) -> None:
+    words = {"origin": np.array(told["origin"]), "crs": np.array(told["crs"] or "", np.str_), "error": np.array(told["error"])}
+    arrays: dict[str, Any] = {"vertices": points, "triangles": triangles} | words
+    whole_file(path, lambda room: np.savez_compressed(room, **arrays))
+
+
+def _by_meshio(path: str, kind: str, points: Floats, triangles: Numbers) -> None:
+    import meshio
+    options = {"binary": True} if kind in BINARY else {}
+    narrow = points.astype(np.float32) if kind in NARROW else points
+    body = meshio.Mesh(narrow, [("triangle", triangles)])
+
+    def write(room: str) -> None:
+        body.write(room, **options)
+    whole_file(path, write)
+
+
+def _quantized(mesh: Mesh, origin: Floats, uv: bool, normals: bool, texture: Optional[bytes], exaggerate: float,
+               told: dict[str, Any]) -> list[Any]:
+    a, b, c, d, e, f = mesh.transform
+    column, row = np.rint(mesh.column), np.rint(mesh.row)
+    if b or d or not a > 0 > e or (column != mesh.column).any() or (row != mesh.row).any():
+        raise ValueError("quantize wants rows from north to south without a turn, and vertices at the array's points")
+    low = float(mesh.height.min())
+    number = np.rint((mesh.height - low) / mesh.unit)
+    scaled = np.column_stack((a * column, e * row, mesh.height * exaggerate))
+    up = gltf.y_up(normals_of(scaled, mesh.triangles)) if normals else None
+    return gltf.glb(np.column_stack((column, number, row)).astype("<u2"), mesh.triangles, normals=up,
+                    uv=_texture_places(mesh) if uv or texture else None, image=texture, extras=told,
+                    scale=(a, mesh.unit * exaggerate, -e),
+                    translation=(c - origin[0], low * exaggerate - origin[2], -(f - origin[1])))

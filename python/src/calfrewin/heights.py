@@ -1,0 +1,146 @@
+"""From heights of any kind to a grid of whole numbers: holes filled, rounded to multiples of a unit, padded to a square."""
+from __future__ import annotations
+
+import math
+from typing import Any, NamedTuple, Optional
+
+import numpy as np
+import numpy.typing as npt
+
+from ._types import Flags, Floats
+from .engine import MOST_HEIGHT, SIDES
+
+UNITS = tuple(float(f"{digit}e{power}") for power in range(-9, 0) for digit in (1, 2, 5)) + (1.0,)
+FINEST = 1e-9  # of the greatest height: finer units would be rounding of floats alone
+
+
+class Rounded(NamedTuple):
+    """Heights as whole numbers: a height is base + unit * number, but for the rounding."""
+    numbers: npt.NDArray[np.uint16]
+    unit: float
+    base: float
+    rounding: float  #: how far a height is from its rounded one, at most
+
+
+def rounded(heights: npt.NDArray[Any], unit: Optional[float] = None) -> Rounded:
+    """Heights as multiples of a unit over the least one.
+
+    Args:
+        heights: an array without holes.
+        unit: without it 1 where all heights are whole, else the finest of 1, 2, 5 by powers of ten, to 1, that their
+            range allows.
+
+    >>> rounded(np.array([[10.5, 11.0]]), unit=0.5)
+    Rounded(numbers=array([[0, 1]], dtype=uint16), unit=0.5, base=10.5, rounding=0.0)
+    """
+    low, high = float(heights.min()), float(heights.max())
+    if not math.isfinite(high - low):
+        raise ValueError(f"heights are from {low:g} to {high:g}, and have to be finite (NaN is filled, infinity is not)")
+    if unit is None:
+        unit = _finest_unit(heights, low, high)
+    elif not 0 < unit < math.inf:
+        raise ValueError(f"unit is {unit!r}, and has to be above 0")
+    elif high - low > unit * (MOST_HEIGHT - 1):
+        raise ValueError(f"unit is {unit:g}, and has to be at least {(high - low) / (MOST_HEIGHT - 1):g} "
+                         f"for heights from {low:g} to {high:g}")
+    # The 1e-6 keeps a least height that is a multiple but for its last bits from adding a step.
+    base = math.floor(low / unit + 1e-6) * unit
+    exact = heights.astype(np.float64)
+    exact -= base
+    exact /= unit
+    numbers = np.rint(exact)
+    exact -= numbers
+    rounding = max(float(exact.max()), -float(exact.min())) * unit
+    return Rounded(numbers.astype(np.uint16), unit, base, rounding)
+
+
+def _finest_unit(heights: npt.NDArray[Any], low: float, high: float) -> float:
+    reach = MOST_HEIGHT - 1
+    if high - low <= reach and (heights.dtype.kind in "iu" or bool((heights == np.rint(heights)).all())):
+        return 1.0
+    least = max((high - low) / reach, FINEST * max(abs(low), abs(high)))
+    fits = next((unit for unit in UNITS if unit >= least), None)
+    if fits is None:
+        raise ValueError(f"heights are from {low:g} to {high:g}, more than {reach} steps of 1: is a value among them that "
+                         f"stands for none (nodata)? Else give a unit of {(high - low) / reach:.3g} or more")
+    return fits
+
+
+class Filled(NamedTuple):
+    """Heights with one at each point."""
+    heights: npt.NDArray[Any]
+    holes: int  #: how many points had none
+
+
+def filled(heights: npt.NDArray[Any], holes: Flags, fill: Optional[float] = None) -> Filled:
+    """The heights with one at each point.
+
+    Args:
+        heights: rows x columns of numbers.
+        holes: of the same shape, true where there is no height.
+        fill: the height that holes get; without it they are filled smoothly from their edges.
+
+    >>> filled(np.array([[1.0, np.nan, 3.0]]), np.array([[False, True, False]]), fill=2).heights.tolist()
+    [[1.0, 2.0, 3.0]]
+    """
+    count = int(holes.sum())
+    if count == holes.size:
+        raise ValueError("heights: no point has one")
+    if count == 0:
+        return Filled(heights, 0)
+    found = heights.copy()
+    if fill is None:
+        smooth = _from_edges(np.where(holes, 0, heights).astype(np.float64), ~holes)[holes]
+        # What whole heights are filled with is whole, so that their unit stays 1.
+        found[holes] = np.rint(smooth) if heights.dtype.kind in "iu" else smooth
+        return Filled(found, count)
+    kept = np.dtype(heights.dtype)
+    if kept.kind in "iu" and (fill != int(fill) or not np.iinfo(kept).min <= fill <= np.iinfo(kept).max):
+        found = found.astype(np.float64)
+    found[holes] = fill
+    return Filled(found, count)
+
+
+def _from_edges(heights: Floats, is_there: Flags) -> Floats:
+    """Holes filled from coarser and coarser means: each level has the mean of the heights in 2 x 2 points of the one
+    below, and what has none there takes what lies between the means around it (push and pull, Gortler et al. 1996)."""
+    if is_there.all():
+        return heights
+    rows, columns = heights.shape
+    pads = (0, rows % 2), (0, columns % 2)
+    sums, counts = (np.pad(found, pads).reshape((rows + 1) // 2, 2, (columns + 1) // 2, 2).sum((1, 3))
+                    for found in (np.where(is_there, heights, 0.0), is_there.astype(np.float64)))
+    means = _from_edges(sums / np.maximum(counts, 1), counts > 0)
+    for axis, length in ((0, rows), (1, columns)):
+        means = _twice(means, axis).take(np.arange(length), axis)
+    return np.where(is_there, heights, means)
+
+
+def _twice(means: Floats, axis: int) -> Floats:
+    """Twice as many points along an axis, in proportion between the middles of the coarser ones."""
+    before, after = (np.take(means, np.clip(np.arange(means.shape[axis]) + step, 0, means.shape[axis] - 1), axis)
+                     for step in (-1, 1))
+    pairs = np.stack((0.75 * means + 0.25 * before, 0.75 * means + 0.25 * after), axis + 1)
+    shape = list(means.shape)
+    shape[axis] *= 2
+    return pairs.reshape(shape)
+
+
+def side_of(shape: tuple[int, ...]) -> int:
+    """The least side 2^n + 1 of a grid that holds rows x columns points.
+
+    >>> side_of((100, 129)), side_of((2, 130))
+    (129, 257)
+    """
+    if len(shape) != 2 or min(shape) < 2 or max(shape) > SIDES[-1]:
+        raise ValueError(f"heights have the shape {shape}, and have to be rows x columns, 2 to {SIDES[-1]} of each: "
+                         "every second point is heights[::2, ::2], and calfrewin.tiles takes rasters of any size")
+    return (1 << max(1, (max(shape) - 2).bit_length())) + 1
+
+
+def padded(numbers: npt.NDArray[np.uint16], side: int) -> npt.NDArray[np.uint16]:
+    """The numbers to the right and below repeated up to side x side points: the mesh is cut there afterwards."""
+    rows, columns = numbers.shape
+    if rows == columns == side:
+        return numbers
+    return np.pad(numbers, ((0, side - rows), (0, side - columns)), mode="edge")

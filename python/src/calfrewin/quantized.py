@@ -1,0 +1,222 @@
+"""quantized-mesh-1.0, the terrain of Cesium: one tile, and the pyramid of a raster in the grid of geographic tiles.
+
+A tile, all numbers little-endian, the file gzipped (served with Content-Encoding: gzip, Content-Type: application/vnd.quantized-mesh):
+
+    head      3 doubles   the middle, geocentric (EPSG:4978), metres
+              2 floats    least and greatest height over the ellipsoid, metres
+              4 doubles   bounding sphere: middle and radius
+              3 doubles   horizon occlusion point, geocentric over the half axes of the ellipsoid
+    vertices  uint32 count, then count uint16 each of u, v, height: 0 .. 32767 from west to east, south to north, least to greatest;
+              each stands as the difference from the one before, zigzag ((d << 1) ^ (d >> 15))
+    triangles padding to 2 bytes (to 4 where there are more than 65536 vertices), uint32 count, then 3 count uint16 (or uint32),
+              counterclockwise from above, each as high - index, where high is the number of vertices named before
+    edges     west, south, east, north: uint32 count and count indices as they are, of all vertices on that side
+    extension uint8 id, uint32 length, bytes; 1: two bytes a vertex, its geocentric normal on an octahedron
+"""
+from __future__ import annotations
+
+import gzip
+import json
+import math
+import os
+import struct
+from typing import Any, Optional
+
+import numpy as np
+import numpy.typing as npt
+
+from . import files
+from ._types import Floats
+from .clip import grid_mesh
+from .engine import Engine
+from .raster import Progress, Raster
+from .systems import HALF_AXES, geocentric
+
+A, B = HALF_AXES
+MOST = 32_767
+FIRST_ERROR = 2 * math.pi * A * 0.25 / (65 * 2)  # what CesiumJS takes for tiles of zoom 0; it halves with each zoom
+
+
+def _zigzag(values: npt.NDArray[np.int64]) -> bytes:
+    delta = np.diff(values, prepend=0)
+    return bytes(((delta << 1) ^ (delta >> 63)).astype("<u2").tobytes())
+
+
+def _octahedron(normals: Floats) -> bytes:
+    n = normals / np.abs(normals).sum(1, keepdims=True)
+    folded = (1 - np.abs(n[:, [1, 0]])) * np.where(n[:, :2] < 0, -1.0, 1.0)
+    xy = np.where(n[:, 2:] < 0, folded, n[:, :2])
+    return bytes(np.rint((np.clip(xy, -1, 1) * 0.5 + 0.5) * 255).astype(np.uint8).tobytes())
+
+
+def _horizon(points: Floats, middle: Floats) -> Floats:
+    """The point of which nothing is seen unless something of the tile may be (Cesium's EllipsoidalOccluder)."""
+    radii = np.array([A, A, B])
+    way = middle / radii
+    way /= np.linalg.norm(way)
+    p = points / radii
+    length = np.linalg.norm(p, axis=1)
+    unit, length = p / length[:, None], np.maximum(length, 1.0)
+    cos_a, sin_a = unit @ way, np.linalg.norm(np.cross(unit, way), axis=1)
+    cos_b = 1 / length
+    sin_b = np.sqrt(length ** 2 - 1) * cos_b
+    seen = cos_a * cos_b - sin_a * sin_b
+    return np.asarray(way * (1 / np.maximum(seen, 1e-6)).max())  # of half a globe there is no such point: one so far away hides nothing
+
+
+def encode(u: npt.NDArray[np.int64], v: npt.NDArray[np.int64], height: Floats, triangles: npt.NDArray[np.uint32],
+           bounds: tuple[float, float, float, float], normals: Optional[Floats] = None) -> bytes:
+    """The bytes of a tile, not zipped. u and v from 0 to 32767; height in metres over the ellipsoid; bounds west, south, east, north in degrees."""
+    # Vertices in the order in which triangles first name them, which the coding of triangles wants.
+    flat = triangles.reshape(-1).astype(np.int64)
+    _, first = np.unique(flat, return_index=True)
+    order = flat[np.sort(first)]
+    number = np.empty(len(u), np.int64)
+    number[order] = np.arange(len(order))
+    u, v, height, index = u[order], v[order], height[order], number[flat]
+    w, s, e, n = bounds
+    points = geocentric(w + (e - w) * u / MOST, s + (n - s) * v / MOST, height)
+    low, high = float(np.float32(height.min())), float(np.float32(height.max()))
+    middle = (points.min(0) + points.max(0)) / 2
+    radius = float(np.linalg.norm(points - middle, axis=1).max())
+    h = np.rint((height - low) / ((high - low) or 1.0) * MOST).astype(np.int64).clip(0, MOST)
+    is_wide = len(u) > 65_536
+    kind = "<u4" if is_wide else "<u2"
+    highest = np.maximum.accumulate(np.append(np.array([-1]), index[:-1])) + 1
+    parts = [struct.pack("<3d2f4d3d", *middle, low, high, *middle, radius, *_horizon(points, middle)), struct.pack("<I", len(u)), _zigzag(u), _zigzag(v), _zigzag(h)]
+    parts.append(bytes(-sum(map(len, parts)) % (4 if is_wide else 2)))
+    parts += [struct.pack("<I", len(index) // 3), (highest - index).astype(kind).tobytes()]
+    for on, along in ((u == 0, v), (v == 0, u), (u == MOST, v), (v == MOST, u)):
+        edge = np.flatnonzero(on)
+        edge = edge[np.argsort(along[edge], kind="stable")]
+        parts += [struct.pack("<I", len(edge)), edge.astype(kind).tobytes()]
+    if normals is not None:
+        data = _octahedron(normals[order])
+        parts += [struct.pack("<BI", 1, len(data)), data]
+    return b"".join(parts)
+
+
+def decode(data: bytes) -> dict[str, Any]:
+    """What `encode` wrote, for tests and for who wants to look."""
+    head = struct.unpack_from("<3d2f4d3d", data)
+    at = 88
+    count, = struct.unpack_from("<I", data, at)
+    at += 4
+
+    def values() -> npt.NDArray[np.int64]:
+        nonlocal at
+        it = np.frombuffer(data, "<u2", count, at).astype(np.int64)
+        at += 2 * count
+        return np.cumsum((it >> 1) ^ -(it & 1))
+
+    u, v, h = values(), values(), values()
+    kind, size = ("<u4", 4) if count > 65_536 else ("<u2", 2)
+    at += -at % size
+    triangles, = struct.unpack_from("<I", data, at)
+    at += 4
+    code = np.frombuffer(data, kind, 3 * triangles, at).astype(np.int64)
+    at += size * 3 * triangles
+    index = np.cumsum(code == 0) - (code == 0) - code
+    edges = []
+    for _ in range(4):
+        n, = struct.unpack_from("<I", data, at)
+        edges.append(np.frombuffer(data, kind, n, at + 4))
+        at += 4 + size * n
+    found = {"middle": head[:3], "low": head[3], "high": head[4], "sphere": head[5:9], "horizon": head[9:12], "u": u, "v": v, "height": head[3] + h / MOST * (head[4] - head[3]),
+             "triangles": index.reshape(-1, 3), "edges": edges, "extensions": {}}
+    while at < len(data):
+        kind_, length = struct.unpack_from("<BI", data, at)
+        found["extensions"][kind_] = data[at + 5:at + 5 + length]
+        at += 5 + length
+    return found
+
+
+def tile_of(heights: Floats, bounds: tuple[float, float, float, float], error: float, normals: bool = True) -> tuple[bytes, float, int]:
+    """A tile of side x side heights over the ellipsoid, the northern row first: its bytes, its greatest error in metres, and its triangles."""
+    side = heights.shape[0]
+    w, s, e, n = bounds
+    # The drop of the ellipsoid below the plane that touches it in the middle, so that flat sea is cut as often as the earth is round.
+    mid = math.radians((s + n) / 2)
+    radius_n = A / math.sqrt(1 - (1 - (B / A) ** 2) * math.sin(mid) ** 2)
+    x = math.radians(e - w) * (np.arange(side) / (side - 1) - 0.5) * radius_n * math.cos(mid)
+    y = math.radians(n - s) * (np.arange(side) / (side - 1) - 0.5) * radius_n
+    ground = heights - (x * x)[None, :] / (2 * radius_n) - (y * y)[:, None] / (2 * radius_n)
+    low = float(ground.min())
+    unit = max(error / 40, float(ground.max() - low) / 65_534, 0.001)
+    grid = np.rint((ground - low) / unit).astype(np.uint16)
+    # A vertex moves by up to half a step of 1/32767 sideways; its height is that of its place before.
+    slope = max(float(np.abs(np.diff(heights, axis=k)).max()) for k in (0, 1)) * (side - 1) * 0.5 / MOST if side - 1 > 1 else 0.0
+    rounding = unit / 2 + float(heights.max() - heights.min()) / MOST / 2
+    with Engine(grid, 2) as engine:
+        found = engine.fit(max(0.0, (error - rounding) / unit))
+    column, row, _, triangles = grid_mesh(found.triangles, grid, side - 1, side - 1)
+    i, j = row.astype(np.int64), column.astype(np.int64)
+    up = None
+    if normals:
+        down, right = np.gradient(heights)
+        east, north = right[i, j] / (x[1] - x[0]), -down[i, j] / (y[1] - y[0])
+        lon, lat = np.radians(w + (e - w) * column / (side - 1)), np.radians(n + (s - n) * row / (side - 1))
+        local = np.column_stack((-east, -north, np.ones(len(east))))
+        local /= np.linalg.norm(local, axis=1, keepdims=True)
+        a = np.column_stack((-np.sin(lon), np.cos(lon), np.zeros(len(lon))))
+        b = np.column_stack((-np.sin(lat) * np.cos(lon), -np.sin(lat) * np.sin(lon), np.cos(lat)))
+        c = np.column_stack((np.cos(lat) * np.cos(lon), np.cos(lat) * np.sin(lon), np.sin(lat)))
+        up = local[:, :1] * a + local[:, 1:2] * b + local[:, 2:] * c
+    u = np.rint(column * MOST / (side - 1)).astype(np.int64)
+    v = np.rint((side - 1 - row) * MOST / (side - 1)).astype(np.int64)
+    data = encode(u, v, heights[i, j].astype(np.float64), triangles, bounds, up)
+    return data, float(found.deviation) * unit + rounding + slope, len(triangles)
+
+
+def terrain(raster: Raster, out: str, *, zoom: Optional[int] = None, side: int = 129, normals: bool = True, progress: Optional[Progress] = None) -> dict[str, Any]:
+    """The pyramid out/z/x/y.terrain with layer.json, from zoom 0 to one as fine as the raster, each tile within the error that CesiumJS takes for its zoom.
+
+    The raster is warped (bilinear, GDAL) to the geographic tiles, whose points are not its own: this resampling is not in any error.
+    """
+    import rasterio
+    from rasterio.enums import Resampling
+    from rasterio.transform import Affine
+    from rasterio.vrt import WarpedVRT
+    from rasterio.warp import transform_bounds
+    found: dict[str, Any] = {"tiles": 0, "triangles": 0, "bytes": 0}
+    with rasterio.open(raster.path) as source:
+        w, s, e, n = transform_bounds(source.crs, "EPSG:4326", *source.bounds)
+        fine = (n - s) / source.height
+        last = zoom if zoom is not None else max(0, math.ceil(math.log2(180 / (side - 1) / fine)))
+        available = []
+        for z in range(last + 1):
+            size = 180 / 2 ** z
+            x0, x1 = (int((it + 180) // size) for it in (w, e - 1e-9))
+            y0, y1 = (int((it + 90) // size) for it in (s, n - 1e-9))
+            if z == 0:
+                x0, x1 = 0, 1  # both are always asked for
+            available.append([{"startX": x0, "startY": y0, "endX": x1, "endY": y1}])
+            step = size / (side - 1)
+            for x in range(x0, x1 + 1):
+                for y in range(y0, y1 + 1):
+                    west, south = x * size - 180, y * size - 90
+                    heights = np.zeros((side, side))
+                    # Only what the raster covers is warped: a projection need not reach as far as a tile of a low zoom.
+                    c0, c1 = max(0, math.floor((w - west) / step)), min(side, math.ceil((e - west) / step) + 1)
+                    r0, r1 = max(0, math.floor((south + size - n) / step)), min(side, math.ceil((south + size - s) / step) + 1)
+                    if c0 < c1 and r0 < r1:
+                        # The middle of a cell of the warped raster is a point of the tile.
+                        where = Affine(step, 0, west + (c0 - 0.5) * step, 0, -step, south + size - (r0 - 0.5) * step)
+                        with WarpedVRT(source, crs="EPSG:4326", transform=where, width=c1 - c0, height=r1 - r0, resampling=Resampling.bilinear, nodata=-32768.0,
+                                       src_nodata=raster.nodata, dtype="float32") as warped:
+                            found_ = warped.read(raster.band).astype(np.float64)
+                        heights[r0:r1, c0:c1] = np.where(found_ <= -32000, 0.0, found_ * raster.factor + raster.offset)
+                    data, _, triangles = tile_of(heights, (west, south, west + size, south + size), FIRST_ERROR / 2 ** z, normals)
+                    path = os.path.join(out, str(z), str(x), f"{y}.terrain")
+                    os.makedirs(os.path.dirname(path), exist_ok=True)
+                    packed = gzip.compress(data, 6, mtime=0)
+                    files.write_bytes(path, packed)
+                    found["tiles"] += 1
+                    found["triangles"] += triangles
+                    found["bytes"] += len(packed)
+            if progress:
+                progress(z + 1, last + 1)
+    layer = {"tilejson": "2.1.0", "format": "quantized-mesh-1.0", "version": "1.0.0", "scheme": "tms", "projection": "EPSG:4326", "tiles": ["{z}/{x}/{y}.terrain"],
+             "minzoom": 0, "maxzoom": last, "bounds": [-180, -90, 180, 90], "available": available, "extensions": ["octvertexnormals"] if normals else []}
+    files.write_bytes(os.path.join(out, "layer.json"), json.dumps(layer).encode())
+    return found | {"zoom": last}

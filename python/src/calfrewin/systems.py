@@ -1,0 +1,251 @@
+"""Coordinate systems by PROJ: where vertices go, what heights are over, how the earth is curved below a raster."""
+from __future__ import annotations
+
+import functools
+import math
+import threading
+import warnings
+from typing import TYPE_CHECKING, Any, Optional
+
+import numpy as np
+import numpy.typing as npt
+
+from ._types import Floats, Transform
+
+if TYPE_CHECKING:
+    from .mesh import Mesh
+
+GEOCENTRIC, GEODETIC = "EPSG:4978", "EPSG:4979"  # WGS 84 as x, y, z from the earth's middle; as degrees and metres over it
+LONGEST = 20_000  # edges that are looked at
+HALF_AXES = (6_378_137.0, 6_356_752.314245179)  # of WGS 84, at the equator and at the poles
+
+
+def _horizontal(crs: str) -> Any:
+    """The part of a system that has no heights."""
+    from pyproj import CRS
+    found = CRS.from_user_input(crs)
+    return next((part for part in found.sub_crs_list if not part.is_vertical), found)
+
+
+def metres_of_height(crs: Optional[str]) -> float:
+    """Metres of a unit of height, where the system has heights of its own, else 1.
+
+    >>> round(metres_of_height("EPSG:2263+6360"), 6)
+    0.304801
+    """
+    if crs is None:
+        return 1.0
+    from pyproj import CRS
+    vertical = next((part for part in CRS.from_user_input(crs).sub_crs_list if part.is_vertical), None)
+    return float(vertical.axis_info[0].unit_conversion_factor) if vertical is not None else 1.0
+
+
+def has_heights(crs: str) -> bool:
+    """Whether a system says what its heights are over."""
+    from pyproj import CRS
+    return len(CRS.from_user_input(crs).axis_info) == 3
+
+
+def with_heights(crs: Optional[str], vertical: str) -> str:
+    """A system with heights of its own: over the geoid of `vertical`, as EPSG:5773 (EGM96) or EPSG:3855 (EGM2008)."""
+    from pyproj import CRS
+    from pyproj.crs.crs import CompoundCRS
+    if crs is None:
+        raise ValueError(f"vertical is {vertical}, and the raster has no coordinate system that it could be added to")
+    height = CRS.from_user_input(vertical)
+    if not height.is_vertical:
+        raise ValueError(f"vertical is {vertical} ({height.name}), and has to be a system of heights, as EPSG:5773")
+    flat = _horizontal(crs)
+    found = str(CompoundCRS(f"{flat.name} + {height.name}", [flat, height]).to_wkt())
+    _refuse_without_grid(found, GEODETIC, vertical)
+    return found
+
+
+def _refuse_without_grid(crs: str, to: str, vertical: str) -> None:
+    """PROJ without a geoid's grid leaves heights as they are, and says nothing."""
+    from pyproj.transformer import TransformerGroup
+    with warnings.catch_warnings():
+        warnings.simplefilter("ignore")
+        group = TransformerGroup(crs, to, always_xy=True)
+    if not group.best_available or not group.transformers:
+        grids = [grid.short_name for it in group.unavailable_operations for grid in it.grids] or ["?"]
+        raise ValueError(f"heights are over {vertical}, and PROJ has not its grid {grids[0]}: "
+                         f"projsync --file {grids[0]}, or set PROJ_NETWORK=ON")
+
+
+@functools.lru_cache(maxsize=64)
+def _transformer(crs: str, to: str, thread: int) -> Any:
+    from pyproj import CRS, Transformer
+    source, goal = CRS.from_user_input(crs), CRS.from_user_input(to)
+    if len(goal.axis_info) == 2:
+        source = _horizontal(crs)  # heights stay as they are
+    elif len(source.axis_info) == 3:
+        name = next((part.name for part in source.sub_crs_list if part.is_vertical), source.name)
+        _refuse_without_grid(crs, to, name)
+    else:
+        source = source.to_3d()  # heights over the ellipsoid, as nothing else is said
+    return Transformer.from_crs(source, goal, always_xy=True)
+
+
+def transformer(crs: str, to: str) -> Any:
+    """A pyproj.Transformer, x or east first; one for each thread, since PROJ's are not for two at once.
+
+    Heights go along: metres over the ellipsoid, unless the system has heights of its own.
+    """
+    return _transformer(crs, to, threading.get_ident())
+
+
+def metres_crs(crs: Optional[str], transform: Transform, shape: tuple[int, int]) -> Optional[str]:
+    """The system for vertices in metres: the raster's own where it is in metres and true to scale, else UTM."""
+    if crs is None:
+        return None
+    flat = _horizontal(crs)
+    method = flat.coordinate_operation.method_name if flat.coordinate_operation else ""
+    is_world_map = "Mercator" in method and "Transverse" not in method
+    is_metric = all(abs(axis.unit_conversion_factor - 1) < 1e-9 for axis in flat.axis_info[:2])
+    if flat.is_projected and is_metric and not is_world_map:
+        return crs
+    return utm_crs(crs, transform, shape)
+
+
+def utm_crs(crs: str, transform: Transform, shape: tuple[int, int]) -> str:
+    """The zone of UTM, WGS 84, of a raster's middle.
+
+    >>> utm_crs("EPSG:4326", (0.001, 0, 7, 0, -0.001, 45), (100, 100))
+    'EPSG:32632'
+    """
+    from pyproj.aoi import AreaOfInterest
+    from pyproj.database import query_utm_crs_info
+    east, north = transformer(_horizontal(crs).to_wkt(), "EPSG:4326").transform(*middle_of(transform, shape))
+    found = query_utm_crs_info("WGS 84", AreaOfInterest(east, north, east, north)) if math.isfinite(north) else []
+    if not found:
+        raise ValueError(f"there is no zone of UTM at {north:.1f} degrees of latitude: "
+                         "give --crs, for example EPSG:3413 (Arctic) or EPSG:3031 (Antarctica)")
+    return f"EPSG:{found[0].code}"
+
+
+def middle_of(transform: Transform, shape: tuple[int, int]) -> tuple[float, float]:
+    """x and y of the middle of a raster."""
+    a, b, c, d, e, f = transform
+    row, column = (shape[0] - 1) / 2, (shape[1] - 1) / 2
+    return a * column + b * row + c, d * column + e * row + f
+
+
+def metres_of_cell(crs: Optional[str], transform: Transform, shape: tuple[int, ...]) -> float:
+    """The side in metres of a square as great as a cell in the middle of a raster.
+
+    >>> round(metres_of_cell("EPSG:4326", (1 / 3600, 0, 7, 0, -1 / 3600, 60), (100, 100)), 1)
+    21.9
+    """
+    jacobian = Curvature(crs, transform, (shape[1] - 1) / 2, (shape[0] - 1) / 2, reach=1.0).jacobian
+    return math.sqrt(abs(float(np.linalg.det(jacobian))))
+
+
+def name_of(crs: Optional[str]) -> str:
+    """A short name for people.
+
+    >>> name_of("EPSG:32632"), name_of(None)
+    ('EPSG:32632, WGS 84 / UTM zone 32N', 'no coordinate system')
+    """
+    if crs is None:
+        return "no coordinate system"
+    from pyproj import CRS
+    found = CRS.from_user_input(crs)
+    return f"{crs}, {found.name}" if crs.upper().startswith("EPSG:") else str(found.name)
+
+
+def geocentric(longitude: Floats, latitude: Floats, height: Floats) -> Floats:
+    """Shape (count, 3): degrees and metres over WGS 84 as EPSG:4978. By numpy, thrice as fast as by PROJ."""
+    a, b = HALF_AXES
+    east, north = np.radians(longitude), np.radians(latitude)
+    ratio = (b / a) ** 2
+    radius = a / np.sqrt(1 - (1 - ratio) * np.sin(north) ** 2)
+    out = (radius + height) * np.cos(north)
+    return np.column_stack((out * np.cos(east), out * np.sin(east), (radius * ratio + height) * np.sin(north)))
+
+
+def east_north_up(x: float, y: float, z: float) -> Floats:
+    """The frame, 4 x 4, that takes (east, north, up) about a geocentric place to geocentric coordinates."""
+    longitude, latitude, _ = transformer(GEOCENTRIC, GEODETIC).transform(x, y, z)
+    a, b = math.radians(longitude), math.radians(latitude)
+    return np.array([[-math.sin(a), -math.sin(b) * math.cos(a), math.cos(b) * math.cos(a), x],
+                     [math.cos(a), -math.sin(b) * math.sin(a), math.cos(b) * math.sin(a), y],
+                     [0, math.cos(b), math.sin(b), z],
+                     [0, 0, 0, 1]])
+
+
+class Curvature:
+    """How the earth falls away below the plane that touches it at a place of a raster.
+
+    Attributes:
+        jacobian: 2 x 2: metres to the east and to the north of a step along columns and along rows.
+        form: (cc, cr, rr): `drop` is cc column^2 + cr column row + rr row^2, in metres, below 0.
+    """
+
+    def __init__(self, crs: Optional[str], transform: Transform, column: float, row: float, reach: float) -> None:
+        """About a place of a raster, from places `reach` columns and rows away."""
+        a, b, c, d, e, f = transform
+        if crs is None:
+            self.jacobian, self.form = np.array([[a, b], [d, e]]), (0.0, 0.0, 0.0)
+            return
+        steps = np.array([(0, 0), (-1, 0), (1, 0), (0, -1), (0, 1), (1, 1), (-1, -1)], float) * reach
+        columns, rows = column + steps[:, 0], row + steps[:, 1]
+        x, y = a * columns + b * rows + c, d * columns + e * rows + f
+        places = np.column_stack(transformer(crs, GEOCENTRIC).transform(x, y, np.zeros(len(steps))))
+        local = (places - places[0]) @ east_north_up(*places[0])[:3, :3]
+        across, down = local[2, :2] - local[1, :2], local[4, :2] - local[3, :2]
+        self.jacobian = np.column_stack((across, down)) / (2 * reach)
+        up = local[:, 2]
+        cc, rr, both = ((up[i] + up[j]) / 2 / reach ** 2 for i, j in ((1, 2), (3, 4), (5, 6)))
+        self.form = float(cc), float(both - cc - rr), float(rr)
+
+    def drop(self, columns: Floats, rows: Floats) -> Floats:
+        """The drop at places counted from the one that it is about; what fits together is broadcast."""
+        cc, cr, rr = self.form
+        found: Floats = cc * columns * columns + cr * columns * rows + rr * rows * rows
+        return found
+
+
+def longest_edges(mesh: Mesh) -> tuple[npt.NDArray[np.uint32], npt.NDArray[np.uint32]]:
+    """The two ends of each of the longest edges."""
+    corners = np.concatenate((mesh.triangles[:, :2], mesh.triangles[:, 1:], mesh.triangles[:, ::2]))
+    length = np.hypot(*(np.diff(values[corners], axis=1)[:, 0] for values in (mesh.column, mesh.row)))
+    longest = np.argpartition(length, -min(len(length), LONGEST))[-LONGEST:]
+    return corners[longest, 0], corners[longest, 1]
+
+
+def sideways(mesh: Mesh, crs: str) -> float:
+    """By how many metres at most, sideways, the middle of an edge lies off the place that its ground has in another
+    system, over the longest edges."""
+    if mesh.crs is None or crs == mesh.crs:
+        return 0.0
+    one, two = longest_edges(mesh)
+    change = transformer(mesh.crs, crs)
+    x, y = mesh.xy()
+    a, b, middle = (np.column_stack(change.transform(*place)) for place in (
+        (x[one], y[one]), (x[two], y[two]), ((x[one] + x[two]) / 2, (y[one] + y[two]) / 2)))
+    return float(np.hypot(*((a + b) / 2 - middle).T).max())
+
+
+def left_out(mesh: Mesh, earth: Curvature, middle: tuple[float, float]) -> float:
+    """How far, straight up or down, the middles of the longest edges on the globe are from those that `earth` foretells.
+
+    Args:
+        mesh: with heights over the sea.
+        earth: the curvature about the column and the row `middle`.
+    """
+    assert mesh.crs is not None
+    one, two = longest_edges(mesh)
+    x, y = mesh.xy()
+    used, back = np.unique(np.concatenate((one, two)), return_inverse=True)
+    places = np.column_stack(transformer(mesh.crs, GEOCENTRIC).transform(x[used], y[used], mesh.height[used]))
+    chord = (places[back[:len(one)]] + places[back[len(one):]]) / 2
+    sea = transformer(mesh.crs, GEODETIC)
+    *_, found = transformer(GEOCENTRIC, GEODETIC).transform(*chord.T)
+    at_column, at_row = ((values[one] + values[two]) / 2 for values in (mesh.column, mesh.row))
+    a, b, c, d, e, f = mesh.transform
+    drop = [earth.drop(columns - middle[0], rows - middle[1]) for columns, rows in (
+        (mesh.column[one], mesh.row[one]), (mesh.column[two], mesh.row[two]), (at_column, at_row))]
+    told = (mesh.height[one] + drop[0] + mesh.height[two] + drop[1]) / 2 - drop[2]
+    *_, told = sea.transform(a * at_column + b * at_row + c, d * at_column + e * at_row + f, told)
+    return float(np.abs(found - told).max())

