@@ -14,7 +14,7 @@ mod mark;
 mod point;
 
 pub use counters::{CHANGES_AT_FRAME, LONGEST_WAY, MOST_CHANGES};
-pub use laws::roots;
+pub use laws::{limit_laws, roots};
 pub use level::GREATEST_LEVEL;
 pub use mark::Mark;
 pub use point::{Corners, Point};
