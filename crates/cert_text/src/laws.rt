@@ -1,7 +1,9 @@
 //! What writing and reading certificates have to do with one another.
 
+ghost use Rattle.std.specs.Prelude.{◌≡◌};
 ghost use Rattle.cert_text.specs.Laws.{WrittenLinesAreRead, WrittenLinesAreEnded, WrittenLinesAreLines};
 ghost use Rattle.cert_text.specs.Laws.{LinesAreCounted};
+ghost use Rattle.cert_text.specs.declared.limits.TheConstants.{MOST_LEAVES, MOST_REASONS};
 
 /// States that the lines of a certificate are read back as the certificate, and that its text is these lines, each
 /// with an LF behind it and none within; and that each line that is read says one thing more. It does nothing.
@@ -10,4 +12,10 @@ pub fn text_laws()
     ensures ended { WrittenLinesAreEnded }
     ensures lines { WrittenLinesAreLines }
     ensures counted { LinesAreCounted }
+{}
+
+/// What each limit is, as a number. It does nothing.
+pub fn limit_laws()
+    ensures most_leaves { MOST_LEAVES ≡ 1048576 }
+    ensures most_reasons { MOST_REASONS ≡ 1100000 }
 {}

@@ -20,7 +20,7 @@ mod writing;
 pub use cert::Cert;
 pub use certificate_laws::{Kind, Reason};
 pub use fault::CertFault;
-pub use laws::text_laws;
+pub use laws::{limit_laws, text_laws};
 pub use limits::{MOST_LEAVES, MOST_REASONS};
 pub use reader::CertReader;
 pub use writing::write_cert;

@@ -12,7 +12,7 @@ mod plane;
 mod planes;
 
 pub use bintree_addr::Cuboid;
-pub use laws::mark_laws;
+pub use laws::{limit_laws, mark_laws};
 pub use mesh_defs::Mark;
 pub use plane::Plane;
 pub use planes::{MOST_PLANES, Planes};

@@ -19,5 +19,5 @@ pub use bintree_addr::Tri;
 pub use buffer::DrawBuffer;
 pub use exchange::MOST_TRIANGLES;
 pub use indices::Indices;
-pub use laws::times_laws;
+pub use laws::{limit_laws, times_laws};
 pub use roam_errors::NoMemory;

@@ -11,6 +11,7 @@ ghost use Rattle.fit_certificate_laws.specs.declared.reason.Target.{Target};
 ghost use Rattle.fit_certificate_laws.specs.declared.reason.Verdict.{Verdict};
 ghost use Rattle.fit_certificate_laws.specs.Certificate.{FitCertificate, IsFitSound, IsFitVerdict, IsVerdictOf};
 ghost use Rattle.fit_certificate_laws.specs.Making.{IsPossible};
+ghost use Rattle.fit_certificate_laws.specs.declared.limits.TheConstants.{MOST_REASONS};
 
 /// A certificate is sound only for the best mesh of its target, whoever made the two.
 ///
@@ -42,4 +43,9 @@ pub fn fit_certificate_laws()
         IsFitVerdict n heights target cert verdict → IsFitVerdict n heights target cert other → verdict ≡ other }
     ensures some { (n : ℕ) (heights : List ℕ) (target : Target) → IsPossible target →
         (cert : FitCertificate) × (mesh : List ℕ) × IsFitSound n heights target cert mesh }
+{}
+
+/// What the limit is, as a number. It does nothing.
+pub fn limit_laws()
+    ensures most_reasons { MOST_REASONS ≡ 8388608 }
 {}

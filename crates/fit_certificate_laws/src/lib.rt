@@ -12,6 +12,6 @@ mod limits;
 mod reason;
 
 pub use cert::FitCert;
-pub use laws::fit_certificate_laws;
+pub use laws::{fit_certificate_laws, limit_laws};
 pub use limits::MOST_REASONS;
 pub use reason::{Off, Reject, Target, Verdict};

@@ -11,6 +11,7 @@
 mod arrays;
 mod faces;
 mod field;
+mod limits;
 mod lines;
 mod mesh;
 mod page;
@@ -22,6 +23,7 @@ mod vertices;
 mod walk;
 
 pub use arrays::{write_places, write_positions};
+pub use limits::limit_laws;
 pub use lines::{LONGEST_PIECE, MeshLines};
 pub use mesh::{MeshView, write_mesh};
 pub use patch::VertexChange;

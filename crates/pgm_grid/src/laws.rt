@@ -1,10 +1,12 @@
 //! What the whole bytes of a file mean.
 
+ghost use Rattle.std.specs.Prelude.{◌≡◌};
 ghost use Rattle.pgm_grid.specs.Laws.{TextsAreRead, GridsHaveTexts, GridsHaveHeaders, BadMagicsAreRefused};
 ghost use Rattle.pgm_grid.specs.Laws.{BadHeadersAreRefused, LongHeadersAreRefused, BadMaxvalsAreRefused};
 ghost use Rattle.pgm_grid.specs.Laws.{OblongsAreRefused, BadSidesAreRefused, CutTextsAreRefused};
 ghost use Rattle.pgm_grid.specs.Laws.{TrailingBytesAreRefused, GreatSamplesAreRefused, BadSamplesAreRefused};
 ghost use Rattle.pgm_grid.specs.Laws.{LongFilesAreRefused, OthersAreAbsent};
+ghost use Rattle.pgm_grid.specs.declared.grid.TheConstants.{MOST_SIDE, MOST_POINTS};
 
 use pgm_header::header_laws;
 use pgm_raster::raster_laws;
@@ -30,3 +32,9 @@ pub fn grids_and_texts()
     header_laws();
     raster_laws();
 }
+
+/// What each limit is, as a number. It does nothing.
+pub fn limit_laws()
+    ensures most_side { MOST_SIDE ≡ 2049 }
+    ensures most_points { MOST_POINTS ≡ 4198401 }
+{}

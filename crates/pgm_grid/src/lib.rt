@@ -15,5 +15,5 @@ mod stage;
 
 pub use fault::PgmFault;
 pub use grid::{Grid, MOST_POINTS, MOST_SIDE, side_for};
-pub use laws::grids_and_texts;
+pub use laws::{grids_and_texts, limit_laws};
 pub use reader::PgmReader;

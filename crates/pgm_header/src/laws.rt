@@ -1,9 +1,12 @@
 //! What the bytes mean that a reader takes.
 
+ghost use Rattle.std.specs.Prelude.{◌≡◌};
 ghost use Rattle.pgm_header.specs.Laws.{HeaderTextsAreRead, ReadTextsAreHeaders, WrittenHeadersAreTexts, NoTextGoesOn};
 ghost use Rattle.pgm_header.specs.Laws.{PartsArePrefixes, HeadersRefuseBadMagics, HeadersRefuseBadBytes};
 ghost use Rattle.pgm_header.specs.Laws.{HeadersRefuseTooMuch, HeadersRefuseBadMaxvals, HeadersRefuseOblongs};
 ghost use Rattle.pgm_header.specs.Laws.{HeadersRefuseBadSides, ReadHeadersStand, RefusalsStand, PartsAreRefusable};
+ghost use Rattle.pgm_header.specs.declared.reader.TheConstants.{MOST_HEADER_BYTES, LAST_PLACE};
+ghost use Rattle.pgm_header.specs.declared.accepted.TheConstants.{GREATEST_MAXVAL};
 
 /// States what `header_of` answers, in the words of the format. It does nothing.
 pub fn header_laws()
@@ -21,4 +24,11 @@ pub fn header_laws()
     ensures bad_side { HeadersRefuseBadSides }
     ensures read_stands { ReadHeadersStand }
     ensures refusal_stands { RefusalsStand }
+{}
+
+/// What each limit is, as a number. It does nothing.
+pub fn limit_laws()
+    ensures most_header_bytes { MOST_HEADER_BYTES ≡ 65536 }
+    ensures last_place { LAST_PLACE ≡ 65535 }
+    ensures greatest_maxval { GREATEST_MAXVAL ≡ 65535 }
 {}

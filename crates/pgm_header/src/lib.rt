@@ -16,6 +16,6 @@ mod reader;
 
 pub use accepted::{GREATEST_MAXVAL, Header};
 pub use fault::HeaderFault;
-pub use laws::header_laws;
+pub use laws::{header_laws, limit_laws};
 pub use machine::HeaderValues;
 pub use reader::{HeaderReader, LAST_PLACE, MOST_HEADER_BYTES};

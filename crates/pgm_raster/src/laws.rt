@@ -1,9 +1,12 @@
 //! What the bytes of a raster mean.
 
+ghost use Rattle.std.specs.Prelude.{◌≡◌, ◌^◌};
 ghost use Rattle.pgm_raster.specs.Laws.{RastersAreRead, ReadBytesAreRasters, OnlyWantedSamplesAreRead};
 ghost use Rattle.pgm_raster.specs.Laws.{CutRastersAreRefused, RastersRefuseTrailingBytes, RastersRefuseGreatSamples};
 ghost use Rattle.pgm_raster.specs.Laws.{RastersRefuseBadSamples, ReadRastersAreShort, OpenRastersAreUnrefused};
 ghost use Rattle.pgm_raster.specs.Laws.{LongRastersAreRefused};
+ghost use Rattle.pgm_raster.specs.declared.plain.TheConstants.{MOST_BYTES};
+ghost use Rattle.pgm_raster.specs.declared.reader.TheConstants.{LAST_START};
 
 /// States what `raster_of` answers for the bytes of a raster, in the words of the format. It does nothing.
 pub fn raster_laws()
@@ -17,4 +20,10 @@ pub fn raster_laws()
     ensures short { ReadRastersAreShort }
     ensures unrefused { OpenRastersAreUnrefused }
     ensures too_long { LongRastersAreRefused }
+{}
+
+/// What each limit is, as a number. It does nothing.
+pub fn limit_laws()
+    ensures most_bytes { MOST_BYTES ≡ 2 ^ 28 }
+    ensures last_start { LAST_START ≡ 65536 }
 {}

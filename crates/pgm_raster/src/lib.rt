@@ -18,6 +18,6 @@ mod reader;
 
 pub use fault::RasterFault;
 pub use form::RasterForm;
-pub use laws::raster_laws;
+pub use laws::{limit_laws, raster_laws};
 pub use plain::MOST_BYTES;
 pub use reader::{LAST_START, RasterReader};

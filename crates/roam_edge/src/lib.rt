@@ -11,6 +11,7 @@
 mod calm_shelf;
 mod file_meshes;
 mod file_shelf;
+mod limits;
 mod mem_meshes;
 mod mem_sink;
 mod mesh_call;
@@ -24,6 +25,7 @@ mod std_sink;
 pub use calm_shelf::CalmShelf;
 pub use file_meshes::FileMeshes;
 pub use file_shelf::FileShelf;
+pub use limits::limit_laws;
 pub use mem_meshes::MemMeshes;
 pub use mem_sink::MemSink;
 pub use mesh_call::MeshCall;

@@ -13,7 +13,7 @@ mod places;
 mod reading;
 mod writing;
 
-pub use laws::numbers_and_texts;
+pub use laws::{limit_laws, numbers_and_texts};
 pub use places::{LONGEST_DECIMAL, MOST_PLACES, push_decimal, read_thousandths};
 pub use reading::{read_dec, read_signed};
 pub use writing::{LONGEST_TEXT, dec, push_bytes, push_number, put_dec};

@@ -1,10 +1,14 @@
 //! What the lines of a script are, in the words of the format.
 
+ghost use Rattle.std.specs.Prelude.{◌≡◌, ◌^◌, pos};
 ghost use Rattle.roam_script.specs.Laws.{LateLinesAreTooMany, LongLinesAreTooLong, LongLinesAreSettled};
 ghost use Rattle.roam_script.specs.Laws.{BlankLinesSayNothing, OtherWordsAreUnknown, OtherCountsAreWrong};
 ghost use Rattle.roam_script.specs.Laws.{BadNumbersAreRefused, OutsideNumbersAreRefused, SeventhPlanesAreTooMany};
 ghost use Rattle.roam_script.specs.Laws.{LateFramesAreTooMany, SoundLinesAreAccepted, AcceptedLinesLieInRange};
 ghost use Rattle.roam_script.specs.Laws.{CommandsAreWords};
+ghost use Rattle.roam_script.specs.declared.limits.TheConstants.{MOST_LINES, MOST_LINE_BYTES, MOST_FRAMES, MOST_PLANES};
+ghost use Rattle.roam_script.specs.declared.limits.TheConstants.{CAMERA_REACH, GREATEST_SLOPE, GREATEST_OFFSET};
+ghost use Rattle.roam_script.specs.declared.limits.TheConstants.{LEAST_BUDGET, GREATEST_RAISE};
 
 /// States what `line_in` answers: where each refusal comes, and which lines are accepted; and which fields are
 /// commands. It does nothing.
@@ -22,4 +26,17 @@ pub fn line_laws()
     ensures accepted { SoundLinesAreAccepted }
     ensures ranges { AcceptedLinesLieInRange }
     ensures commands { CommandsAreWords }
+{}
+
+/// What each limit is, as a number. It does nothing.
+pub fn limit_laws()
+    ensures most_lines { MOST_LINES ≡ 10000000 }
+    ensures most_line_bytes { MOST_LINE_BYTES ≡ 200 }
+    ensures most_frames { MOST_FRAMES ≡ 999999 }
+    ensures most_planes { MOST_PLANES ≡ 6 }
+    ensures camera_reach { CAMERA_REACH ≡ pos (2 ^ 30) }
+    ensures greatest_slope { GREATEST_SLOPE ≡ pos (2 ^ 20) }
+    ensures greatest_offset { GREATEST_OFFSET ≡ pos (2 ^ 50) }
+    ensures least_budget { LEAST_BUDGET ≡ 2 }
+    ensures greatest_raise { GREATEST_RAISE ≡ pos 65535 }
 {}

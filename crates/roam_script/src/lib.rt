@@ -16,7 +16,7 @@ mod reading;
 mod script_fault;
 
 pub use fields::{first_field, without_cr};
-pub use laws::line_laws;
+pub use laws::{limit_laws, line_laws};
 pub use limits::{
     CAMERA_REACH, GREATEST_OFFSET, GREATEST_RAISE, GREATEST_SLOPE, LEAST_BUDGET, Limits,
     MOST_FRAMES, MOST_LINE_BYTES, MOST_LINES, MOST_PLANES,

@@ -8,6 +8,7 @@ ghost use Rattle.mesh_defs.specs.BoundingBox.{low_of, high_of, least_of_3, great
 ghost use Rattle.mesh_defs.specs.declared.point.Point.{Point};
 ghost use Rattle.bintree_laws.specs.Areas.{IsInRectangle};
 ghost use Rattle.wedgie_tree.specs.Edits.{AgreesOn};
+ghost use Rattle.wedgie_tree.specs.declared.wedges.TheConstants.{GREATEST_SPACING};
 
 /// What holds of a triangle by its children, and of a finest one by its corners.
 ///
@@ -55,4 +56,9 @@ pub fn edit_laws()
         holds_point n a r ≡ (holds_point n (2 * a) r || holds_point n (2 * a + 1) r) }
     ensures rectangle { (n a : ℕ) (r : Point) → 2 ≤ a → level_of a ≤ 2 * n → holds_point n a r ≡ true →
         IsInRectangle (corners_of n a) r }
+{}
+
+/// What the limit is, as a number. It does nothing.
+pub fn limit_laws()
+    ensures greatest_spacing { GREATEST_SPACING ≡ 1024 }
 {}

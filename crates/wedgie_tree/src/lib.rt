@@ -18,5 +18,5 @@ mod wedge;
 mod wedges;
 
 pub use area::Area;
-pub use laws::{edit_laws, wedge_laws};
+pub use laws::{edit_laws, limit_laws, wedge_laws};
 pub use wedges::{GREATEST_SPACING, Wedges};
