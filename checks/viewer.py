@@ -1,4 +1,4 @@
-"""Flies examples/fly in a headless Chromium, and asks its server wrongly: a line 'ok NAME' or 'FAILED NAME: why' a check.
+"""Flies `calfrewin fly` in a headless Chromium, and asks its server wrongly: a line 'ok NAME' or 'FAILED NAME: why' a check.
 
 usage: python3 checks/viewer.py GRID PICTURE CHROMIUM       all; the picture of the tenth frame is left in PICTURE
        python3 checks/viewer.py GRID                        the server alone
@@ -7,7 +7,6 @@ usage: python3 checks/viewer.py GRID PICTURE CHROMIUM       all; the picture of 
 
 The browser is driven over its debugging pipe, so nothing but Python's std is wanted.
 """
-import array
 import base64
 import http.client
 import json
@@ -27,6 +26,8 @@ import zlib
 
 TOP = pathlib.Path(__file__).resolve().parents[1]
 FRAMES = 10
+SKY = (148, 176, 209)
+HEAD = struct.Struct("<6I")  # of the ground: side, spacing, most triangles, edits, columns and rows of the raster
 
 
 def decide(name, why):
@@ -35,11 +36,11 @@ def decide(name, why):
 
 
 class Server:
-    """examples/fly over a grid, on a free port, with the lines that it has printed."""
+    """`calfrewin fly` over a grid, on a free port, with the lines that it has printed."""
 
     def __init__(self, grid, triangles, *more):
-        words = [sys.executable, str(TOP / "examples/fly/fly.py"), grid, "--triangles", str(triangles), "--port", "0", "--quiet", *more]
-        self.process = subprocess.Popen(words, stdout=subprocess.PIPE, stderr=subprocess.PIPE, text=True)
+        words = [sys.executable, "-m", "calfrewin", "fly", grid, "--spacing", "90", "--triangles", str(triangles), "--port", "0", "--no-browser", *more]
+        self.process = subprocess.Popen(words, env={**os.environ, "PYTHONPATH": str(TOP / "python/src")}, stdout=subprocess.PIPE, stderr=subprocess.PIPE, text=True)
         first = self.process.stdout.readline()
         if not first.startswith("http://127.0.0.1:"):
             raise SystemExit(f"FAILED viewer_server_starts: {first}{self.process.stderr.read()}".replace("\n", " "))
@@ -164,10 +165,9 @@ def pixels(png):
 
 
 def shown(rows):
-    """What is wrong with a picture of a flight: sky above, terrain of many colours in the lower half, and dark edges in it."""
-    sky = (148, 176, 209)
+    """What is wrong with a picture of a flight: sky above, and terrain of many colours in the lower half."""
     part = lambda some, like: sum(map(like, some)) / len(some)
-    is_sky = lambda p: max(abs(v - w) for v, w in zip(p, sky)) < 12
+    is_sky = lambda p: max(abs(v - w) for v, w in zip(p, SKY)) < 12
     low = [p for row in rows[len(rows) // 2:] for p in row[:len(row) // 2]]
     high = [p for row in rows[:len(rows) // 10] for p in row[len(row) // 3:len(row) * 2 // 3]]
     why = []
@@ -177,8 +177,6 @@ def shown(rows):
         why.append(f"only {part(high, is_sky):.2f} of the top is sky")
     if len(set(low)) < 500:
         why.append(f"the lower half has {len(set(low))} colours")
-    if not 0.01 < part(low, lambda p: sum(p) < 160) < 0.7:
-        why.append(f"{part(low, lambda p: sum(p) < 160):.2f} of the lower half is dark as edges are")
     return why
 
 
@@ -204,9 +202,9 @@ GOOD = [2000, 8000, 8000, 1500, 0, 100_000, 0, -300_000_000]
 def check_server(server):
     """The server's calls, right and wrong."""
     status, ground = server.ask("/ground", [])
-    side, spacing, most, edits = struct.unpack("<4I", ground[:16])
-    decide("viewer_ground", [] if status == 200 and len(ground) == 16 + 2 * side * side and (spacing, most, edits) == (90, 6000, 0)
-           else [status, len(ground), spacing, most, edits])
+    side, spacing, most, edits, columns, rows = HEAD.unpack(ground[:HEAD.size])
+    decide("viewer_ground", [] if status == 200 and len(ground) == HEAD.size + 2 * side * side
+           and (spacing, most, edits, columns, rows) == (90, 6000, 0, side, side) else [status, len(ground), ground[:HEAD.size]])
 
     def frame(link=None):
         """The same frame as ever: what is wrong with its answer."""
@@ -275,8 +273,8 @@ def check_lift(server):
     before = server.ask("/ground", [])[1]
     why = [] if server.ask("/raise", [100, 90, 8, 3000])[0] == 200 == server.ask("/raise", [3, 250, 20, -5000])[0] else ["refused"]
     after = server.ask("/ground", [])[1]
-    side, _, _, edits, earlier = struct.unpack("<4I", after[:16]) + struct.unpack("<I", before[12:16])
-    numbers, old = (struct.unpack(f"<{side * side}H", it[16:]) for it in (after, before))
+    side, _, _, edits, _, _, earlier = HEAD.unpack(after[:HEAD.size]) + struct.unpack("<I", before[12:16])
+    numbers, old = (struct.unpack(f"<{side * side}H", it[HEAD.size:]) for it in (after, before))
     place = (side - 1 - 90) * side + 100
     why += [] if edits == earlier + 2 and numbers[place] == old[place] + 3000 else [f"{edits} edits, {old[place]} to {numbers[place]}"]
     with tempfile.NamedTemporaryFile(suffix=".pgm") as file:
@@ -294,10 +292,11 @@ def check_lift(server):
 
 def check_worn():
     """A flight whose engine has made its million frames goes on: its counts begin again, and mesh, planes and ground stay."""
-    sys.path[:0] = [str(TOP / "examples/fly"), str(TOP / "lib/python")]
-    import fly
-    import roam
-    flight = fly.Flight(roam.Engine, 3, array.array("H", [0, 0, 0, 0, 100, 0, 0, 0, 0]), 8, 10, False)
+    sys.path[:0] = [str(TOP / "python/src")]
+    import calfrewin
+    from calfrewin.fly import Flight
+    from calfrewin.mesh import array_of
+    flight = Flight(array_of([[0, 0, 0], [0, 100, 0], [0, 0, 0]]), 8, 10)
     asked, engine = [7, 10, 10, 150, 0, 0, 1, -5], flight.engine
     flight.lift([1, 1, 1, 20])
     first, why = flight.frame(asked), []
@@ -306,7 +305,7 @@ def check_worn():
     try:
         engine.frame()
         why.append("a million and one frames are made")
-    except roam.Worn:
+    except calfrewin.Worn:
         pass
     last, state = flight.frame(asked), engine.state()
     if flight.engine is not engine or (state.frames, state.budget, state.planes) != (1, 7, 1):
@@ -344,6 +343,27 @@ def check_browser(server, picture, chromium):
             decide("viewer_a_click_raises_the_ground", [] if struct.unpack("<4I", ground[:16])[3] == before + 1 else ["no edit came"])
         finally:
             browser.close()
+
+
+def check_sea(chromium):
+    """Flat ground of height 0 is drawn on the map from above, where its depth is that of an empty picture."""
+    with tempfile.NamedTemporaryFile(suffix=".pgm") as file, tempfile.TemporaryDirectory(ignore_cleanup_errors=True) as profile:
+        file.write(b"P5\n65 65\n65535\n" + struct.pack(">4225H", *(900 if 20 < k % 65 < 30 and 20 < k // 65 < 30 else 0 for k in range(4225))))
+        file.flush()
+        server = Server(file.name, 500)
+        browser = Browser(chromium, profile)
+        try:
+            browser.call("Page.navigate", url=f"http://127.0.0.1:{server.port}/?frames=2")
+            done = browser.wait('document.title === "done"', 120)
+            rows = pixels(browser.picture())
+            room, gap = round(min(len(rows), len(rows[0])) * 0.4), 10  # as the page has its map
+            part = [p for row in rows[-room - gap + 2:-gap - 2] for p in row[-room - gap + 2:-gap - 2]]
+            sky = sum(p == SKY for p in part)
+            decide("viewer_the_sea_is_on_the_map", [] if done and not sky else [f"{sky} of {len(part)} points are sky", *browser.wrong])
+        finally:
+            browser.close()
+            server.process.terminate()
+            server.process.wait()
 
 
 def measure(server, frames):
@@ -410,6 +430,7 @@ def main():
         check_server(server)
         if len(words) == 3:
             check_browser(server, words[1], words[2])
+            check_sea(words[2])
         check_lift(server)
         check_worn()
         decide("viewer_server_stays_and_says_nothing_wrong", [it.strip() for it in server.errors] + ([] if server.process.poll() is None else ["it ended"]))

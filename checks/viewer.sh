@@ -1,5 +1,5 @@
 # shellcheck shell=bash disable=SC2154
-# The viewer of examples/fly: its server under right and wrong requests, and its page in a headless Chromium where that is
+# The viewer, `calfrewin fly`: its server under right and wrong requests, and its page in a headless Chromium where that is
 # there. The library is the one that library.sh takes; ROAM_ARCHIVE names another archive. Sourced by checks/run.
 
 archive=${ROAM_ARCHIVE:-$top/crates/roam_c/out/libroam_c.a}
@@ -27,7 +27,7 @@ while IFS= read -r line; do
   'FAILED '*) wrong "$(expr "$line" : 'FAILED \([^:]*\)')" "${line#*: }" ;;
   *) wrong viewer_checks_come_to_their_end "$line" ;;
   esac
-done < <(ROAM_LIBRARY=$room/viewer/prefix/lib/libroam.so timeout 900 python3 "$top/checks/viewer.py" "${words[@]}" 2>&1)
-# Ten checks are the server's, five the page's.
-expected=$((${#words[@]} == 3 ? 15 : 10))
+done < <(CALFREWIN_LIBRARY=$room/viewer/prefix/lib/libroam.so timeout 900 python3 "$top/checks/viewer.py" "${words[@]}" 2>&1)
+# Ten checks are the server's, six the page's.
+expected=$((${#words[@]} == 3 ? 16 : 10))
 [ $((passed + failed - before)) -ge $expected ] || wrong viewer_checks_come_to_their_end "only $((passed + failed - before)) of $expected"

@@ -158,9 +158,12 @@ def mesh(**words: Any) -> None:
 
 
 def main() -> None:
-    """`calfrewin`, and `python3 -m calfrewin`."""
+    """`calfrewin`, and `python3 -m calfrewin`: `fly` is a word of its own, and everything else makes a mesh."""
     # A window of a raster wants no more than some rows; GDAL takes a twentieth of the memory if nothing is said.
     os.environ.setdefault("GDAL_CACHEMAX", "64")
+    if sys.argv[1:2] == ["fly"]:
+        from .fly import fly
+        fly(sys.argv[2:], prog_name="calfrewin fly")
     mesh(prog_name="calfrewin")
 
 
@@ -224,7 +227,7 @@ def one(raster: Any, words: Words) -> dict[str, Any]:
     from . import raster as r
     from . import systems
     from .export import save
-    window = raster.window_of(words.bounds) if words.bounds else raster.window(_by_rows(words.window))
+    window = raster.window_of(words.bounds) if words.bounds else raster.window(by_rows(words.window))
     crs = words.crs or (None if words.camera else systems.metres_crs(raster.crs, raster.transform, raster.shape))
     texture = pathlib.Path(words.texture).read_bytes() if words.texture else None
     with stage(f"reading {words.source}, {window.columns} x {window.rows} points, and meshing", words) as progress:
@@ -246,7 +249,7 @@ def one(raster: Any, words: Words) -> dict[str, Any]:
     return report
 
 
-def _by_rows(window: Optional[tuple[int, int, int, int]]) -> Optional[tuple[int, int, int, int]]:
+def by_rows(window: Optional[tuple[int, int, int, int]]) -> Optional[tuple[int, int, int, int]]:
     """(row, column, rows, columns) of (column, row, columns, rows)."""
     return None if window is None else (window[1], window[0], window[3], window[2])
 

@@ -370,19 +370,35 @@ def view(heights: Any, camera: tuple[float, float, float], triangles: int, *, ce
     return view_of(array, camera, triangles, unit=unit)
 
 
+class Gridded(NamedTuple):
+    """A square grid of whole heights for an engine with a camera."""
+    numbers: npt.NDArray[np.uint16]  #: side x side; a height is base + unit * number, but for the rounding
+    unit: float
+    base: float
+    rounding: float
+    spacing: int  #: the length of a cell in units of height
+
+
+def gridded(array: Array, step: Optional[float] = None, unit: Optional[float] = None) -> Gridded:
+    """The grid of an array; `step` is the length of a cell in the unit of the heights, by `transform` without it."""
+    if step is None:
+        a, b, _, d, e, _ = array.transform
+        step = math.sqrt(abs(a * e - b * d))
+    if unit is None:  # a grid step is 1 to 1024 units of height
+        unit = max(rounded(array.heights).unit, next((it for it in UNITS if step / it <= MOST_SPACING), 1.0))
+    steps = rounded(array.heights, unit)
+    spacing = whole("cell / unit", round(step / unit), 1, MOST_SPACING)
+    return Gridded(padded(steps.numbers, side_of(array.heights.shape)), unit, steps.base, steps.rounding, spacing)
+
+
 def view_of(array: Array, camera: tuple[float, float, float], triangles: int, *, step: Optional[float] = None,
             unit: Optional[float] = None) -> Mesh:
     """`view`, of an array that is looked through; `step` is the length of a cell in the unit of the heights."""
     whole("triangles", triangles, 2, MOST_TRIANGLES)
     rows, columns = array.heights.shape
     a, b, c, d, e, f = array.transform
-    if step is None:
-        step = math.sqrt(abs(a * e - b * d))
-    if unit is None:  # a grid step is 1 to 1024 units of height
-        unit = max(rounded(array.heights).unit, next((it for it in UNITS if step / it <= MOST_SPACING), 1.0))
-    steps = rounded(array.heights, unit)
-    spacing = whole("cell / unit", round(step / unit), 1, MOST_SPACING)
-    grid = padded(steps.numbers, side_of((rows, columns)))
+    steps = gridded(array, step, unit)
+    grid, spacing, unit = steps.numbers, steps.spacing, steps.unit
     below = grid.shape[0] - rows  # rows of the padding, which lie between y = 0 and the array
     column, row = np.linalg.solve([[a, b], [d, e]], [camera[0] - c, camera[1] - f])
     with Engine(grid, triangles, spacing) as engine:

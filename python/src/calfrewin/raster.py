@@ -209,6 +209,29 @@ def _by_gdal(path: str, band: int, crs: Optional[str], encoding: Optional[str]) 
                   1.0 if encoding else scale * factor, 0.0 if encoding else offset * factor, dtype, encoding)
 
 
+class RasterArray(NamedTuple):
+    """Heights of a raster in memory, and of which points."""
+    array: Array
+    window: Window
+    every: int  #: one of so many points was taken, along rows and along columns
+
+
+def array_of_raster(raster: Raster, *, window: Optional[Sequence[int]] = None, every: Optional[int] = None,
+                    fill: Optional[float] = None, progress: Optional[Progress] = None) -> RasterArray:
+    """The points of a window (row, column, rows, columns), as few left out as 2049 a side need; holes are filled."""
+    part = raster.window(window)
+    step = every or max(1, math.ceil((max(part.rows, part.columns) - 1) / 2048))
+    heights = raster.points(part, step, progress)
+    holes = np.isnan(heights)
+    if raster.is_whole:
+        heights = np.where(holes, 0, heights).astype(np.int32)
+    heights, count = filled(heights, holes, fill)
+    a, b, c, d, e, f = raster.transform
+    column, row = part.column, part.row
+    transform: Transform = (a * step, b * step, a * column + b * row + c, d * step, e * step, d * column + e * row + f)
+    return RasterArray(Array(heights, count, transform, raster.crs), part, step)
+
+
 class RasterMesh(NamedTuple):
     """A mesh of a raster, and of which points."""
     mesh: Mesh
@@ -230,23 +253,13 @@ def fit_raster(raster: Raster, *, error: Optional[float] = None, triangles: Opti
         globe: the error is to hold on the globe.
         error, triangles, fill, unit: as for `calfrewin.fit`.
     """
-    part = raster.window(window)
-    step = every or max(1, math.ceil((max(part.rows, part.columns) - 1) / 2048))
-    heights = raster.points(part, step, progress)
-    holes = np.isnan(heights)
-    if raster.is_whole:
-        heights = np.where(holes, 0, heights).astype(np.int32)
-    heights, count = filled(heights, holes, fill)
-    a, b, c, d, e, f = raster.transform
-    column, row = part.column, part.row
-    transform: Transform = (a * step, b * step, a * column + b * row + c, d * step, e * step, d * column + e * row + f)
-    array = Array(heights, count, transform, raster.crs)
+    array, part, step = array_of_raster(raster, window=window, every=every, fill=fill, progress=progress)
     if camera is None:
         return RasterMesh(mesh_of(array, error=error, triangles=triangles, unit=unit, globe=globe), part, step)
     if triangles is None:
         raise ValueError("camera is for triangles, and no number of these is given")
-    return RasterMesh(view_of(array, camera, triangles, step=systems.metres_of_cell(raster.crs, transform, heights.shape),
-                              unit=unit), part, step)
+    cell = systems.metres_of_cell(raster.crs, array.transform, array.heights.shape)
+    return RasterMesh(view_of(array, camera, triangles, step=cell, unit=unit), part, step)
 
 
 def measured(raster: Raster, found: RasterMesh, progress: Optional[Progress] = None) -> float:

@@ -33,8 +33,9 @@ const VERTEX = `#version 300 es
 const FRAGMENT = `#version 300 es
   precision highp float; precision highp int;
   in vec3 here, rim; flat in vec3 normal; flat in float changed; flat in int kind;
-  uniform vec3 eye, sky; uniform vec2 span; uniform float far; uniform bool edges, showChanged, mark; out vec4 color;
+  uniform vec3 eye, sky; uniform vec2 span, limit; uniform float far; uniform bool edges, showChanged, mark; out vec4 color;
   void main() {
+    if (here.x > limit.x || here.y < limit.y) discard; // what fills the raster up to a square
     float h = clamp((here.z - span.x) / (span.y - span.x), 0.0, 1.0), flatness = abs(normal.z);
     vec3 low = mix(vec3(0.27, 0.46, 0.24), vec3(0.56, 0.58, 0.34), smoothstep(0.0, 0.45, h));
     vec3 high = mix(vec3(0.62, 0.55, 0.44), vec3(0.93, 0.93, 0.95), smoothstep(0.75, 0.95, h));
@@ -76,12 +77,13 @@ if (!gl.getProgramParameter(program, gl.LINK_STATUS)) throw new Error(gl.getProg
 gl.useProgram(program);
 const uniform = new Proxy({}, { get: (kept, name) => (kept[name] ??= gl.getUniformLocation(program, name)) });
 
-// The ground, as the server has it now. The page draws it, walks above it and finds what a click meets.
-let side, spacing, most, edits, heights, wide, span;
+// The ground, as the server has it now. The page draws it, walks above it and finds what a click meets. The raster has its
+// columns from the left side of a square and its rows from the far side.
+let side, spacing, most, edits, columns, rows, heights, wide, span;
 async function fetchGround() {
-  const bytes = await call("ground", []), head = new Uint32Array(bytes, 0, 4);
-  [side, spacing, most, edits] = head;
-  heights = new Uint16Array(bytes, 16);
+  const bytes = await call("ground", []);
+  [side, spacing, most, edits, columns, rows] = new Uint32Array(bytes, 0, 6);
+  heights = new Uint16Array(bytes, 24);
   wide = (side - 1) * spacing;
   span ??= heights.reduce(([low, high], h) => [Math.min(low, h), Math.max(high, h)], [65535, 1]);
   gl.pixelStorei(gl.UNPACK_ALIGNMENT, 1);
@@ -126,6 +128,7 @@ for (const [buffer, bytes, name] of [[corners, 12 * most, "corners"], [marks, mo
   else gl.vertexAttribPointer(at, 1, gl.UNSIGNED_BYTE, false, 0, 0);
 }
 gl.enable(gl.DEPTH_TEST);
+gl.depthFunc(gl.LEQUAL); // from above the depth of height 0 is exactly 1, that of an empty picture
 
 // A pose is x, y, z as drawn, the way that it looks (0 is north) and how far down it looks, in radians.
 const ahead = (p) => [Math.sin(p.turn) * Math.cos(p.dip), Math.cos(p.turn) * Math.cos(p.dip), -Math.sin(p.dip)];
@@ -161,7 +164,7 @@ function planesFor(p, view, ratio) {
   return held.planes;
 }
 
-// The recorded path: places in parts of the side, heights above the ground in grid steps. It closes.
+// The recorded path: places in parts of the raster's width and depth, heights above the ground in grid steps. It closes.
 const PATH = [[0.12, 0.15, 12], [0.34, 0.30, 8], [0.52, 0.46, 8], [0.70, 0.44, 9], [0.82, 0.62, 12], [0.62, 0.80, 15], [0.36, 0.72, 10], [0.18, 0.46, 14]];
 const STEPS = 150; // frames of 1/60 s from one place of the path to the next
 let recorded = null, recording = false, clock = 0;
@@ -171,10 +174,11 @@ function onPath(time) {
     const k = Math.floor(s), t = s - k, [a, b, c, d] = [-1, 0, 1, 2].map((j) => PATH[(((k + j) % PATH.length) + PATH.length) % PATH.length]);
     return b.map((v, i) => v + 0.5 * t * (c[i] - a[i] + t * (2 * a[i] - 5 * v + 4 * c[i] - d[i] + t * (3 * (v - c[i]) + d[i] - a[i]))));
   };
+  const place = (p) => [p[0] * (columns - 1) * spacing, wide - (1 - p[1]) * (rows - 1) * spacing];
   const s = time / STEPS, at = curve(s), next = curve(s + 0.35);
-  const level = [-0.3, -0.15, 0, 0.15, 0.3].map((d) => curve(s + d)).reduce((sum, p) => sum + groundAt(p[0] * wide, p[1] * wide), 0) / 5;
-  const x = at[0] * wide, y = at[1] * wide, z = Math.max(level, groundAt(x, y)) + at[2] * spacing * Math.sqrt((side - 1) / 256);
-  return { x, y, z, turn: Math.atan2(next[0] - at[0], next[1] - at[1]), dip: 0.22 };
+  const level = [-0.3, -0.15, 0, 0.15, 0.3].map((d) => curve(s + d)).reduce((sum, p) => sum + groundAt(...place(p)), 0) / 5;
+  const [x, y] = place(at), [nextX, nextY] = place(next), z = Math.max(level, groundAt(x, y)) + at[2] * spacing * Math.sqrt((side - 1) / 256);
+  return { x, y, z, turn: Math.atan2(nextX - x, nextY - y), dip: 0.22 };
 }
 
 let pose = onPath(0);
@@ -289,6 +293,7 @@ function draw(f) {
   if (canvas.width !== w || canvas.height !== h) [canvas.width, canvas.height] = [w, h];
   gl.uniform1i(uniform.side, side);
   gl.uniform1f(uniform.spacing, spacing);
+  gl.uniform2f(uniform.limit, (columns - 1) * spacing + 0.01, wide - (rows - 1) * spacing - 0.01);
   gl.uniform3f(uniform.sky, ...SKY);
   gl.clearColor(...SKY, 1);
   gl.viewport(0, 0, w, h);
@@ -310,20 +315,35 @@ function draw(f) {
 }
 
 const pixel = new Uint8Array(4), whole = (n) => n.toLocaleString("en"), ms = (v) => v.toFixed(1).padStart(5);
-let rate = 0, drawMs = 0;
-function tell({ note, budget }, changed) {
-  const blocked = note.blocking ? `blocking ${note.blocking} needs ${whole(note.need)}` : "nothing blocks: each priority is 0";
+let rate = 0, drawMs = 0, lowered = "";
+function tell({ note, budget, lift }, changed) {
+  // A priority is 65,536 times twice the greatest error below a triangle over its distance.
+  const pixels = ((note.worst / 65536 / 2) * lift * (innerHeight / 2)) / Math.tan(HALF);
   $("told").textContent = [
-    `${whole(note.triangles)} triangles of ${whole(budget)}, ${whole(note.vertices)} vertices`,
-    `worst ${whole(note.worst)}; ${blocked}`,
-    `splits ${note.splits}, merges ${note.merges}, changed ${whole(changed)}`,
-    `inside ${whole(note.inside)}, cut ${whole(note.cut)}, outside ${whole(note.outside)}`,
+    `${whole(note.triangles)} triangles of at most ${whole(budget)}, ${whole(note.vertices)} vertices`,
+    `off by at most ${pixels < 10 ? pixels.toFixed(1) : whole(Math.round(pixels))} pixels on this screen`,
+    note.blocking ? `refining the worst place would take ${whole(note.need)} triangles` : "nothing is left to refine",
+    `split ${note.splits}, merged ${note.merges}, new ${whole(changed)}`,
+    `in view ${whole(note.inside)}, at its edge ${whole(note.cut)}, outside ${whole(note.outside)}`,
     `engine   ${ms(note.frameUs / 1000)} ms, lists ${ms(note.listUs / 1000)} ms`,
     `transfer ${ms(transferMs)} ms`,
     `drawing  ${ms(drawMs)} ms`,
-    `${rate.toFixed(0).padStart(3)} frames a second${recording ? ", recording" : ""}`,
+    `${rate.toFixed(0).padStart(3)} frames a second${recording ? ", recording" : ""}${lowered}`,
   ].join("\n");
 }
+
+// Where drawing takes too long, as in software, a quarter of the triangles is given up, again until it does not.
+const SLOW_MS = 100, FEWEST = 1000;
+let slow = 0; // frames in a row
+function easeOff() {
+  slow = drawMs > SLOW_MS ? slow + 1 : 0;
+  const fewer = Math.max(FEWEST, Math.round((+$("budget").value * 3) / 4));
+  if (slow < 3 || STOP || fewer >= +$("budget").value) return;
+  $("budget").value = fewer;
+  lowered = `\ndrawing took over ${SLOW_MS} ms: lowered to ${whole(+$("budget").value)} triangles`;
+  slow = 0;
+}
+$("budget").addEventListener("input", () => { lowered = ""; });
 
 const adler = ([a, b], byte) => [(a + byte) % 65521, (a + byte + b) % 65521]; // a step of Adler-32, by which corners are compared
 let last = performance.now(), frame = 0, pending = ask(pose);
@@ -339,6 +359,7 @@ async function turn() {
     draw(f);
     gl.readPixels(0, 0, 1, 1, gl.RGBA, gl.UNSIGNED_BYTE, pixel); // waits until all is drawn
     drawMs = performance.now() - now;
+    easeOff();
     tell(f, changed);
     const line = `frame ${frame} triangles ${f.count} vertices ${f.note.vertices} worst ${f.note.worst}`;
     if (STOP) console.log(`${line} corners ${new Uint8Array(f.corners.buffer).reduce(adler, [1, 0]).reduce((a, b) => b * 65536 + a)}`);

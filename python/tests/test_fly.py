@@ -1,0 +1,67 @@
+"""The flight behind the viewer's page; checks/viewer.py flies it in a browser."""
+import struct
+
+import numpy as np
+import pytest
+from click.testing import CliRunner
+from conftest import hills, write_tif
+
+from calfrewin.fly import FRAME_HEAD, GROUND_HEAD, Flight, fly
+from calfrewin.mesh import array_of
+
+
+def flight(heights, most=2000, cell=30.0):
+    return Flight(array_of(heights, cell=cell), most)
+
+
+def names_of(frame):
+    return np.frombuffer(frame, "<u4", offset=FRAME_HEAD.size)
+
+
+def test_a_raster_of_any_shape_lies_at_the_far_left_of_the_square():
+    heights = hills(100, 70)
+    it = flight(heights)
+    ground = it.ground(())
+    side, spacing, most, edits, columns, rows = GROUND_HEAD.unpack_from(ground)
+    numbers = np.frombuffer(ground, "<u2", offset=GROUND_HEAD.size).reshape(side, side)
+    assert (side, most, edits, columns, rows) == (129, 2000, 0, 70, 100)
+    unit = 30.0 / spacing
+    assert np.abs(np.diff(numbers[:100, :70] * unit - heights, axis=1)).max() < 0.11
+
+
+def test_a_frame_is_the_engines_mesh_with_its_names():
+    it = flight(hills(65, 65), 500)
+    frame = it.frame((500, 1000, 1000, 5000))
+    names = names_of(frame)
+    assert struct.unpack_from("<I", frame, 8)[0] == len(names) <= 500
+    assert sum(2.0 / 2 ** int(name).bit_length() for name in names) == 1
+    assert np.array_equal(np.sort(it.engine.leaves()), np.sort(names))
+
+
+def test_a_hill_stands_in_the_engine_and_on_the_page():
+    it = flight(np.zeros((9, 9)), 128, 1.0)
+    it.lift((4, 4, 2, 100))
+    ground = np.frombuffer(it.ground(()), "<u2", offset=GROUND_HEAD.size).reshape(9, 9)
+    assert ground[3:6, 3:6].tolist() == [[50, 50, 50], [50, 100, 50], [50, 50, 50]]
+    it.frame((128, 4, 4, 10))
+    assert it.engine.deviation() == 0
+
+
+@pytest.mark.parametrize("numbers, told", [((1, 2), "with 2 numbers"), ((1, 0, 0, 0), "from 2 to"), ((2, 1 << 31, 0, 0), "x is 2147483648")])
+def test_a_wrong_frame_names_what_is_wrong(numbers, told):
+    with pytest.raises(ValueError, match=told):
+        flight(np.zeros((9, 9)), 128, 1.0).frame(numbers)
+
+
+@pytest.mark.parametrize("numbers, told", [((1, 2, 3), "with 3 numbers"), ((9, 0, 1, 1), "from 0 to 8"), ((0, 0, 65, 1), "radius from 1 to 64")])
+def test_a_wrong_hill_names_what_is_wrong(numbers, told):
+    with pytest.raises(ValueError, match=told):
+        flight(np.zeros((9, 9)), 128, 1.0).lift(numbers)
+
+
+def test_wrong_words_end_with_one_message(tmp_path):
+    path = write_tif(tmp_path / "my.tif", hills(20, 30))
+    for words, status, told in (([path, "--triangles", "1"], 2, "2<=x<=1048576"), ([path, "--window", "1,2"], 2, "COLUMN,ROW"),
+                                ([str(tmp_path / "none.tif")], 1, "none.tif")):
+        found = CliRunner().invoke(fly, words)
+        assert found.exit_code == status and told in found.output, found.output
