@@ -15,13 +15,13 @@ use Rattle.mesh_defs.proofs.ListLemmas.{among-in, Contains-in}
 use Rattle.mesh_defs.proofs.WorstLemmas.{worst-le, le-worst}
 use Rattle.closure_laws.proofs.ClosureLemmas.{IsOuter, leaf-outer, leaves_of-same, nothing_closed}
 use Rattle.closure_laws.proofs.SizeLemmas.{length-leaves_once}
-use Rattle.closure_laws.proofs.LeafLemmas.{leaves_under-whole, leaves-most}
+use Rattle.closure_laws.proofs.LeafLemmas.{leaves_under-whole}
 use Rattle.least_laws.specs.Sweep.{is_flagged}
 use Rattle.fit_laws.specs.Settled.{IsNeeded, IsLeastSettled}
 use Rattle.fit_laws.specs.Budget.{IsBudgetMesh}
 use Rattle.fit_laws.proofs.SettledLemmas.{needed-step, needed-lower}
 use Rattle.fit_laws.specs.Error.{IsExactAtFinest}
-use Rattle.fit_laws.proofs.FitLemmas.{closed-same, step-grown, splittable-error}
+use Rattle.fit_laws.proofs.FitLemmas.{closed-same, splittable-error}
 use Rattle.fit_laws.proofs.BudgetLemmas.{budget_end}
 use Rattle.fit_mesh.specs.Log.{Extends, HasLog}
 use Rattle.fit_mesh.specs.Waiting.{pair_cmp, IsWaitingEntry, AreKept, AreLeft, IsFirst, IsWaiting}

@@ -1,8 +1,8 @@
 -- The new leaves of a split: children of new members.
 use Rattle.std.proofs.Common.{◌≡◌, ℕ, suc, ◌%◌, ◌+◌, ◌*◌, ◌/◌, ◌^◌, ◌<◌, ◌≤◌, ◌⊎◌, inl, inr, Bool, true, false, IsTrue}
 use Rattle.std.proofs.Common.{List, ◌∷◌, ◌++◌, length, drop, get_or, Contains, refl, sym, ◌∙◌, ap, subst, arith, ⊎_elim}
-use Rattle.std.proofs.Math.Seq.{drop-append_seam, drop-length, drop-cons}
-use Rattle.std.proofs.lemmas.Bool.{cases_lt, cases_Bool, false≢true, both_ways}
+use Rattle.std.proofs.Math.Seq.{drop-append_seam, drop-cons}
+use Rattle.std.proofs.lemmas.Bool.{cases_lt, cases_Bool, both_ways}
 use Rattle.std.specs.BinaryHeap.{IsHeap}
 use Rattle.mesh_defs.specs.Triangle.{IsAddress, IsSplittable}
 use Rattle.mesh_defs.specs.ClosedSet.{IsClosed, IsLeastClosed, leaves_of, among}

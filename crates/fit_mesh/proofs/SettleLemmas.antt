@@ -1,38 +1,52 @@
 -- Splitting in any order: what one question leaves, what the children of a member leave, and the end.
-use Rattle.std.proofs.Common.{◌≡◌, ℕ, ◌+◌, ◌*◌, ◌/◌, ◌^◌, ◌%◌, ◌<◌, ◌≤◌, pow-add, Bool, false, IsTrue, List, [], ◌∷◌}
+use Rattle.std.proofs.Common.{◌≡◌, ℕ, ◌+◌, ◌*◌, ◌/◌, ◌^◌, ◌<◌, ◌≤◌, pow-add, Bool, IsTrue, List, [], ◌∷◌}
 use Rattle.std.proofs.Common.{◌++◌, length, take, get_or, sym, ◌∙◌, ap, subst, arith, ⊎_elim}
 use Rattle.std.proofs.lemmas.List.{take_more, take-append-le}
-use Rattle.std.proofs.lemmas.Bool.{cases_lt, false≢true, both_ways}
+use Rattle.std.proofs.lemmas.Bool.{cases_lt, cases_Bool, false≢true, both_ways}
 use Rattle.mesh_defs.specs.Triangle.{IsAddress}
 use Rattle.mesh_defs.specs.ClosedSet.{IsSubset, IsLeastClosed, leaves_of, among}
 use Rattle.mesh_defs.specs.Greedy.{with_triangle}
 use Rattle.mesh_defs.proofs.ListLemmas.{IsIn, IsIn-among, among-in, IsIn-append}
 use Rattle.mesh_defs.proofs.WorstLemmas.{worst-le}
+use Rattle.closure_laws.proofs.ForcingLemmas.{with-cases}
 use Rattle.closure_laws.proofs.ClosureLemmas.{IsOuter}
 use Rattle.closure_laws.proofs.LeafLemmas.{leaves-most, four-power}
 use Rattle.least_laws.specs.Sweep.{is_flagged}
-use Rattle.fit_laws.specs.Settled.{IsNeeded, IsLeastSettled}
-use Rattle.fit_laws.proofs.SettledLemmas.{outer-leaf, needed-step}
+use Rattle.fit_laws.specs.Settled.{IsFineEnough, IsLeastSettled}
+use Rattle.fit_laws.proofs.SettledLemmas.{outer-leaf, settled-outer}
 use Rattle.fit_laws.proofs.FitLemmas.{fit_tight}
+use Rattle.required_laws.specs.Required.{IsLeastSettledWith}
 use Rattle.fit_mesh.specs.Log.{IsLog, Extends, HasLog}
-use Rattle.fit_mesh.specs.Grown.{AreSettled}
+use Rattle.fit_mesh.specs.Grown.{AreSettled, IsNeededWith}
 use Rattle.fit_mesh.specs.Found.{IsFound}
 use Rattle.fit_mesh.proofs.LogLemmas.{extends-subset}
 
 -- one question
 
 module _ (n : ℕ) (e : ℕ → ℕ) (tolerance : ℕ) (has : ℕ → Bool) (t : ℕ) (address : IsAddress n t)
-    (parent : 4 ≤ t → IsTrue (has (t / 2)))
-    (outside : has t ≡ false) where
-  -- a triangle that is no member and whose parent is one
-  asked-outer : IsOuter n has t
-  asked-outer = record { address = address; outside = λ is. both_ways (has t) outside is; parent = parent }
+    (parent : 4 ≤ t → IsTrue (has (t / 2))) where
+  -- it is a member of each settled set with what is required, where it is above the tolerance
+  asked-inside : (required other : ℕ → Bool) → tolerance < e t → IsNeededWith n tolerance e required has →
+      IsFineEnough n tolerance e other → IsSubset required other → IsTrue (other t)
+  asked-inside required other above needed settled splits = ⊎_elim
+      (λ is. is)
+      (λ no.
+      let fits = settled-outer n tolerance e other t settled record {
+        address = address;
+        outside = λ is. both_ways (other t) no is;
+        parent = λ big. needed other settled splits (t / 2) (parent big);
+      } in absurd (omega arith))
+      (cases_Bool (other t))
 
-  -- what its split forces is needed, where it is above the tolerance
-  pub ask-needed : (next : ℕ → Bool) → tolerance < e t → IsNeeded n tolerance e has →
+  -- so what its split forces is needed
+  pub ask-needed : (required next : ℕ → Bool) → tolerance < e t → IsNeededWith n tolerance e required has →
       IsLeastClosed n (with_triangle has t) next →
-      IsNeeded n tolerance e next
-  ask-needed next above needed least = needed-step n tolerance e has next t needed asked-outer above least
+      IsNeededWith n tolerance e required next
+  ask-needed required next above needed least other settled splits =
+      least.least other settled.closed (λ a h. ⊎_elim
+      (λ old. needed other settled splits a old)
+      (λ same. subst (λ z. IsTrue (other z)) same (asked-inside required other above needed settled splits))
+      (with-cases has t a h))
 
 -- the children of a member
 
@@ -63,11 +77,12 @@ asked-next n e tolerance flags next log more place t before after extends below 
 
 -- the end
 
--- where all members were asked, the set is the least settled one
-pub settled-end : (n : ℕ) (e : ℕ → ℕ) (tolerance : ℕ) (flags : List Bool) (log : List ℕ) → HasLog n flags log →
-    IsNeeded n tolerance e (is_flagged flags) → AreSettled n e tolerance (is_flagged flags) log →
-    IsLeastSettled n tolerance e (is_flagged flags)
-settled-end n e tolerance flags log g needed settled =
+-- where all members were asked, the set is the least settled one with what is required
+pub settled-end : (n : ℕ) (e : ℕ → ℕ) (tolerance : ℕ) (required : ℕ → Bool) (flags : List Bool) (log : List ℕ) →
+    HasLog n flags log → IsSubset required (is_flagged flags) →
+    IsNeededWith n tolerance e required (is_flagged flags) → AreSettled n e tolerance (is_flagged flags) log →
+    IsLeastSettledWith n tolerance e required (is_flagged flags)
+settled-end n e tolerance required flags log g splits needed settled =
     let has : ℕ → Bool = is_flagged flags in
     record {
       settled = record {
@@ -80,8 +95,17 @@ settled-end n e tolerance flags log g needed settled =
             (λ fits. fits)
             (cases_lt tolerance (e a)));
       };
+      splits = splits;
       needed = needed;
     }
+
+-- with nothing required it is the least settled one
+pub nothing-required : (n tolerance : ℕ) (e : ℕ → ℕ) (has : ℕ → Bool) →
+    IsLeastSettledWith n tolerance e (among []) has → IsLeastSettled n tolerance e has
+nothing-required n tolerance e has fit = record {
+  settled = fit.settled;
+  needed = λ other settled. fit.needed other settled (λ a h. absurd (false≢true h));
+}
 
 -- it is what is looked for, where the budget is no bound
 pub settled-found : (n : ℕ) (e : ℕ → ℕ) (tolerance budget : ℕ) (has : ℕ → Bool) → 2 ^ (2 * n + 1) ≤ budget →

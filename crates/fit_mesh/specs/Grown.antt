@@ -1,10 +1,15 @@
 -- What the loops keep: what is needed, the best set so far, and what was asked.
--- Words: IsNeededBelow, IsBest, AreSettled.
+-- Words: IsNeededWith, IsNeededBelow, IsBest, AreSettled.
 use Rattle.std.specs.Prelude.{◌≡◌, ℕ, ◌/◌, ◌<◌, ◌≤◌, Bool, IsTrue, max, List, length, take}
 use Rattle.mesh_defs.specs.Triangle.{IsAddress}
-use Rattle.mesh_defs.specs.ClosedSet.{IsClosed, leaves_of, among}
+use Rattle.mesh_defs.specs.ClosedSet.{IsClosed, IsSubset, leaves_of, among}
 use Rattle.mesh_defs.specs.Priority.{worst_of}
-use Rattle.fit_laws.specs.Settled.{IsNeeded}
+use Rattle.fit_laws.specs.Settled.{IsFineEnough, IsNeeded}
+
+-- every settled set that has all that is required has all of the set
+abbrev pub IsNeededWith : ℕ → ℕ → (ℕ → ℕ) → (ℕ → Bool) → (ℕ → Bool) → Type 0
+IsNeededWith n tolerance error required has =
+    (other : ℕ → Bool) → IsFineEnough n tolerance error other → IsSubset required other → IsSubset has other
 
 -- each mesh with a greatest error below low needs the set
 abbrev pub IsNeededBelow : ℕ → (ℕ → ℕ) → ℕ → (ℕ → Bool) → Type 0

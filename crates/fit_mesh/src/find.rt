@@ -1,11 +1,11 @@
 //! The mesh for a tolerance and a budget, in given room.
 
-ghost use Rattle.std.specs.Prelude.{◌≡◌, ℕ, ◌+◌, ◌*◌, ◌^◌, ◌<◌, ◌≤◌, length, take};
+ghost use Rattle.std.specs.Prelude.{◌≡◌, ℕ, ◌+◌, ◌*◌, ◌^◌, ◌<◌, ◌≤◌, All, length, take};
 ghost use Rattle.std.specs.BinaryHeap.{heap_capacity};
 ghost use Rattle.mesh_defs.specs.HeightField.{side_of};
-ghost use Rattle.mesh_defs.specs.ClosedSet.{leaves_of};
+ghost use Rattle.mesh_defs.specs.Triangle.{IsSplittable};
+ghost use Rattle.mesh_defs.specs.ClosedSet.{leaves_of, among};
 ghost use Rattle.mesh_defs.specs.MeshText.{vertices_of};
-ghost use Rattle.mesh_defs.specs.Tiling.{IsConforming};
 ghost use Rattle.tiling_laws.specs.Ancestors.{ancestors_of};
 ghost use Rattle.deviation_laws.specs.PlaneHeight.{deviation_of};
 ghost use Rattle.least_laws.specs.Least.{IsLeastMesh};
@@ -13,6 +13,7 @@ ghost use Rattle.least_laws.specs.Sweep.{is_flagged};
 ghost use Rattle.obj_write.specs.Numbers.{numbers_of};
 ghost use Rattle.fit_laws.specs.Error.{error_of};
 ghost use Rattle.fit_laws.specs.Budget.{IsBudgetMesh};
+ghost use Rattle.required_laws.specs.Required.{IsLeastMeshWith};
 ghost use Rattle.fit_mesh.specs.Found.{IsFound};
 
 use crate::error::worst_error;
@@ -55,7 +56,7 @@ fn find(
     if budget < end(grid.n()) {
         grow(grid, tolerance, budget as usize, heap, flags, room);
     } else {
-        settle(grid, tolerance, flags, room);
+        settle(grid, tolerance, &[], flags, room);
     }
 }
 
@@ -92,8 +93,53 @@ pub fn find_mesh(
     ensures within { result.triangles ≤ budget }
     ensures listed { result.triangles ≤ length room.new }
 {
-    let n = grid.n();
     find(grid, tolerance, budget, heap, flags, room);
+    list_mesh(grid, flags, room, numbers)
+}
+
+/// The same for a tolerance alone, with what is required to be split.
+pub fn find_mesh_with(
+    grid: &Grid,
+    tolerance: u32,
+    required: &[Tri],
+    flags: &mut [bool],
+    room: &mut [Tri],
+    numbers: &mut VertexTable,
+) -> Counts
+    requires splittable { All (λ a. IsSplittable grid.now.n a) required.now }
+    requires flags { length flags.old ≡ 2 ^ (2 * grid.now.n + 1) }
+    requires room { length room.old ≡ 2 ^ (2 * grid.now.n + 1) }
+    requires numbers { length numbers.old ≡ side_of grid.now.n * side_of grid.now.n }
+    ensures least { let e = error_of grid.now.n grid.now.heights in
+        IsLeastMeshWith grid.now.n tolerance e (among required.now) (take result.triangles room.new) }
+    ensures order { leaves_of grid.now.n (ancestors_of (take result.triangles room.new))
+        ≡ take result.triangles room.new }
+    ensures deviation { result.deviation
+        ≡ deviation_of grid.now.n grid.now.heights (take result.triangles room.new) }
+    ensures triangles { result.triangles ≡ length (take result.triangles room.new) }
+    ensures vertices { result.vertices ≡ length (vertices_of grid.now.n (take result.triangles room.new)) }
+    ensures numbers { numbers.new ≡ numbers_of grid.now.n (take result.triangles room.new) }
+    ensures places { length numbers.new ≡ length numbers.old }
+    ensures listed { result.triangles ≤ length room.new }
+{
+    settle(grid, tolerance, required, flags, room);
+    list_mesh(grid, flags, room, numbers)
+}
+
+/// Puts the leaves of the flagged set to the front of the room, and numbers their vertices.
+fn list_mesh(grid: &Grid, flags: &[bool], room: &mut [Tri], numbers: &mut VertexTable) -> Counts
+    requires room { length room.old ≡ 2 ^ (2 * grid.now.n + 1) }
+    requires numbers { length numbers.old ≡ side_of grid.now.n * side_of grid.now.n }
+    ensures leaves { take result.triangles room.new ≡ leaves_of grid.now.n (is_flagged flags.now) }
+    ensures deviation { result.deviation
+        ≡ deviation_of grid.now.n grid.now.heights (take result.triangles room.new) }
+    ensures triangles { result.triangles ≡ length (take result.triangles room.new) }
+    ensures vertices { result.vertices ≡ length (vertices_of grid.now.n (take result.triangles room.new)) }
+    ensures numbers { numbers.new ≡ numbers_of grid.now.n (take result.triangles room.new) }
+    ensures places { length numbers.new ≡ length numbers.old }
+    ensures listed { result.triangles ≤ length room.new }
+{
+    let n = grid.n();
     let triangles = list_leaves(flags, n, room);
     let leaves = &room[..triangles];
     let vertices = numbers.number(leaves, n);

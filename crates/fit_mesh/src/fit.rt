@@ -1,8 +1,10 @@
 //! The mesh, and the room that it is made in.
 
-ghost use Rattle.std.specs.Prelude.{◌≡◌, ◌+◌, ◌*◌, ◌^◌, ◌<◌, ◌≤◌, ◌∷◌, [], IfOk, length};
+ghost use Rattle.std.specs.Prelude.{◌≡◌, ◌+◌, ◌*◌, ◌^◌, ◌<◌, ◌≤◌, ◌↔◌, ◌∷◌, [], All, IsTrue, IfOk};
+ghost use Rattle.std.specs.Prelude.{length};
+ghost use Rattle.mesh_defs.specs.Triangle.{IsSplittable};
 ghost use Rattle.mesh_defs.specs.Tiling.{IsConforming};
-ghost use Rattle.mesh_defs.specs.ClosedSet.{leaves_of};
+ghost use Rattle.mesh_defs.specs.ClosedSet.{leaves_of, among};
 ghost use Rattle.mesh_defs.specs.MeshText.{vertices_of};
 ghost use Rattle.mesh_defs.specs.declared.level.TheConstants.{GREATEST_LEVEL};
 ghost use Rattle.tiling_laws.specs.Ancestors.{ancestors_of};
@@ -11,8 +13,9 @@ ghost use Rattle.least_laws.specs.Least.{IsLeastMesh};
 ghost use Rattle.obj_write.specs.Numbers.{numbers_of};
 ghost use Rattle.fit_laws.specs.Error.{error_of};
 ghost use Rattle.fit_laws.specs.Budget.{IsBudgetMesh};
+ghost use Rattle.required_laws.specs.Required.{IsLeastMeshWith};
 
-use crate::find::find_mesh;
+use crate::find::{find_mesh, find_mesh_with};
 use address_flags::{end, list_leaves};
 use bintree_addr::Tri;
 use closure_laws::base_mesh;
@@ -149,6 +152,47 @@ impl Fit {
         }
     }
 
+    /// The mesh of the fewest triangles for a tolerance, in units of height, times 2^n, in which these triangles are
+    /// split, becomes the mesh. So the midpoint of the base of each of them is a vertex. Takes no memory.
+    ///
+    /// With nothing required it is the mesh of `frame` for a budget that is no bound. The budget is not looked at:
+    /// what is required may take more triangles. Their order, and how often one is listed, change nothing.
+    /// Cost (not proved): that of `frame` for such a budget, and a step for each required triangle and for each that
+    /// it forces.
+    pub fn frame_with(&mut self, grid: &Grid, tolerance: u32, required: &[Tri]) -> FitNote
+        requires grid { grid.now.n ≡ self.old.n }
+        requires splittable { All (λ a. IsSplittable grid.now.n a) required.now }
+        ensures n { self.new.n ≡ self.old.n }
+        ensures budget { self.new.budget ≡ self.old.budget }
+
+        // Conforming, no triangle above the tolerance, and all that is required is split; each such list splits
+        // all that is split here, has at least as many triangles, and each of them lies in one of these.
+        ensures least { let e = error_of grid.now.n grid.now.heights in
+            IsLeastMeshWith grid.now.n tolerance e (among required.now) self.new.leaves }
+
+        // Depth first: the list is that of the leaves of what was split.
+        ensures order { leaves_of grid.now.n (ancestors_of self.new.leaves) ≡ self.new.leaves }
+        ensures deviation { result.deviation
+            ≡ deviation_of grid.now.n grid.now.heights self.new.leaves }
+        ensures triangles { result.triangles ≡ length self.new.leaves }
+        ensures vertices { result.vertices ≡ length (vertices_of grid.now.n self.new.leaves) }
+    {
+        let counts = find_mesh_with(
+            grid,
+            tolerance,
+            required,
+            &mut self.flags,
+            &mut self.room,
+            &mut self.numbers,
+        );
+        self.count = counts.triangles;
+        FitNote {
+            triangles: counts.triangles as u32,
+            vertices: counts.vertices,
+            deviation: counts.deviation,
+        }
+    }
+
     /// The triangles of the mesh, depth first: 2 before 3, and left child before right child.
     pub fn leaves(&self) -> &[Tri]
         ensures value { result.now ≡ self.now.leaves }
@@ -165,10 +209,25 @@ impl Fit {
     }
 }
 
+/// Whether each of the triangles may be split in a grid with this n, as `Fit::frame_with` asks.
+pub fn are_splittable(n: u32, triangles: &[Tri]) -> bool
+    requires in_grid { n ≤ GREATEST_LEVEL }
+    ensures { IsTrue result ↔ All (λ a. IsSplittable n a) triangles.now }
+{
+    for t in triangles {
+        let _number = t.number();
+        if t.level() >= 2 * n {
+            return false;
+        }
+    }
+    true
+}
+
 /// How many leaves may wait at a time; none where the budget is no bound.
 fn waiting_room(n: u32, budget: u32) -> usize
     requires in_grid { (1 ≤ n) × (n ≤ GREATEST_LEVEL) }
-    ensures { budget < 2 ^ (2 * n + 1) → result ≡ 2 * budget }
+    ensures bound { budget < 2 ^ (2 * n + 1) → result ≡ 2 * budget }
+    ensures no_bound { 2 ^ (2 * n + 1) ≤ budget → result ≡ 0 }
 {
     if budget < end(n) {
         2 * budget as usize

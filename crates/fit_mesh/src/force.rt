@@ -1,6 +1,7 @@
 //! Forced splits by one flag an address, with a log of the members in the front of the room.
 
-ghost use Rattle.std.specs.Prelude.{◌≡◌, ℕ, ◌+◌, ◌*◌, ◌^◌, ◌<◌, ◌≤◌, false, IsTrue, length, take, replicate};
+ghost use Rattle.std.specs.Prelude.{◌≡◌, ℕ, ◌+◌, ◌*◌, ◌^◌, ◌<◌, ◌≤◌, false, All, IsTrue, length, take};
+ghost use Rattle.std.specs.Prelude.{replicate};
 ghost use Rattle.mesh_defs.specs.Triangle.{IsSplittable};
 ghost use Rattle.mesh_defs.specs.ClosedSet.{IsClosed, IsLeastClosed, among};
 ghost use Rattle.mesh_defs.specs.Greedy.{with_triangle};
@@ -84,6 +85,25 @@ fn force_parent(flags: &mut [bool], room: &mut [Tri], count: usize, n: u32, t: T
         None => count,
         Some(parent) => force(flags, room, count, n, parent),
     }
+}
+
+/// The set becomes that of these triangles and of what they stand on. Answers the length of its log.
+pub fn force_all(flags: &mut [bool], room: &mut [Tri], n: u32, required: &[Tri]) -> usize
+    requires in_grid { (1 ≤ n) × (n ≤ GREATEST_LEVEL) }
+    requires splittable { All (λ a. IsSplittable n a) required.now }
+    requires flags { length flags.old ≡ 2 ^ (2 * n + 1) }
+    requires room { length room.old ≡ 2 ^ (2 * n + 1) }
+    ensures flags { length flags.new ≡ length flags.old }
+    ensures count { result ≤ length room.new }
+    ensures log { IsLog flags.new (take result room.new) }
+    ensures least { IsLeastClosed n (among required.now) (is_flagged flags.new) }
+{
+    clear(flags);
+    let mut count = 0;
+    for t in required {
+        count = force(flags, room, count, n, *t);
+    }
+    count
 }
 
 /// The set becomes that of the first entries of the log.

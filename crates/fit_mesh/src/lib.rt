@@ -3,7 +3,8 @@
 //! For a caller that has a height field and no camera. The error of a triangle is how far the surface is
 //! from its plane at a grid point, at most. Leaves that are worse than the tolerance are split, with what
 //! that forces; with a budget, the worst leaf first, and each set whose worst falls below all before it is
-//! marked. `Fit` takes its room once, and a frame takes none. The laws stand below, in `fit_laws`.
+//! marked. Triangles may be required, as for points that a mesh must have. `Fit` takes its room once, and a frame takes
+//! none. The laws stand below, in `fit_laws` and `required_laws`.
 
 #![tactic(auto)]
 
@@ -16,4 +17,4 @@ mod leaves;
 mod settle;
 
 pub use error::worst_error;
-pub use fit::{Fit, FitNote};
+pub use fit::{Fit, FitNote, are_splittable};

@@ -1,33 +1,35 @@
-//! The fewest triangles for a tolerance: whatever is worse is split, in any order.
+//! The fewest triangles for a tolerance: what is required is split, and then whatever is worse, in any order.
 
-ghost use Rattle.std.specs.Prelude.{◌≡◌, ℕ, ◌+◌, ◌*◌, ◌/◌, ◌^◌, ◌<◌, ◌≤◌, false, IsTrue, length, take};
+ghost use Rattle.std.specs.Prelude.{◌≡◌, ℕ, ◌+◌, ◌*◌, ◌/◌, ◌^◌, ◌<◌, ◌≤◌, Bool, All, IsTrue, length, take};
 ghost use Rattle.mesh_defs.specs.Triangle.{IsAddress, IsSplittable};
-ghost use Rattle.mesh_defs.specs.ClosedSet.{IsSubset};
+ghost use Rattle.mesh_defs.specs.ClosedSet.{IsSubset, among};
 ghost use Rattle.least_laws.specs.Sweep.{is_flagged};
 ghost use Rattle.fit_laws.specs.Error.{error_of};
-ghost use Rattle.fit_laws.specs.Settled.{IsNeeded, IsLeastSettled};
+ghost use Rattle.required_laws.specs.Required.{IsLeastSettledWith};
 ghost use Rattle.fit_mesh.specs.Log.{Extends, HasLog};
+ghost use Rattle.fit_mesh.specs.Grown.{IsNeededWith};
 
 use crate::error::is_worse;
-use crate::force::{clear, force};
+use crate::force::{force, force_all};
 use address_flags::is_set;
 use bintree_addr::Tri;
 use pgm_grid::Grid;
 
-/// Flags the least settled set of the tolerance: splits each leaf that is worse, with what that forces, until
-/// there is none.
+/// Flags the least settled set of the tolerance that has all that is required: splits that, and each leaf that is
+/// worse, with what that forces, until there is none.
 ///
 /// The log of what was split stands in the room, and its entries come up in turn: the children of each are
 /// asked once.
-pub fn settle(grid: &Grid, tolerance: u32, flags: &mut [bool], room: &mut [Tri])
+pub fn settle(grid: &Grid, tolerance: u32, required: &[Tri], flags: &mut [bool], room: &mut [Tri])
+    requires splittable { All (λ a. IsSplittable grid.now.n a) required.now }
     requires flags { length flags.old ≡ 2 ^ (2 * grid.now.n + 1) }
     requires room { length room.old ≡ 2 ^ (2 * grid.now.n + 1) }
     ensures flags { length flags.new ≡ length flags.old }
-    ensures fit { IsLeastSettled grid.now.n tolerance (error_of grid.now.n grid.now.heights)
-        (is_flagged flags.new) }
+    ensures fit { IsLeastSettledWith grid.now.n tolerance (error_of grid.now.n grid.now.heights)
+        (among required.now) (is_flagged flags.new) }
 {
-    clear(flags);
-    let lower = ask(grid, tolerance, flags, room, 0, Tri::LOWER);
+    let forced = force_all(flags, room, grid.n(), required);
+    let lower = ask(grid, tolerance, flags, room, forced, Tri::LOWER);
     let mut count = ask(grid, tolerance, flags, room, lower, Tri::UPPER);
     let mut next = 0;
     while next < count {
@@ -49,15 +51,14 @@ fn ask_pair(
     requires room { length room.old ≡ 2 ^ (2 * grid.now.n + 1) }
     requires count { count ≤ length room.old }
     requires grown { HasLog grid.now.n flags.old (take count room.old) }
-    requires needed { let e = error_of grid.now.n grid.now.heights in
-        IsNeeded grid.now.n tolerance e (is_flagged flags.old) }
     requires splittable { IsSplittable grid.now.n t }
     requires member { IsTrue (is_flagged flags.old t) }
     ensures flags { length flags.new ≡ length flags.old }
     ensures count { result ≤ length room.new }
     ensures grown { HasLog grid.now.n flags.new (take result room.new) }
-    ensures needed { let e = error_of grid.now.n grid.now.heights in
-        IsNeeded grid.now.n tolerance e (is_flagged flags.new) }
+    ensures needed { let e = error_of grid.now.n grid.now.heights in (required : ℕ → Bool) →
+        IsNeededWith grid.now.n tolerance e required (is_flagged flags.old) →
+        IsNeededWith grid.now.n tolerance e required (is_flagged flags.new) }
     ensures kept { Extends (take count room.old) (take result room.new) }
     ensures settled { let e = error_of grid.now.n grid.now.heights in
         (a : ℕ) → 2 ≤ a → a / 2 ≡ t → tolerance < e a → IsTrue (is_flagged flags.new a) }
@@ -81,14 +82,13 @@ fn ask(
     requires room { length room.old ≡ 2 ^ (2 * grid.now.n + 1) }
     requires count { count ≤ length room.old }
     requires grown { HasLog grid.now.n flags.old (take count room.old) }
-    requires needed { let e = error_of grid.now.n grid.now.heights in
-        IsNeeded grid.now.n tolerance e (is_flagged flags.old) }
     requires parent { 4 ≤ t → IsTrue (is_flagged flags.old (t / 2)) }
     ensures flags { length flags.new ≡ length flags.old }
     ensures count { result ≤ length room.new }
     ensures grown { HasLog grid.now.n flags.new (take result room.new) }
-    ensures needed { let e = error_of grid.now.n grid.now.heights in
-        IsNeeded grid.now.n tolerance e (is_flagged flags.new) }
+    ensures needed { let e = error_of grid.now.n grid.now.heights in (required : ℕ → Bool) →
+        IsNeededWith grid.now.n tolerance e required (is_flagged flags.old) →
+        IsNeededWith grid.now.n tolerance e required (is_flagged flags.new) }
     ensures kept { Extends (take count room.old) (take result room.new) }
     ensures more { IsSubset (is_flagged flags.old) (is_flagged flags.new) }
     ensures settled { let e = error_of grid.now.n grid.now.heights in

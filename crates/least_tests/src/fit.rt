@@ -7,7 +7,7 @@ ghost use Rattle.std.specs.Prelude.{◌≤◌};
 ghost use Rattle.mesh_defs.specs.declared.level.TheConstants.{GREATEST_LEVEL};
 
 use bintree_addr::Tri;
-use fit_mesh::Fit;
+use fit_mesh::{Fit, are_splittable};
 use mesh_measure::plane_height;
 use pgm_grid::Grid;
 use std::alloc::Global;
@@ -270,6 +270,89 @@ fn compare(
     Ok(())
 }
 
+/// The leaves of a closed set, a bit an address.
+fn leaves(set: u32, n: u32) -> u64 {
+    let mut all = 0;
+    for a in 2..64 {
+        let inside = a < 1 << (2 * n.min(2) + 2);
+        if inside && !has(set, a) && (a < 4 || has(set, a / 2)) {
+            all |= 1 << a;
+        }
+    }
+    all
+}
+
+/// The leaves of the closed set of the fewest triangles with all that is required and no error above the tolerance.
+fn leaves_with(sets: &[u32], sizes: &[MeshSize], n: u32, tolerance: u32, required: u32) -> u64 {
+    let mut best = 0;
+    let mut few = u32::MAX;
+    for (set, size) in sets.iter().zip(sizes) {
+        if size.worst <= tolerance && set & required == required && size.triangles < few {
+            few = size.triangles;
+            best = leaves(*set, n);
+        }
+    }
+    best
+}
+
+/// The triangles of a set, the one with the greatest address first, and each twice.
+fn listed(alloc: Global, set: u32) -> Result<Vec<Tri>, Fail> {
+    let mut triangles = Vec::new(alloc);
+    for a in (2..32).rev() {
+        if let Some(t) = Tri::new(a)
+            && has(set, a)
+        {
+            triangles.push(t)?;
+            triangles.push(t)?;
+        }
+    }
+    Ok(triangles)
+}
+
+/// The leaves of the mesh with these triangles split, in room that had another mesh before, for a budget that is no
+/// bound to it.
+fn found_with(alloc: Global, grid: &Grid, tolerance: u32, required: u32) -> Result<u64, Fail> {
+    let triangles = listed(alloc, required)?;
+    let mut fit = Fit::make(alloc, grid.n(), 2)?;
+    if !are_splittable(grid.n(), &triangles) {
+        return Err("triangles that may be split".into());
+    }
+    let _before = fit.frame_with(grid, 0, &[]);
+    let _note = fit.frame_with(grid, tolerance, &triangles);
+    let mut all = 0;
+    for leaf in fit.leaves() {
+        if leaf.number() < 64 {
+            all |= 1 << leaf.number();
+        }
+    }
+    Ok(all)
+}
+
+/// Fails unless the mesh for each tolerance and each of these sets of required triangles is the one by brute force.
+fn compare_with(
+    rt: &impl Abort,
+    alloc: Global,
+    w: &Wedges,
+    sets: &[u32],
+    required: &[u32],
+) -> Result<(), Fail> {
+    let grid = w.grid();
+    let errors = errors(w)?;
+    let sizes = sizes(alloc, sets, grid.n(), &errors)?;
+    for asked in required {
+        for error in errors {
+            if error > 0 {
+                for tolerance in [error, error - 1] {
+                    let mesh = found_with(alloc, grid, tolerance, *asked)?;
+                    let want = leaves_with(sets, &sizes, grid.n(), tolerance, *asked);
+                    assert_eq!(rt; mesh, want, "{tolerance} {asked}");
+                }
+            }
+        }
+    }
+    Ok(())
+}
+
 #[test]
 fn there_are_17_closed_sets_of_side_2_and_5489_of_side_4(rt: HostRuntime) -> Result<(), Fail> {
     assert_eq!(rt; closed_sets(rt.alloc(), 1)?.len(), 17);
@@ -301,4 +384,37 @@ fn meshes_of_side_4_are_those_by_brute_force(rt: HostRuntime) -> Result<(), Fail
         )?;
     }
     Ok(())
+}
+
+// The addresses of side 2 that may be split are 2 to 7.
+#[test]
+fn meshes_of_side_2_with_any_triangles_required_are_those_by_brute_force(
+    rt: HostRuntime,
+) -> Result<(), Fail> {
+    let sets = closed_sets(rt.alloc(), 1)?;
+    let mut required = Vec::new(rt.alloc());
+    for set in 0..64 {
+        required.push(4 * set)?;
+    }
+    for seed in 0..4 {
+        let w = rough(rt.alloc(), 1, seed)?;
+        compare_with(&rt, rt.alloc(), &w, &sets, &required)?;
+    }
+    Ok(())
+}
+
+#[test]
+fn meshes_of_side_4_with_any_triangles_required_are_those_by_brute_force(
+    rt: HostRuntime,
+) -> Result<(), Fail> {
+    let sets = closed_sets(rt.alloc(), 2)?;
+    let mut required = Vec::new(rt.alloc());
+    let mut state: u32 = 1;
+    for _ in 0..4 {
+        state = state.wrapping_mul(1_664_525).wrapping_add(1_013_904_223);
+        required.push(state & (state >> 9) & 0xffff_fffc)?;
+        required.push(state & (state >> 7) & (state << 5) & 0xffff_fffc)?;
+    }
+    let w = rough(rt.alloc(), 2, 1)?;
+    compare_with(&rt, rt.alloc(), &w, &sets, &required)
 }

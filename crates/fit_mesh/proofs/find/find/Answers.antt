@@ -1,8 +1,8 @@
 -- Where the budget is no bound, the least settled set is what is looked for.
-use Rattle.std.proofs.Common.{◌≡◌, ℕ, ◌+◌, ◌*◌, ◌^◌, subst, arith}
+use Rattle.std.proofs.Common.{◌≡◌, ℕ, ◌+◌, ◌*◌, ◌^◌, Bool, subst, arith}
 use Rattle.least_laws.specs.Sweep.{is_flagged}
 use Rattle.fit_laws.specs.Error.{error_of}
-use Rattle.fit_mesh.proofs.SettleLemmas.{settled-found}
+use Rattle.fit_mesh.proofs.SettleLemmas.{nothing-required, settled-found}
 use Rattle.fit_mesh.proofs.find.find.Goals as goal
 
 pub returns-else-budget-end-clause-found : goal.returns-else-budget-end-clause-found
@@ -11,5 +11,7 @@ returns-else-budget-end-clause-found c =
     let value : c.end.result ≡ 2 ^ (2 * n + 1) =
     subst (λ k. c.end.result ≡ 2 ^ (2 * k + 1)) c.n.ensures.value c.end.ensures.value in
     let wide = c.if-budget-end.false in
-    settled-found n (error_of n c.args.grid.now.heights) c.args.tolerance c.args.budget (is_flagged c.settle.new.flags)
-    (omega arith) c.settle.ensures.fit
+    let e : ℕ → ℕ = error_of n c.args.grid.now.heights in
+    let has : ℕ → Bool = is_flagged c.settle.new.flags in
+    settled-found n e c.args.tolerance c.args.budget has (omega arith)
+    (nothing-required n c.args.tolerance e has c.settle.ensures.fit)

@@ -1,5 +1,5 @@
 -- What is worse than the tolerance can be split, and every mesh within it needs that.
-use Rattle.std.proofs.Common.{ℕ, sym, ◌∙◌, subst, arith}
+use Rattle.std.proofs.Common.{ℕ, sym, subst, arith}
 use Rattle.bintree_laws.proofs.LevelLemmas.{level-le}
 use Rattle.mesh_defs.specs.Triangle.{IsSplittable}
 use Rattle.mesh_defs.specs.ClosedSet.{IsLeastClosed}
@@ -23,11 +23,10 @@ force-requires-clause-splittable c =
     (error-finest n c.args.grid.now.heights) c.args.t c.requires.address (omega arith))
 
 pub returns-clause-needed : goal.returns-clause-needed
-returns-clause-needed c =
+returns-clause-needed c required needed =
     let n : ℕ = c.args.grid.now.n in
     ask-needed n (error_of n c.args.grid.now.heights) c.args.tolerance
     (is_flagged c.args.flags.now) c.args.t c.requires.address c.requires.parent
-    (sym c.is_set.ensures.value ∙ c.if-is_set.false) (is_flagged c.force.new.flags)
-    (c.is_worse.ensures.0 c.if-not-is_worse.false) c.requires.needed
+    required (is_flagged c.force.new.flags) (c.is_worse.ensures.0 c.if-not-is_worse.false) needed
     (subst (λ k. IsLeastClosed k (with_triangle (is_flagged c.args.flags.now) c.args.t) (is_flagged c.force.new.flags))
     c.n.ensures.value c.force.ensures.least)

@@ -12,3 +12,7 @@ pub ask-requires-clause-address : goal.ask-requires-clause-address
 ask-requires-clause-address c =
     let is = c.right.ensures.value in let low = c.requires.splittable.low in
     child-address c.args.grid.now.n c.args.t c.right.result c.requires.splittable (omega arith) (omega arith)
+
+pub returns-clause-needed : goal.returns-clause-needed
+returns-clause-needed c required needed =
+    c.ask.ensures.needed required (c.ask-left.ensures.needed required needed)

@@ -1,9 +1,9 @@
 use Rattle.std.proofs.Common.{◌+◌, ◌-◌, ◌*◌, ◌^◌, ◌≡◌, ◌≤◌, length, take}
+use Rattle.mesh_defs.specs.ClosedSet.{IsSubset, among}
 use Rattle.least_laws.specs.Sweep.{is_flagged}
 use Rattle.fit_laws.specs.Error.{error_of}
-use Rattle.fit_laws.specs.Settled.{IsNeeded}
 use Rattle.fit_mesh.specs.Log.{HasLog}
-use Rattle.fit_mesh.specs.Grown.{AreSettled}
+use Rattle.fit_mesh.specs.Grown.{AreSettled, IsNeededWith}
 use Rattle.fit_mesh.proofs.settle.settle.Given as goal
 
 abbrev pub invariant-loop-next : goal.invariant-loop-next
@@ -13,7 +13,8 @@ invariant-loop-next l = record {
   count : l.count ≤ length l.room;
   place : l.next ≤ l.count;
   grown : HasLog l.grid.n l.flags (take l.count l.room);
-  needed : IsNeeded l.grid.n l.tolerance (error_of l.grid.n l.grid.heights) (is_flagged l.flags);
+  splits : IsSubset (among l.required) (is_flagged l.flags);
+  needed : IsNeededWith l.grid.n l.tolerance (error_of l.grid.n l.grid.heights) (among l.required) (is_flagged l.flags);
   asked : AreSettled l.grid.n (error_of l.grid.n l.grid.heights) l.tolerance (is_flagged l.flags)
       (take l.next (take l.count l.room));
 }

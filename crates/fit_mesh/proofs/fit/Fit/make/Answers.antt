@@ -37,5 +37,5 @@ invariant_of-result c =
       places = c.number.ensures.places ∙ ap length c.in_ok-numbers.ensures ∙ length-replicate _ _;
       numbered =
           c.number.ensures.numbers ∙ ap (λ (l : List ℕ). numbers_of c.args.n (take count l)) c.deref-2.ensures.value;
-      waiting = λ small. (let e = c.waiting_room.ensures small in let k = c.in_ok-heap.ensures.capacity in omega arith);
+      waiting = λ small. (let e = c.waiting_room.ensures.bound small in let k = c.in_ok-heap.ensures.capacity in omega arith);
     }
