@@ -103,7 +103,7 @@ def test_halved_tells_how_far_the_others_are(n, seed):
     numbers = np.random.default_rng(seed).integers(-500, 500, (side, side)).astype(np.int32)
     is_vertex = np.zeros((side, side), bool)
     is_vertex[::2, ::2] = True
-    points, away = tiles._halved(numbers, 0.5)
+    points, away = tiles.halved(numbers, 0.5)
     assert away == 0.5 * np.abs(surface(numbers, is_vertex) - numbers).max() and np.array_equal(points, numbers[::2, ::2])
 
 
