@@ -8,7 +8,9 @@ usage: python3 checks/viewer.py GRID PICTURE CHROMIUM       all; the picture of 
 The browser is driven over its debugging pipe, so nothing but Python's std is wanted.
 """
 import base64
+import functools
 import http.client
+import http.server
 import json
 import math
 import os
@@ -366,6 +368,39 @@ def check_sea(chromium):
             server.process.wait()
 
 
+def check_tiles(grid, chromium):
+    """The page beside 3D Tiles draws them, from a server of the folder."""
+    with tempfile.TemporaryDirectory(ignore_cleanup_errors=True) as room:
+        words = [sys.executable, "-m", "calfrewin", grid, f"{room}/tiles/", "--spacing", "90", "--error", "10", "--tile", "65"]
+        made = subprocess.run(words, env={**os.environ, "PYTHONPATH": str(TOP / "python/src")}, capture_output=True, text=True)
+        if made.returncode:
+            decide("viewer_tiles_are_made", [made.stderr])
+            return
+        served = http.server.ThreadingHTTPServer(("127.0.0.1", 0), functools.partial(Quiet, directory=f"{room}/tiles"))
+        threading.Thread(target=served.serve_forever, daemon=True).start()
+        browser = Browser(chromium, f"{room}/profile")
+        try:
+            browser.call("Page.navigate", url=f"http://127.0.0.1:{served.server_port}/?pixels=2&from=0,-14000,9000&to=0,0,0")
+            done = browser.wait('document.title === "done"', 120)
+            rows = pixels(browser.picture())
+            middle = [p for row in rows[len(rows) // 3:] for p in row[len(row) // 4:len(row) * 3 // 4]]
+            ground = sum(p != SKY for p in middle) / len(middle)
+            fetched = {path for path in Quiet.paths if path.endswith(".glb")}
+            decide("viewer_tiles_are_drawn", [] if done and ground > 0.4 and len(fetched) > 4 and not browser.wrong
+                   else [f"{ground:.2f} of the middle is ground, {len(fetched)} tiles", *browser.wrong])
+        finally:
+            browser.close()
+            served.shutdown()
+
+
+class Quiet(http.server.SimpleHTTPRequestHandler):
+    """A folder's files; the paths that were asked for are kept, and nothing is printed."""
+    paths = []
+
+    def log_message(self, _, line, *more):
+        self.paths.append(str(line).split(" ")[1])
+
+
 def measure(server, frames):
     """Milliseconds a frame along a path of 30 units a frame: the server's processor time, and by the clock."""
     def processor():
@@ -431,6 +466,7 @@ def main():
         if len(words) == 3:
             check_browser(server, words[1], words[2])
             check_sea(words[2])
+            check_tiles(words[0], words[2])
         check_lift(server)
         check_worn()
         decide("viewer_server_stays_and_says_nothing_wrong", [it.strip() for it in server.errors] + ([] if server.process.poll() is None else ["it ended"]))
