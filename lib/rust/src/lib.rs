@@ -1,0 +1,314 @@
+//! Terrain meshes of few triangles, by a proved engine: the calls of `roam.h`, safe.
+//!
+//! An [`Engine`] owns a copy of a square grid of heights. Each [`Engine::frame`] makes, for a camera, the mesh without cracks
+//! within the triangle budget whose greatest priority none undercuts; [`Engine::fit`] the mesh of fewest triangles within a
+//! distance of the ground. Heights are whole numbers in a unit of yours; `spacing` of them are a grid step. World coordinates
+//! count these units, and (0, 0) is the near left grid point.
+//!
+//! What `roam.h` asks of C is kept by the types: one owner, one call at a time (`&mut self`; an engine may move to another
+//! thread, and is not shared), slices as long as they say. It is for Linux on x86-64, with a Rust of 1.63 or newer.
+
+use std::{error, fmt, ptr};
+
+mod c {
+    #[repr(C)]
+    pub struct Handle {
+        pub mark: u64,
+        pub at: *mut u8,
+    }
+    extern "C" {
+        pub fn roam_open(h: *mut Handle, heights: *const u16, count: usize, budget: u32, spacing: u32) -> i32;
+        pub fn roam_close(h: *mut Handle) -> i32;
+        pub fn roam_camera(h: *mut Handle, x: i64, y: i64, z: i64) -> i32;
+        pub fn roam_look(h: *mut Handle, planes: *const super::Plane, count: usize) -> i32;
+        pub fn roam_renew(h: *mut Handle) -> i32;
+        pub fn roam_budget(h: *mut Handle, triangles: u32) -> i32;
+        pub fn roam_set(h: *mut Handle, x: u32, y: u32, height: u16) -> i32;
+        pub fn roam_raise(h: *mut Handle, x0: u32, y0: u32, x1: u32, y1: u32, dz: i32) -> i32;
+        pub fn roam_frame(h: *mut Handle, out: *mut super::FrameNote) -> i32;
+        pub fn roam_indices(h: *mut Handle, out: *mut u32, places: usize, count: *mut usize) -> i32;
+        pub fn roam_leaves(h: *mut Handle, out: *mut u32, places: usize, count: *mut usize) -> i32;
+        pub fn roam_positions(h: *mut Handle, out: *mut u32, places: usize, count: *mut usize) -> i32;
+        pub fn roam_compact(h: *mut Handle, out: *mut u32, places: usize, count: *mut usize) -> i32;
+        pub fn roam_strip(h: *mut Handle, out: *mut u32, places: usize, count: *mut usize) -> i32;
+        pub fn roam_changed(h: *mut Handle, gone: *mut u32, gones: usize, come: *mut u32, comes: usize, out: *mut [usize; 2]) -> i32;
+        pub fn roam_deviation(h: *mut Handle, out: *mut super::Deviation) -> i32;
+        pub fn roam_fit(h: *mut Handle, thousandths: u32, budget: u32, out: *mut u32, places: usize, told: *mut super::FitNote) -> i32;
+        pub fn roam_certificate(h: *mut Handle, x: i64, y: i64, z: i64, out: *mut u8, room: usize, length: *mut usize) -> i32;
+        pub fn roam_state(h: *mut Handle, out: *mut super::State) -> i32;
+    }
+}
+
+/// Why a call was refused. It has changed nothing.
+#[derive(Clone, Copy, Debug, PartialEq, Eq)]
+pub enum Error {
+    NoMemory,
+    BadGrid,
+    BadBudget,
+    BadSpacing,
+    BadCamera,
+    BadPlane,
+    TooManyPlanes,
+    OutsideGrid,
+    BadChange,
+    Worn,
+    NoRoom,
+    BadTolerance,
+}
+
+impl fmt::Display for Error {
+    fn fmt(&self, out: &mut fmt::Formatter<'_>) -> fmt::Result {
+        out.write_str(match self {
+            Error::NoMemory => "out of memory",
+            Error::BadGrid => "the count of heights is not (2^n + 1)^2 with n from 1 to 11",
+            Error::BadBudget => "the budget is below 2, above 1048576, or above the budget at opening",
+            Error::BadSpacing => "the spacing is not from 1 to 1024",
+            Error::BadCamera => "a coordinate of the camera is beyond 2^30",
+            Error::BadPlane => "a slope of the plane is beyond 2^20, or its offset beyond 2^50",
+            Error::TooManyPlanes => "more than six planes are given",
+            Error::OutsideGrid => "a point is outside the grid, or the area is empty",
+            Error::BadChange => "the change is beyond 65535",
+            Error::Worn => "the engine has made 1000000 frames: renew it",
+            Error::NoRoom => "the array has too few places",
+            Error::BadTolerance => "the tolerance is above 65535999 thousandths",
+        })
+    }
+}
+impl error::Error for Error {}
+
+fn told(answer: i32) -> Result<(), Error> {
+    Err(match answer {
+        0 => return Ok(()),
+        1 => Error::NoMemory,
+        2 => Error::BadGrid,
+        3 => Error::BadBudget,
+        4 => Error::BadSpacing,
+        5 => Error::BadCamera,
+        6 => Error::BadPlane,
+        7 => Error::TooManyPlanes,
+        8 => Error::OutsideGrid,
+        9 => Error::BadChange,
+        10 => Error::Worn,
+        11 => Error::NoRoom,
+        13 => Error::BadTolerance,
+        _ => unreachable!("libroam answers {answer}"),
+    })
+}
+
+/// What a frame did, and what its mesh is; the fields are those of `roam_frame_note`.
+#[repr(C)]
+#[derive(Clone, Copy, Debug, Default, PartialEq, Eq)]
+pub struct FrameNote {
+    pub worst: u64,
+    pub triangles: u32,
+    pub vertices: u32,
+    pub splits: u32,
+    pub merges: u32,
+    pub blocking: u32,
+    pub need: u32,
+    pub inside: u32,
+    pub cut: u32,
+    pub outside: u32,
+    spare: u32,
+}
+
+/// A view plane: its inside is where a x + b y + c z + d >= 0, in world units.
+#[repr(C)]
+#[derive(Clone, Copy, Debug, Default, PartialEq, Eq)]
+pub struct Plane {
+    pub a: i64,
+    pub b: i64,
+    pub c: i64,
+    pub d: i64,
+}
+
+/// `off / over` units of height, exactly.
+#[repr(C)]
+#[derive(Clone, Copy, Debug, Default, PartialEq, Eq)]
+pub struct Deviation {
+    pub off: u64,
+    pub over: u64,
+}
+
+/// The mesh that `fit` found.
+#[repr(C)]
+#[derive(Clone, Copy, Debug, Default, PartialEq, Eq)]
+pub struct FitNote {
+    pub deviation: Deviation,
+    pub triangles: u32,
+    pub vertices: u32,
+}
+
+/// How an engine stands; the fields are those of `roam_state_note`.
+#[repr(C)]
+#[derive(Clone, Copy, Debug, Default, PartialEq, Eq)]
+pub struct State {
+    pub side: usize,
+    pub way: u64,
+    pub evaluations: u64,
+    pub frames: u32,
+    pub most: u32,
+    pub budget: u32,
+    pub planes: u32,
+}
+
+/// The addresses that a frame took out of the mesh, and those that it put in.
+#[derive(Clone, Debug, Default, PartialEq, Eq)]
+pub struct Changes {
+    pub gone: Vec<u32>,
+    pub come: Vec<u32>,
+}
+
+type List = unsafe extern "C" fn(*mut c::Handle, *mut u32, usize, *mut usize) -> i32;
+
+/// An engine over a copy of a grid of heights.
+pub struct Engine {
+    handle: c::Handle,
+    most: u32,
+    side: usize,
+}
+
+// SAFETY: a handle may move to another thread, and each call takes `&mut self`.
+unsafe impl Send for Engine {}
+
+impl Engine {
+    /// Opens an engine over (2^n + 1)^2 heights, n from 1 to 11: rows from the far side to the near one, each from left to
+    /// right. `budget` is the most triangles of a mesh, from 2 to 1,048,576; all memory is taken here.
+    pub fn open(heights: &[u16], budget: u32, spacing: u32) -> Result<Self, Error> {
+        let mut it = Engine { handle: c::Handle { mark: 0, at: ptr::null_mut() }, most: budget, side: 0 };
+        // SAFETY: the handle is empty, and the slice is valid for its length.
+        told(unsafe { c::roam_open(&mut it.handle, heights.as_ptr(), heights.len(), budget, spacing) })?;
+        it.side = it.state().side;
+        Ok(it)
+    }
+
+    /// Puts the camera to a place, at most 2^30 from 0 on each axis.
+    pub fn camera(&mut self, x: i64, y: i64, z: i64) -> Result<(), Error> {
+        told(unsafe { c::roam_camera(&mut self.handle, x, y, z) })
+    }
+
+    /// Puts these view planes, six at most, in the place of those in force; what is outside has priority 0.
+    pub fn look(&mut self, planes: &[Plane]) -> Result<(), Error> {
+        told(unsafe { c::roam_look(&mut self.handle, planes.as_ptr(), planes.len()) })
+    }
+
+    /// Lets frames count from 0 on again: what to call where an answer is [`Error::Worn`].
+    pub fn renew(&mut self) -> Result<(), Error> {
+        told(unsafe { c::roam_renew(&mut self.handle) })
+    }
+
+    /// Puts a budget in force, from 2 to the one at opening.
+    pub fn budget(&mut self, triangles: u32) -> Result<(), Error> {
+        told(unsafe { c::roam_budget(&mut self.handle, triangles) })
+    }
+
+    /// Sets the height of a grid point; x and y count grid steps from the near left point.
+    pub fn set(&mut self, x: u32, y: u32, height: u16) -> Result<(), Error> {
+        told(unsafe { c::roam_set(&mut self.handle, x, y, height) })
+    }
+
+    /// Raises the points from (x0, y0) to (x1, y1), both included, by dz; heights stay within 0 to 65535.
+    pub fn raise(&mut self, x0: u32, y0: u32, x1: u32, y1: u32, dz: i32) -> Result<(), Error> {
+        told(unsafe { c::roam_raise(&mut self.handle, x0, y0, x1, y1, dz) })
+    }
+
+    /// Makes the mesh of what stands now.
+    pub fn frame(&mut self) -> Result<FrameNote, Error> {
+        let mut note = FrameNote::default();
+        told(unsafe { c::roam_frame(&mut self.handle, &mut note) }).map(|()| note)
+    }
+
+    /// What a call writes into a vector that is made long enough for the greatest mesh, and then cut.
+    fn list(&mut self, call: List, out: &mut Vec<u32>, each: usize, most: usize) {
+        let mut count = 0;
+        out.resize(each * most, 0);
+        // SAFETY: the vector is valid for its length; a full handle and room enough are never refused but for memory.
+        let answer = unsafe { call(&mut self.handle, out.as_mut_ptr(), out.len(), &mut count) };
+        out.truncate(if answer == 0 { each * count } else { 0 });
+    }
+
+    /// Three places in the heights for each triangle: apex and the ends of the base, counterclockwise from above. Kept from
+    /// frame to frame, the vector takes memory once; so it is with the next three.
+    pub fn indices(&mut self, out: &mut Vec<u32>) {
+        self.list(c::roam_indices, out, 3, self.most as usize)
+    }
+
+    /// The address of each triangle in the same order, which names it in every frame.
+    pub fn leaves(&mut self, out: &mut Vec<u32>) {
+        self.list(c::roam_leaves, out, 1, self.most as usize)
+    }
+
+    /// x, y and z of each vertex of the mesh alone, in world units and units of height.
+    pub fn positions(&mut self, out: &mut Vec<u32>) {
+        self.list(c::roam_positions, out, 3, self.most as usize + 2)
+    }
+
+    /// Three numbers for each triangle, by the vertices of `positions`, counted from 0.
+    pub fn compact(&mut self, out: &mut Vec<u32>) {
+        self.list(c::roam_compact, out, 3, self.most as usize)
+    }
+
+    /// What `indices` gives, in the order of one strip: each two neighbours share an edge, and so do the last and the first.
+    pub fn strip(&mut self) -> Result<Vec<u32>, Error> {
+        let (mut out, mut count) = (vec![0; 3 * self.most as usize], 0);
+        told(unsafe { c::roam_strip(&mut self.handle, out.as_mut_ptr(), out.len(), &mut count) })?;
+        out.truncate(3 * count);
+        Ok(out)
+    }
+
+    /// What the last frame took out of the mesh and put in; nothing before the first frame.
+    pub fn changed(&mut self) -> Changes {
+        let room = self.most as usize;
+        let (mut it, mut counts) = (Changes { gone: vec![0; room], come: vec![0; room] }, [0; 2]);
+        let (gone, come) = (it.gone.as_mut_ptr(), it.come.as_mut_ptr());
+        let answer = unsafe { c::roam_changed(&mut self.handle, gone, room, come, room, &mut counts) };
+        debug_assert_eq!(answer, 0, "room for the greatest budget always suffices");
+        it.gone.truncate(counts[0]);
+        it.come.truncate(counts[1]);
+        it
+    }
+
+    /// How far the heights are from the last frame's mesh at a grid point, at most.
+    pub fn deviation(&mut self) -> Deviation {
+        let mut out = Deviation::default();
+        let answer = unsafe { c::roam_deviation(&mut self.handle, &mut out) };
+        debug_assert_eq!(answer, 0, "a full handle is not refused");
+        out
+    }
+
+    /// The indices of the mesh of fewest triangles within a tolerance, in thousandths of a unit of height, whatever the
+    /// camera; where that has more than `budget` triangles, of the mesh of the budget that is off by the least, as the note
+    /// tells. `None` is no budget. The engine is as before.
+    pub fn fit(&mut self, thousandths: u32, budget: Option<u32>) -> Result<(Vec<u32>, FitNote), Error> {
+        let finest = 2 * (self.side - 1) * (self.side - 1);
+        let most = budget.unwrap_or(finest as u32);
+        let (mut out, mut note) = (vec![0; 3 * finest.min(most as usize)], FitNote::default());
+        told(unsafe { c::roam_fit(&mut self.handle, thousandths, most, out.as_mut_ptr(), out.len(), &mut note) })?;
+        out.truncate(3 * note.triangles as usize);
+        Ok((out, note))
+    }
+
+    /// The certificate that no mesh of the budget in force is better from a place, without planes: that of
+    /// `roam certify make`.
+    pub fn certificate(&mut self, x: i64, y: i64, z: i64) -> Result<String, Error> {
+        let (mut out, mut length) = (vec![0; 48 + 30 * self.state().budget as usize], 0);
+        told(unsafe { c::roam_certificate(&mut self.handle, x, y, z, out.as_mut_ptr(), out.len(), &mut length) })?;
+        out.truncate(length);
+        Ok(String::from_utf8(out).expect("a certificate is ASCII"))
+    }
+
+    /// How the engine stands.
+    pub fn state(&mut self) -> State {
+        let mut out = State::default();
+        let answer = unsafe { c::roam_state(&mut self.handle, &mut out) };
+        debug_assert_eq!(answer, 0, "a full handle is not refused");
+        out
+    }
+}
+
+impl Drop for Engine {
+    fn drop(&mut self) {
+        // SAFETY: the handle has no other owner, and nothing calls it again.
+        unsafe { c::roam_close(&mut self.handle) };
+    }
+}
