@@ -29,7 +29,7 @@ to_child : (t u v w d a p q m : ℕ) → v ≡ w + d → p + q ≡ 2 * m → t �
 to_child t u v w d a p q m e f h = omega (arith, ap (λ z. z * p) e, ap (λ z. w * z) f)
 
 -- where v0 has the greater weight the point is a mean of the left child's corners
-IsMean-left : (total : ℕ) (c : Corners) (r : Point) (u v w d : ℕ) → HasEvenBase c → v ≡ w + d → IsMean total c r u v w →
+pub IsMean-left : (total : ℕ) (c : Corners) (r : Point) (u v w d : ℕ) → HasEvenBase c → v ≡ w + d → IsMean total c r u v w →
     IsMean total (child 0 c) r (2 * w) u d
 IsMean-left total c r u v w d even e h = record {
   sum = omega (arith, h.sum);
@@ -38,7 +38,7 @@ IsMean-left total c r u v w d even e h = record {
 }
 
 -- and else of the right child's
-IsMean-right : (total : ℕ) (c : Corners) (r : Point) (u v w d : ℕ) → HasEvenBase c → w ≡ v + d →
+pub IsMean-right : (total : ℕ) (c : Corners) (r : Point) (u v w d : ℕ) → HasEvenBase c → w ≡ v + d →
     IsMean total c r u v w →
     IsMean total (child 1 c) r (2 * v) d u
 IsMean-right total c r u v w d even e h = record {
@@ -119,7 +119,7 @@ one_end total v i j some most e = ⊎_elim
     (cases_lt j i)
 
 -- r is a corner, with all weight there
-abbrev IsOneCorner : Corners → Point → ℕ → ℕ → ℕ → Type 0
+abbrev pub IsOneCorner : Corners → Point → ℕ → ℕ → ℕ → Type 0
 IsOneCorner c r u v w =
     ((r ≡ c.apex) × (v ≡ 0) × (w ≡ 0)) ⊎ (((r ≡ c.v0) × (u ≡ 0) × (w ≡ 0)) ⊎ ((r ≡ c.v1) × (u ≡ 0) × (v ≡ 0)))
 
@@ -182,6 +182,14 @@ IsPlacedBy-finest south total c r u v w a t some h =
     grind arith
 IsPlacedBy-finest _ total c r u v w a t some h = absurd a
 
+-- so a point of a finest triangle is a corner, with all weight there
+pub finest-corner : (n a total : ℕ) (r : Point) (u v w : ℕ) → 0 < total → IsDown n zero a →
+    IsMean total (corners_of n a) r u v w → IsOneCorner (corners_of n a) r u v w
+finest-corner n a total r u v w some d h =
+    let f = finest_of n a d in
+    IsOneCorner-placed total (corners_of n a) r u v w some h.sum
+    (IsPlacedBy-finest f.0 total (corners_of n a) r u v w f.1 f.2 some h)
+
 -- with all weight at one corner the mean is that corner's height
 mean-corner : (f : Point → ℕ) (total : ℕ) (c : Corners) (r : Point) (u v w : ℕ) →
     u + v + w ≡ total → IsOneCorner c r u v w →
@@ -198,11 +206,9 @@ pub mean-le : (n : ℕ) (heights : List ℕ) (levels a total : ℕ) (r : Point) 
     2 * apart (total * height_of n heights r) (mean (height_of n heights) (corners_of n a) u v w)
     ≤ total * thickness_under levels n heights a
 mean-le n heights zero a total r u v w some d h =
-    let f = finest_of n a d in
-    let c : Corners = corners_of n a in
-    let same : total * height_of n heights r ≡ mean (height_of n heights) c u v w =
-    mean-corner (height_of n heights) total c r u v w h.sum
-    (IsOneCorner-placed total c r u v w some h.sum (IsPlacedBy-finest f.0 total c r u v w f.1 f.2 some h)) in
+    let same : total * height_of n heights r ≡ mean (height_of n heights) (corners_of n a) u v w =
+    mean-corner (height_of n heights) total (corners_of n a) r u v w h.sum
+    (finest-corner n a total r u v w some d h) in
     omega arith
 mean-le n heights (suc levels) a total r u v w some d h =
     let c : Corners = corners_of n a in

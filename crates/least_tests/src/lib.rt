@@ -18,4 +18,6 @@ mod hill;
 #[cfg(test)]
 mod least_frames;
 #[cfg(test)]
+mod points;
+#[cfg(test)]
 mod strips;

@@ -1,0 +1,2 @@
+pub mod VertexLemmas
+pub mod WeightedLemmas
