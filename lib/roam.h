@@ -32,7 +32,7 @@ enum roam_answer {
     ROAM_TOO_MANY_PLANES = 7, /* six are in force, or more than six are given */
     ROAM_OUTSIDE_GRID = 8,    /* a point or an area that is not in the grid, or an empty area */
     ROAM_BAD_CHANGE = 9,      /* dz beyond -65535 .. 65535 */
-    ROAM_WORN = 10,           /* 1000000 frames were made, or the camera has gone more than 2^61 units: call roam_renew */
+    ROAM_WORN = 10,           /* 1000000 frames were made: call roam_renew; or a camera has gone more than 2^61 units */
     ROAM_NO_ROOM = 11,        /* the array has too few places */
     ROAM_IS_EMPTY = 12,       /* the handle has no engine */
     ROAM_BAD_TOLERANCE = 13   /* a tolerance above 65535999 thousandths */
@@ -107,8 +107,8 @@ int32_t roam_clear_planes(roam_handle *h);
  * walk over the triangles of the mesh, but for those that lie inside all planes, or outside of one, both before and after. */
 int32_t roam_look(roam_handle *h, const roam_plane *planes, size_t count);
 
-/* Lets frames, evaluations and the way of the camera count from 0 on again, so that an engine goes on for ever: what to call where
- * an answer is ROAM_WORN. The mesh stays; the next frame costs as much as one with new planes. */
+/* Lets frames count from 0 on again: what to call where roam_frame answers ROAM_WORN. All else stays, the mesh and the other counts
+ * too. It answers ROAM_WORN itself behind more than 2^60 evaluations, splits or merges: at a million a second, in 36,000 years. */
 int32_t roam_renew(roam_handle *h);
 
 /* Puts a budget in force, from 2 to the one that the engine was opened with. */

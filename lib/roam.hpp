@@ -21,7 +21,7 @@ inline const char *text_of(int32_t answer) noexcept {
         "the budget is below 2, above 1048576, or above the budget at opening", "the spacing is not from 1 to 1024",
         "a coordinate of the camera is beyond 2^30", "a slope of the plane is beyond 2^20, or its offset beyond 2^50",
         "six planes are in force, or more than six are given", "a point is outside the grid, or the area is empty",
-        "the change is beyond 65535", "the engine has made 1000000 frames, or its camera has gone 2^61 units: renew it",
+        "the change is beyond 65535", "the engine has made 1000000 frames: renew it; or its camera has gone 2^61 units",
         "the array has too few places", "there is no engine", "the tolerance is above 65535999 thousandths"};
     return answer >= 0 && answer <= ROAM_BAD_TOLERANCE ? texts[answer] : "an unknown answer";
 }

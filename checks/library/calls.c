@@ -188,7 +188,7 @@ static void do_look(struct engine *e, const roam_plane *planes, size_t count) {
 static void do_renew(struct engine *e) {
     call = RENEW;
     answers(roam_renew(&e->handle), e->is_open ? ROAM_OK : ROAM_IS_EMPTY);
-    e->state.frames = 0, e->state.way = 0, e->state.evaluations = 0;
+    e->state.frames = 0;
     test_state(e);
 }
 

@@ -47,7 +47,7 @@ SIDES = [2 ** n + 1 for n in range(1, 12)]
 
 
 class Worn(RuntimeError):
-    """The engine has made 1,000,000 frames, or its camera has gone 2^61 units: call renew()."""
+    """The engine has made 1,000,000 frames: call renew(); or its camera has gone 2^61 units."""
 
 
 class Note(NamedTuple):
@@ -275,7 +275,7 @@ class Engine:
         self._call("look", (_Plane * MOST_PLANES)(*found), len(found))
 
     def renew(self) -> None:
-        """Lets frames, evaluations and the way of the camera count from 0 on again, so that the engine goes on for ever."""
+        """Lets frames count from 0 on again, for an engine that has made 1,000,000. All else stays, the mesh and the other counts too."""
         self._call("renew")
 
     def clear_planes(self) -> None:

@@ -41,16 +41,16 @@ fn a_flight_tells_of_each_frame(rt: HostRuntime) {
     assert_eq!(rt; flight(rt.alloc()), Some(told));
 }
 
-/// What is seen of two steps of a flight without an end, from the one corner and from the other.
-fn endless(alloc: Global) -> Option<[Told; 2]> {
+/// What is seen of two steps of a flight that goes on, from the one corner and from the other.
+fn onward(alloc: Global) -> Option<[Told; 2]> {
     let grid = grid_with(alloc, 2, &TWO_PEAKS)?;
     let mut engine = Engine::make(alloc, grid, 9, 1).ok()?;
     two_steps(&mut engine)
 }
 
 fn two_steps(engine: &mut Engine) -> Option<[Told; 2]> {
-    let first = go_on(engine, Camera::new(0, 0, 0)?);
-    let second = go_on(engine, Camera::new(4, 4, 0)?);
+    let first = go_on(engine, Camera::new(0, 0, 0)?)?;
+    let second = go_on(engine, Camera::new(4, 4, 0)?)?;
     Some([told_of(first), told_of(second)])
 }
 
@@ -61,7 +61,7 @@ fn told_of(sight: Sight) -> Told {
 #[test]
 fn a_flight_goes_on(rt: HostRuntime) {
     let told = [(9, 436906, 7, 0), (9, 436906, 5, 5)];
-    assert_eq!(rt; endless(rt.alloc()), Some(told));
+    assert_eq!(rt; onward(rt.alloc()), Some(told));
 }
 
 /// What is seen where the first peak is cut off after a frame.

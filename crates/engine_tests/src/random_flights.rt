@@ -80,10 +80,12 @@ fn turn(engine: &mut Engine, number: u64) -> bool {
     engine.planes() == planes.len()
 }
 
-/// Counts from 0 on again, and tells whether that is so.
+/// Counts frames from 0 on again, and tells whether these are so, and the other counts as they were.
 fn renew(engine: &mut Engine) -> bool {
-    engine.renew();
-    (engine.frames(), engine.odometer(), engine.evaluations()) == (0, 0, 0)
+    let before = (engine.odometer(), engine.evaluations());
+    engine.renew()
+        && engine.frames() == 0
+        && (engine.odometer(), engine.evaluations()) == before
 }
 
 /// Changes what a number says, and tells whether that went as it should.

@@ -12,8 +12,8 @@ use Rattle.deferred_loop.specs.Seen.{SeenMesh}
 use Rattle.deferred_loop.specs.Promise.{IsAtLeast}
 use Rattle.roam_mesh.specs.Mesh.{stamp_of, seen_of}
 use Rattle.roam_mesh.specs.Chosen.{SparesChosen}
-use Rattle.frame_loop.specs.Changes.{no_changes}
-use Rattle.frame_loop.specs.Engine.{EngineState, IsEngine, IsFrameDone, IsStill}
+use Rattle.frame_loop.specs.Changes.{LeafChanges, no_changes}
+use Rattle.frame_loop.specs.Engine.{EngineState, IsEngine, IsRenewable, IsFrameDone, IsStill}
 use Rattle.frame_loop.specs.declared.note.FrameNote.{FrameNote}
 
 -- where the mesh stays, no stamp is another
@@ -51,10 +51,10 @@ still_after before after note done = record {
   outside = rw (done.state) done.outside;
 }
 
--- and so has the one after that
-pub still_on : (e : EngineState) (note : FrameNote) → IsStill e note →
-    IsStill (record e { frames = e.frames + 1; changes = no_changes }) note
-still_on e note is = record {
+-- and so it is whatever frames are counted and whatever is told of changes
+pub still_on : (e : EngineState) (frames : ℕ) (changes : LeafChanges) (note : FrameNote) → IsStill e note →
+    IsStill (record e { frames = frames; changes = changes }) note
+still_on e frames changes note is = record {
   state = refl;
   most = refl;
   odometer = refl;
@@ -72,6 +72,32 @@ still_on e note is = record {
   cut = is.cut;
   outside = is.outside;
 }
+
+-- a renewed engine
+pub renewed_engine : (e : EngineState) → IsEngine e → IsRenewable e → IsEngine (record e { frames = 0 })
+renewed_engine e is may =
+    let evaluations = may.few_evaluations in
+    let splits = may.few_splits in
+    let merges = may.few_merges in
+    record {
+      n_low = is.n_low;
+      n_high = is.n_high;
+      n = is.n;
+      most_low = is.most_low;
+      most_high = is.most_high;
+      pool_most = is.pool_most;
+      budget_low = is.budget_low;
+      budget_high = is.budget_high;
+      spacing_low = is.spacing_low;
+      spacing_high = is.spacing_high;
+      far = is.far;
+      frame_count = omega arith;
+      evaluation_count = omega (arith, evaluations);
+      split_count = omega (arith, splits);
+      merge_count = omega (arith, merges);
+      kept = is.kept;
+      only = is.only;
+    }
 
 -- an engine after a frame that does nothing
 pub still_engine : (e : EngineState) → IsEngine e → e.frames < 1000000 →

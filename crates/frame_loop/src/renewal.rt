@@ -1,33 +1,34 @@
-//! Counts that start again.
+//! Frames that are counted from 0 on again.
 
-ghost use Rattle.std.specs.Prelude.{◌≡◌, true};
-ghost use Rattle.roam_mesh.specs.Mesh.{uncounted};
-ghost use Rattle.frame_loop.specs.Engine.{IsExpired};
+ghost use Rattle.std.specs.Prelude.{◌≡◌, ◌↔◌, IsTrue, false};
+ghost use Rattle.frame_loop.specs.Engine.{IsRenewable};
 
 use crate::engine::Engine;
-use view_priority::Meter;
+use crate::limits::MOST_TO_RENEW;
 
 impl Engine {
-    /// Counts frames, evaluations, splits, merges and the way of the camera from 0 on again, and expires all stamps.
+    /// Counts frames from 0 on again, and tells whether that may be: a caller renews an engine behind 1,000,000 frames.
     ///
-    /// So an engine goes on for ever: a caller renews it behind 1,000,000 frames, or where `camera` would come too
-    /// far. The state and the triangles stay; the next frame asks all priorities anew.
-    /// Cost (not proved): that of `clear_planes`.
-    pub fn renew(&mut self)
-        ensures rest { self.new ≡ record self.old {
-          mesh = self.new.mesh;
-          odometer = 0;
-          frames = 0;
-          evaluations = 0;
-        } }
-        ensures mesh { IsExpired (record self.old.mesh { pool = uncounted self.old.mesh.pool }) self.new.mesh
-            (λ a. true) }
+    /// All else stays, stamps and what `changes` tells too, so the next frame costs what it would have cost.
+    pub fn renew(&mut self) -> bool
+        ensures done { IsTrue result ↔ IsRenewable self.old }
+        ensures renewed { IsTrue result → self.new ≡ record self.old { frames = 0 } }
+        ensures worn { result ≡ false → self.new ≡ self.old }
     {
-        self.expire_all();
-        self.still = None;
-        self.mesh.restart_counts();
-        self.meter = Meter::new();
-        self.odometer = 0;
+        if !self.is_renewable() {
+            return false;
+        }
         self.frames = 0;
+        true
+    }
+
+    /// Whether the counts leave room for those of as many frames as an engine makes until it is renewed.
+    fn is_renewable(&self) -> bool
+        ensures { IsTrue result ↔ IsRenewable self.now }
+    {
+        let pool = self.mesh.pool();
+        self.meter.count() <= MOST_TO_RENEW
+            && pool.splits() <= MOST_TO_RENEW
+            && pool.merges() <= MOST_TO_RENEW
     }
 }

@@ -89,7 +89,7 @@ pub extern "C" fn roam_look(alloc: Global, h: &mut Handle, planes: &[PlaneNumber
     }
 }
 
-/// Counts frames, evaluations and the way of the camera from 0 on again.
+/// Counts frames from 0 on again.
 #[unsafe(no_mangle)]
 pub extern "C" fn roam_renew(alloc: Global, h: &mut Handle) -> i32
     ensures full { OnFull h.old.value h.new.value result (λ was now answer.

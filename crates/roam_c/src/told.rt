@@ -3,6 +3,7 @@
 ghost use Rattle.std.specs.Prelude.{◌≡◌, Some, pos, length};
 ghost use Rattle.mesh_defs.specs.State.{priority_in};
 ghost use Rattle.mesh_defs.specs.BestMesh.{IsBestMesh};
+ghost use Rattle.frame_loop.specs.Changes.{AreChangesOf};
 ghost use Rattle.frame_loop.specs.Engine.{EngineState, mesh_seen};
 ghost use Rattle.roam_embed.specs.Told.{standing_of};
 ghost use Rattle.roam_embed.specs.Calls.{IsFrameMade};
@@ -22,6 +23,8 @@ pub extern "C" fn roam_frame(alloc: Global, h: &mut Handle, out: &mut Frame) -> 
         IsBestMesh now.state.grid.n now.state.budget (priority_in now.state) (mesh_seen now) }
     ensures triangles { (now : EngineState) → h.new.value ≡ Some now → result ≡ pos 0 →
         out.new.triangles ≡ length (mesh_seen now) }
+    ensures changes { (was now : EngineState) → h.old.value ≡ Some was → h.new.value ≡ Some now → result ≡ pos 0 →
+        AreChangesOf (mesh_seen was) (mesh_seen now) now.changes }
 {
     match take(h, alloc) {
         Some(mut engine) => {

@@ -19,6 +19,7 @@ use Rattle.wedgie_tree.specs.Edits.{area_between}
 use Rattle.cull_marks.specs.Plane.{IsPlane}
 use Rattle.view_priority.specs.Camera.{IsCamera}
 use Rattle.roam_mesh.specs.Mesh.{stamp_of, pool_members}
+use Rattle.frame_loop.specs.Changes.{no_changes, AreChangesOf}
 use Rattle.frame_loop.specs.Engine.{EngineState, mesh_seen, IsExpired, IsFrameDone}
 use Rattle.roam_embed.specs.declared.answer.Answer.{Answer}
 use Rattle.roam_embed.specs.declared.answer.Answer.TheVariants.{Done, NoMemory, BadGrid, BadBudget, BadSpacing}
@@ -41,7 +42,8 @@ pub record IsOpenAnswer (heights : List ℕ) (budget spacing : ℕ) (answer : An
   pub others : ((answer ≡ Done) ⊎ (answer ≡ NoMemory)) ↔ (HasGrid (length heights) × (2 ≤ budget)
       × (budget ≤ MOST_LEAVES) × (1 ≤ spacing) × (spacing ≤ GREATEST_SPACING))
 
--- an engine of these heights: seen from (0, 0, 0), no plane, the two halves of the square, no stamp, and all counts 0
+-- an engine of these heights: seen from (0, 0, 0), no plane, the two halves of the square, no stamp, all counts 0, and
+-- nothing changed by a frame
 pub record IsOpened (heights : List ℕ) (budget spacing : ℕ) (e : EngineState) : Type 0 where
   pub level : IsPointCount (length heights) e.state.grid.n
   pub state : e.state ≡ start_state (record { n = e.state.grid.n; maxval = 65535; heights = heights }) spacing budget
@@ -51,6 +53,7 @@ pub record IsOpened (heights : List ℕ) (budget spacing : ℕ) (e : EngineState
   pub odometer : e.odometer ≡ 0
   pub frames : e.frames ≡ 0
   pub evaluations : e.evaluations ≡ 0
+  pub changes : e.changes ≡ no_changes
 
 -- the camera is put to a place
 pub record IsCameraMoved (before after : EngineState) (place : CameraAt) (answer : Answer) : Type 0 where
@@ -108,7 +111,7 @@ pub record IsAreaRaised (before after : EngineState) (x0 y0 x1 y1 : ℕ) (dz : �
       IsExpired before.mesh after.mesh (λ a. overlaps (corners_of before.state.grid.n a) (area_between x0 y0 x1 y1))
   pub kept : (answer ≡ Done → ⊥) → after ≡ before
 
--- the mesh is the best one of the state, and what is told of it
+-- the mesh is the best one of the state, what is told of it, and which triangles went and came
 pub record IsFrameMade (before after : EngineState) (told_before told : Frame) (answer : Answer) : Type 0 where
   pub done : (answer ≡ Done) ↔ (before.frames < MOST_FRAMES)
   pub worn : (answer ≡ Worn) ↔ (MOST_FRAMES ≤ before.frames)
@@ -119,6 +122,9 @@ pub record IsFrameMade (before after : EngineState) (told_before told : Frame) (
   pub unblocked : answer ≡ Done → ((told.blocking ≡ 0) ↔ All (λ a. priority_in after.state a ≡ 0) (mesh_seen after))
   pub certificate : answer ≡ Done → told.blocking ≢ 0 → (after.state.budget < told.need)
       × (priority_in after.state told.blocking ≡ told.worst) × Contains (mesh_seen after) told.blocking
+  pub unneeded : answer ≡ Done → told.blocking ≡ 0 → told.need ≡ 0
+  pub spare : answer ≡ Done → told.spare ≡ 0
+  pub changed : answer ≡ Done → AreChangesOf (mesh_seen before) (mesh_seen after) after.changes
   pub kept : (answer ≡ Done → ⊥) → after ≡ before
   pub untold : (answer ≡ Done → ⊥) → told ≡ told_before
 

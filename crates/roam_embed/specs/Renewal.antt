@@ -1,13 +1,13 @@
--- Counts that start again. This project's own.
+-- Frames that are counted from 0 on again. This project's own.
 -- Words: IsEngineRenewed.
-use Rattle.std.specs.Prelude.{◌≡◌, true}
-use Rattle.roam_mesh.specs.Mesh.{uncounted}
-use Rattle.frame_loop.specs.Engine.{EngineState, IsExpired}
+use Rattle.std.specs.Prelude.{◌≡◌, ◌↔◌}
+use Rattle.frame_loop.specs.Engine.{EngineState, IsRenewable}
 use Rattle.roam_embed.specs.declared.answer.Answer.{Answer}
-use Rattle.roam_embed.specs.declared.answer.Answer.TheVariants.{Done}
+use Rattle.roam_embed.specs.declared.answer.Answer.TheVariants.{Done, Worn}
 
--- frames, evaluations and the way of the camera count from 0 on again, and all stamps are expired; the rest stays
+-- frames count from 0 on again, and all else stays
 pub record IsEngineRenewed (before after : EngineState) (answer : Answer) : Type 0 where
-  pub done : answer ≡ Done
-  pub counted : after ≡ record before { mesh = after.mesh; odometer = 0; frames = 0; evaluations = 0 }
-  pub expired : IsExpired (record before.mesh { pool = uncounted before.mesh.pool }) after.mesh (λ a. true)
+  pub done : (answer ≡ Done) ↔ IsRenewable before
+  pub worn : (answer ≡ Worn) ↔ (IsRenewable before → ⊥)
+  pub renewed : answer ≡ Done → after ≡ record before { frames = 0 }
+  pub kept : (answer ≡ Done → ⊥) → after ≡ before

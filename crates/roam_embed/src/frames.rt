@@ -24,7 +24,9 @@ pub fn make_frame(engine: &mut Engine, out: &mut Frame) -> Answer
 
 /// A note, by numbers alone.
 fn frame_of(note: &FrameNote) -> Frame
-    ensures { note_of result ≡ note.now }
+    ensures note { note_of result ≡ note.now }
+    ensures unneeded { result.blocking ≡ 0 → result.need ≡ 0 }
+    ensures spare { result.spare ≡ 0 }
 {
     let (blocking, need) = match note.blocked {
         Some(b) => (b.tri.number(), b.need),

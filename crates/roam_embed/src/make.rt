@@ -5,6 +5,7 @@ ghost use Rattle.mesh_defs.specs.State.{start_state};
 ghost use Rattle.triangle_pool.specs.declared.pool.TheConstants.{MOST_LEAVES};
 ghost use Rattle.wedgie_tree.specs.declared.wedges.TheConstants.{GREATEST_SPACING};
 ghost use Rattle.roam_mesh.specs.Mesh.{stamp_of, pool_members};
+ghost use Rattle.frame_loop.specs.Changes.{no_changes};
 ghost use Rattle.roam_embed.specs.Grid.{IsPointCount, HasGrid};
 ghost use Rattle.roam_embed.specs.Calls.{IsOpenAnswer, IsOpened};
 
@@ -80,6 +81,7 @@ fn make_engine(
     ensures odometer { IfOk result (λ engine. engine.value.odometer ≡ 0) }
     ensures frames { IfOk result (λ engine. engine.value.frames ≡ 0) }
     ensures evaluations { IfOk result (λ engine. engine.value.evaluations ≡ 0) }
+    ensures changes { IfOk result (λ engine. engine.value.changes ≡ no_changes) }
 {
     let grid = Grid::from_heights(n, u16::MAX, heights.to_vec(alloc)?);
     let engine = Engine::make(alloc, grid, budget, spacing)?;

@@ -16,7 +16,7 @@ use Rattle.frame_steps.specs.Deferred.{IsEntry}
 use Rattle.frame_steps.specs.Stamps.{Stamp, Readings, StampsHold}
 use Rattle.deferred_loop.specs.Seen.{IsQuiet}
 use Rattle.deferred_loop.specs.Log.{Log}
-use Rattle.roam_mesh.specs.Mesh.{MeshState, slot_of, stamp_of, pool_members, with_expired, uncounted}
+use Rattle.roam_mesh.specs.Mesh.{MeshState, slot_of, stamp_of, pool_members, with_expired}
 use Rattle.roam_mesh.specs.Mesh.{OnlyEntriesStamped, seen_of}
 use Rattle.roam_mesh.specs.Parts.{PartsState, entry_at, entry_of, blank, best_of, merging_key, better_of, deadline_of}
 use Rattle.roam_mesh.specs.Parts.{stamp_in, seen_parts, mesh_of, is_leaf_at, is_chief_at, is_entry_at, is_out, IsParts}
@@ -232,21 +232,6 @@ dead_stamps mesh t pool only dead a =
         let there = entry_at-of mesh.pool a pool (only a stamp is) in
         absurd (dead (slot_of mesh.pool.pairs a)
         (entry_live mesh.pool.pairs (slot_of mesh.pool.pairs a) there.0) (there.1 ∙ sym own))
-
--- what is counted has no part in where all stands
-pub uncounted_parts : (parts : PartsState) → IsParts parts → IsParts (record parts { pool = uncounted parts.pool })
-uncounted_parts parts is = record {
-  pool = is.pool;
-  near = is.near;
-  placed = record {
-    split = is.placed.split;
-    merge = is.placed.merge;
-    due = is.placed.due;
-    stamped = is.placed.stamped;
-    known = is.placed.known;
-  };
-  entries = is.entries;
-}
 
 -- ---- a mesh between frames, as the loop sees it
 

@@ -1,7 +1,6 @@
 -- What a contract sees of a mesh: its pool, a finite map of stamps, and a log of what the last frame split or merged.
 -- Source: Duchaineau et al., "ROAMing Terrain", IEEE Visualization 1997, the part on deferred priority lists.
--- Words: MeshState, slot_of, stamp_of, pool_members, pool_set, seen_of, with_expired, uncounted,
--- OnlyEntriesStamped.
+-- Words: MeshState, slot_of, stamp_of, pool_members, pool_set, seen_of, with_expired, OnlyEntriesStamped.
 use Rattle.std.specs.Prelude.{◌≡◌, ℕ, ◌+◌, ◌*◌, ◌/◌, ◌%◌, true, false, nat_eq, List, [], Option, None, Some}
 use Rattle.std.specs.Prelude.{slice_index_or}
 use Rattle.std.specs.List.{position_or_len}
@@ -55,10 +54,6 @@ seen_of mesh = record {
 -- the stamp, expired
 abbrev pub with_expired : Stamp → Stamp
 with_expired stamp = record stamp { expired = true }
-
--- the pool, with its splits and merges counted from 0 on again
-abbrev pub uncounted : PoolState → PoolState
-uncounted pool = record pool { splits = 0; merges = 0 }
 
 -- only entries have a stamp
 abbrev pub OnlyEntriesStamped : MeshState → Type 0

@@ -15,7 +15,7 @@ ghost use Rattle.deferred_loop.specs.Seen.{HasRoom, IsCountedBy};
 ghost use Rattle.deferred_loop.specs.Log.{IsFrameLog};
 ghost use Rattle.deferred_loop.specs.Choice.{IsSparing};
 ghost use Rattle.deferred_loop.specs.Promise.{IsAtMost, IsAtLeast, AreStampsGood};
-ghost use Rattle.roam_mesh.specs.Mesh.{stamp_of, pool_members, pool_set, seen_of, with_expired, uncounted};
+ghost use Rattle.roam_mesh.specs.Mesh.{stamp_of, pool_members, pool_set, seen_of, with_expired};
 ghost use Rattle.roam_mesh.specs.Mesh.{OnlyEntriesStamped};
 ghost use Rattle.roam_mesh.specs.Chosen.{SparesChosen};
 
@@ -105,13 +105,6 @@ impl Mesh {
         ensures log { self.new.log ≡ self.old.log }
     {
         self.queued.parts.expire(s);
-    }
-
-    /// Counts splits and merges from 0 on again. The triangles and their stamps stay.
-    pub fn restart_counts(&mut self)
-        ensures { self.new ≡ record self.old { pool = uncounted self.old.pool } }
-    {
-        self.queued.parts.pool.restart_counts();
     }
 
     /// The triangles that the last frame split or merged, in the order of its steps. Each that is split now and was

@@ -365,14 +365,6 @@ impl Pool {
     {
         self.merges
     }
-
-    /// Counts splits and merges from 0 on again. The triangles stay.
-    pub fn restart_counts(&mut self)
-        ensures { self.new ≡ record self.old { splits = 0; merges = 0 } }
-    {
-        self.splits = 0;
-        self.merges = 0;
-    }
 }
 
 /// The slot of a link, if there is one.

@@ -1,4 +1,4 @@
-use Rattle.std.proofs.Common.{◌≡◌, ◌<◌, ◌↔◌, IsNone, IfSome, All, Contains, sym, ◌∙◌, ap, subst}
+use Rattle.std.proofs.Common.{◌≡◌, ◌+◌, ◌<◌, ◌↔◌, IsNone, IfSome, All, Contains, sym, ◌∙◌, ap, subst}
 use Rattle.std.proofs.lemmas.Option.{same_Some}
 use Rattle.mesh_defs.specs.ClosedSet.{leaves_of, among}
 use Rattle.mesh_defs.specs.GridSet.{IsGridSet}
@@ -9,7 +9,7 @@ use Rattle.roam_mesh.specs.Mesh.{pool_members}
 use Rattle.roam_mesh.specs.Chosen.{SparesChosen}
 use Rattle.leaf_list.specs.Change.{IsChange}
 use Rattle.leaf_list.specs.List.{ListState}
-use Rattle.frame_loop.specs.Changes.{changes_of, AreChangesOf}
+use Rattle.frame_loop.specs.Changes.{no_changes, changes_of, AreChangesOf}
 use Rattle.frame_loop.proofs.PoolLemmas.{members_leaves_at}
 use Rattle.frame_loop.specs.Engine.{EngineState, IsStill, engine_of, mesh_seen}
 use Rattle.frame_loop.specs.declared.note.FrameNote.{FrameNote}
@@ -28,7 +28,7 @@ invariant_of-self c =
       c.self.invariant.3,
       c.self.invariant.4,
       c.self.invariant.5,
-      λ note is. still_on e note (c.self.invariant.6 note is),
+      λ note is. still_on e (e.frames + 1) no_changes note (c.self.invariant.6 note is),
     )
 
 pub returns-in-Some-clause-done : goal.returns-in-Some-clause-done
