@@ -2,7 +2,7 @@
 use Rattle.std.proofs.Common.{◌≡◌, ℕ, ◌<◌, ◌≤◌, ◌⊎◌, ◌&&◌, ◌||◌, inl, inr, Bool, true, false, cond, nat_eq, nat_le}
 use Rattle.std.proofs.Common.{nat_lt, List, get_or, Option, Some, None, refl, sym, ◌∙◌, ap, ap₂, subst, arith, ⊎_elim}
 use Rattle.std.proofs.lemmas.Bool.{cases_lt, cases_order, lt-ltb, le-ltb, le-leb, lt-leb, eq-eqb, ne_eqb, eqb-true}
-use Rattle.std.proofs.lemmas.Bool.{or_parts, both_ways, true≢false, cond-true, cond-false, or_left, or_right, or_from}
+use Rattle.std.proofs.lemmas.Bool.{both_ways, true≢false, cond-true, cond-false, or_left, or_right, or_from}
 use Rattle.std.proofs.lemmas.Bool.{and_from, and_left, and_right}
 use Rattle.std.proofs.lemmas.List.{get_or_read}
 use Rattle.mesh_defs.specs.Ranking.{IsBefore}
