@@ -1,7 +1,7 @@
 //! What counters stay within, so that none of 64 bits overflows.
 
-/// The longest way of a camera, the sum of its moves, until its engine is renewed: so a deadline, which is a way that
-/// is farther by at most a slack, fits 64 bits.
+/// The longest way of a camera, the sum of its moves: so a deadline, which is a way that is farther by at most a slack,
+/// fits 64 bits.
 pub const LONGEST_WAY: u64 = 1 << 62;
 
 /// The count of a pool's splits is below this where one more is made, and so is that of its merges.

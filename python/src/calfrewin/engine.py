@@ -30,7 +30,7 @@ NO_MEMORY, TOO_MANY_PLANES, WORN, IS_EMPTY = 1, 7, 10, 12
 
 
 class Worn(RuntimeError):
-    """The engine has made 1,000,000 frames, or its camera has gone 2^61 units: call renew()."""
+    """The engine has made 1,000,000 frames: call renew(); or its camera has gone 2^61 units."""
 
 
 class Note(NamedTuple):
@@ -248,7 +248,7 @@ class Engine:
         self._call("clear_planes")
 
     def renew(self) -> None:
-        """Lets frames, evaluations and the way of the camera count from 0 on again, so that the engine goes on for ever.
+        """Lets frames count from 0 on again, for an engine that has made 1,000,000. All else stays, the other counts too.
 
         >>> engine = Engine([[0] * 3] * 3, 2)
         >>> note = engine.frame(); engine.renew(); engine.state().frames

@@ -63,7 +63,7 @@ class Flight:
             self.planes = planes
         try:
             note = engine.frame()
-        except Worn:  # its counts begin again, and the mesh goes on
+        except Worn:  # its frames are counted from 0 on again, and the mesh goes on
             engine.renew()
             note = engine.frame()
         made = time.perf_counter()
