@@ -253,10 +253,18 @@ impl Engine {
         MeshView {
             wedges: &self.outlook.wedges,
             leaves: self.list.leaves(),
-            numbers: &self.numbers,
+            numbers: self.numbers.numbers(),
             spacing: self.outlook.spacing,
             planes: &self.outlook.planes,
         }
+    }
+
+    /// The table of the numbers of the view.
+    pub fn table(&self) -> &VertexTable
+        ensures { result.now ≡ numbers_of self.now.state.grid.n (mesh_seen self.now) }
+    {
+        let _pool = self.mesh.pool();
+        &self.numbers
     }
 }
 

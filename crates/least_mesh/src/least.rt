@@ -175,7 +175,14 @@ impl Least {
     }
 
     /// The numbers of the vertices of the mesh.
-    pub fn numbers(&self) -> &VertexTable
+    pub fn numbers(&self) -> &[u32]
+        ensures value { result.now ≡ numbers_of self.now.n self.now.leaves }
+    {
+        self.numbers.numbers()
+    }
+
+    /// The table of these numbers.
+    pub fn table(&self) -> &VertexTable
         ensures value { result.now ≡ numbers_of self.now.n self.now.leaves }
     {
         &self.numbers

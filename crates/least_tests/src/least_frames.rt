@@ -34,7 +34,6 @@ fn has_mesh(least: &Least, want: &[u32], vertices: u32) -> bool {
         .all(|(leaf, number)| leaf.number() == *number);
     let numbered = least
         .numbers()
-        .numbers()
         .iter()
         .filter(|number| **number != 0)
         .count();

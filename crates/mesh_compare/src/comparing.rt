@@ -17,7 +17,7 @@ use crate::window::Window;
 use arrayvec::ArrayVec;
 use bintree_addr::Tri;
 use cull_marks::Planes;
-use obj_write::{LONGEST_PIECE, MeshLines, MeshView, VertexTable};
+use obj_write::{LONGEST_PIECE, MeshLines, MeshView, SparseView, VertexTable};
 use roam_edge::{Failed, NoMemory, Shelf};
 use std::alloc::Global;
 use thiserror::Error;
@@ -70,18 +70,19 @@ pub fn compare<F: Shelf>(
     ensures in_time { IsInTime (F.late shelf.old) (F.faults shelf.old) (F.late shelf.new) }
 {
     let n = w.grid().n();
-    let Ok((mut window, mut numbers)) = room(alloc, n) else {
+    let Ok((mut window, mut table)) = room(alloc, n) else {
         return Err(CompareFault::NoMemory);
     };
-    numbers.number(leaves, n);
+    table.number(leaves, n);
     let planes = Planes::none();
-    let lines = MeshLines::new(MeshView {
+    let mesh = MeshView {
         wedges: w,
         leaves,
-        numbers: &numbers,
+        numbers: table.numbers(),
         spacing,
         planes: &planes,
-    });
+    };
+    let lines = MeshLines::new(SparseView::by_table(mesh, &table));
     match compare_lines(lines, &mut window, shelf) {
         Ok(found) => Ok(found),
         Err(Failed) => Err(CompareFault::Failed),

@@ -4,12 +4,10 @@ use Rattle.std.proofs.Common.{length, set, refl, sym, ◌∙◌, ap, subst, arit
 use Rattle.std.proofs.lemmas.List.{set-append_right}
 use Rattle.std.proofs.lemmas.List.Elements.{All-set}
 use Rattle.std.proofs.Math.Pow.{pow_mono}
-use Rattle.mesh_defs.specs.declared.point.Point.{Point}
 use Rattle.mesh_defs.specs.HeightField.{side_of}
 use Rattle.mesh_defs.specs.Triangle.{corners_of, child, level_of, midpoint}
 use Rattle.bintree_laws.proofs.CornerLemmas.{corners_of-left, corners_of-right, IsWithin-corners_of}
 use Rattle.bintree_laws.proofs.LatticeLemmas.{HasEvenBase-corners_of}
-use Rattle.obj_write.specs.declared.faces.Corner.{Corner}
 use Rattle.obj_write.specs.declared.faces.Face.{Face}
 use Rattle.obj_write.specs.Faces.{IsCornerAt, IsFace, AreFaces}
 use Rattle.obj_write.specs.VertexMarks.{grid_place}

@@ -1,6 +1,6 @@
 //! A mesh as plain numbers in a caller's arrays.
 
-ghost use Rattle.std.specs.Prelude.{◌≡◌, ◌+◌, ◌*◌, ◌^◌, ◌<◌, ◌≤◌, ◌++◌, true, All, length, take, drop};
+ghost use Rattle.std.specs.Prelude.{◌≡◌, ◌+◌, ◌*◌, ◌^◌, ◌<◌, ◌≤◌, ◌++◌, true, All, IfSome, length, take, drop};
 ghost use Rattle.mesh_defs.specs.HeightField.{side_of};
 ghost use Rattle.mesh_defs.specs.Triangle.{level_of, corners_of};
 ghost use Rattle.mesh_defs.specs.MeshText.{vertices_of};
@@ -9,10 +9,13 @@ ghost use Rattle.bintree_laws.specs.Corners.{IsInSquare};
 ghost use Rattle.wedgie_tree.specs.declared.wedges.TheConstants.{GREATEST_SPACING};
 ghost use Rattle.obj_write.specs.Numbers.{numbers_of};
 ghost use Rattle.obj_write.specs.MeshView.{IsView, IsShown};
+ghost use Rattle.obj_write.specs.Table.{AreFlagged};
 ghost use Rattle.obj_write.specs.VertexMarks.{place_point, is_vertex};
 ghost use Rattle.obj_write.specs.Arrays.{position_of, positions_of, vertex_place, places_at, places_of};
 
 use crate::mesh::MeshView;
+use crate::scan::first_from;
+use crate::sparse::SparseView;
 use crate::vertices::place;
 use bintree_addr::{Point, Tri};
 use pgm_grid::side_for;
@@ -22,7 +25,7 @@ use pgm_grid::side_for;
 /// They are the numbers of its `v` line: x and y in world units, z in units of height.
 /// Cost (not proved): a look at one flag in 64 places, a step for each sixteen places where a flag is set, and a few
 /// for each vertex. Takes no memory.
-pub fn write_positions(view: &MeshView<'_>, out: &mut [u32])
+pub fn write_positions(view: &SparseView<'_>, out: &mut [u32])
     requires levels { All (λ a. level_of a ≤ 2 * view.now.wedges.now.n) view.now.leaves.now }
     requires numbers { view.now.numbers.now ≡ numbers_of view.now.wedges.now.n view.now.leaves.now }
     requires spacing_low { 1 ≤ view.now.spacing }
@@ -32,13 +35,25 @@ pub fn write_positions(view: &MeshView<'_>, out: &mut [u32])
         out.new ≡ positions_of grid.n grid.heights view.now.spacing view.now.leaves.now
         ++ drop (3 * length (vertices_of grid.n view.now.leaves.now)) out.old }
 {
+    write_all_positions(&view.mesh, view.used, out);
+}
+
+/// The same of the parts of a view.
+fn write_all_positions(view: &MeshView<'_>, used: Option<&[bool]>, out: &mut [u32])
+    requires view { IsView view.now }
+    requires flagged { IfSome used (λ used. AreFlagged view.now.numbers.now used.now) }
+    requires room { 3 * length (vertices_of view.now.wedges.now.n view.now.leaves.now) ≤ length out.old }
+    ensures { let grid = view.now.wedges.now in
+        out.new ≡ positions_of grid.n grid.heights view.now.spacing view.now.leaves.now
+        ++ drop (3 * length (vertices_of grid.n view.now.leaves.now)) out.old }
+{
     let numbers = view.numbers;
     let mut at = 0;
-    let mut k = numbers.first_from(0);
-    while k < numbers.places() {
+    let mut k = first_from(numbers, used, 0);
+    while k < numbers.len() {
         write_position(view, k, out, at);
         at += 3;
-        k = numbers.first_from(k + 1);
+        k = first_from(numbers, used, k + 1);
     }
 }
 
@@ -130,5 +145,5 @@ fn vertex_at(view: &MeshView<'_>, vertex: Point) -> u32
     ensures { result ≡ vertex_place (vertices_of view.now.wedges.now.n view.now.leaves.now) vertex }
 {
     let place = place(view.wedges.grid().n(), vertex);
-    view.numbers.number_at(place) - 1
+    view.numbers[place] - 1
 }

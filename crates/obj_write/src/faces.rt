@@ -11,7 +11,6 @@ ghost use Rattle.obj_write.specs.Faces.{IsCornerAt, IsFace, AreFaces, IsKnown};
 ghost use Rattle.obj_write.specs.declared.faces.TheConstants.{LEVELS};
 
 use crate::field::{Field, field_of};
-use crate::table::VertexTable;
 use crate::vertices::place;
 use bintree_addr::{Point, Tri};
 
@@ -36,7 +35,7 @@ pub(crate) struct Face {
 }
 
 /// Faces before any triangle was asked for: each is a half of the square.
-pub(crate) fn first_faces(numbers: &VertexTable, n: u32) -> [Face; LEVELS]
+pub(crate) fn first_faces(numbers: &[u32], n: u32) -> [Face; LEVELS]
     requires in_grid { (1 ≤ n) × (n ≤ GREATEST_LEVEL) }
     requires places { length numbers.now ≡ side_of n * side_of n }
     ensures count { length result ≡ LEVELS }
@@ -47,7 +46,7 @@ pub(crate) fn first_faces(numbers: &VertexTable, n: u32) -> [Face; LEVELS]
 }
 
 /// The face of a half of the square.
-pub(crate) fn half_face(numbers: &VertexTable, n: u32, half: Tri) -> Face
+pub(crate) fn half_face(numbers: &[u32], n: u32, half: Tri) -> Face
     requires in_grid { (1 ≤ n) × (n ≤ GREATEST_LEVEL) }
     requires half { half < 4 }
     requires places { length numbers.now ≡ side_of n * side_of n }
@@ -67,7 +66,7 @@ pub(crate) fn half_face(numbers: &VertexTable, n: u32, half: Tri) -> Face
 }
 
 /// The place of a point, and the field of its number.
-fn corner_at(numbers: &VertexTable, n: u32, point: Point) -> Corner
+fn corner_at(numbers: &[u32], n: u32, point: Point) -> Corner
     requires in_grid { n ≤ GREATEST_LEVEL }
     requires within { IsInSquare (2 ^ n) point }
     requires places { length numbers.now ≡ side_of n * side_of n }
@@ -78,20 +77,20 @@ fn corner_at(numbers: &VertexTable, n: u32, point: Point) -> Corner
 
 /// A place, and the field of its number.
 #[inline(always)]
-fn corner_of(numbers: &VertexTable, place: usize) -> Corner
+fn corner_of(numbers: &[u32], place: usize) -> Corner
     requires below { place < length numbers.now }
     ensures place { result.place ≡ place }
     ensures field { IsFieldOf result.field (slice_index numbers.now place) }
 {
     Corner {
-        field: field_of(numbers.number_at(place)),
+        field: field_of(numbers[place]),
         place,
     }
 }
 
 /// The midpoint of the base of a triangle, whose ends these are: its place is half the sum of theirs.
 #[inline(always)]
-fn corner_between(numbers: &VertexTable, n: u32, t: Tri, v0: &Corner, v1: &Corner) -> Corner
+fn corner_between(numbers: &[u32], n: u32, t: Tri, v0: &Corner, v1: &Corner) -> Corner
     requires in_grid { (1 ≤ n) × (n ≤ GREATEST_LEVEL) }
     requires splittable { level_of t < 2 * n }
     requires places { length numbers.now ≡ side_of n * side_of n }
@@ -111,7 +110,7 @@ fn corner_between(numbers: &VertexTable, n: u32, t: Tri, v0: &Corner, v1: &Corne
 /// For the parents of triangles in depth-first order these are one for each of them, by and large.
 #[cycle(known)]
 #[inline(always)]
-pub(crate) fn make_known(faces: &mut [Face], numbers: &VertexTable, n: u32, t: Tri)
+pub(crate) fn make_known(faces: &mut [Face], numbers: &[u32], n: u32, t: Tri)
     requires in_grid { (1 ≤ n) × (n ≤ GREATEST_LEVEL) }
     requires splittable { level_of t < 2 * n }
     requires places { length numbers.now ≡ side_of n * side_of n }
@@ -128,7 +127,7 @@ pub(crate) fn make_known(faces: &mut [Face], numbers: &VertexTable, n: u32, t: T
 
 /// Puts the face of a triangle to its level, in the place of another one's.
 #[cycle(known)]
-fn renew_face(faces: &mut [Face], numbers: &VertexTable, n: u32, t: Tri)
+fn renew_face(faces: &mut [Face], numbers: &[u32], n: u32, t: Tri)
     requires in_grid { (1 ≤ n) × (n ≤ GREATEST_LEVEL) }
     requires splittable { level_of t < 2 * n }
     requires places { length numbers.now ≡ side_of n * side_of n }
@@ -152,7 +151,7 @@ fn renew_face(faces: &mut [Face], numbers: &VertexTable, n: u32, t: Tri)
 /// Puts the face of a half of the square to its level.
 #[cold]
 #[inline(never)]
-fn renew_half(faces: &mut [Face], numbers: &VertexTable, n: u32, half: Tri)
+fn renew_half(faces: &mut [Face], numbers: &[u32], n: u32, half: Tri)
     requires in_grid { (1 ≤ n) × (n ≤ GREATEST_LEVEL) }
     requires half { half < 4 }
     requires places { length numbers.now ≡ side_of n * side_of n }
@@ -169,7 +168,7 @@ fn renew_half(faces: &mut [Face], numbers: &VertexTable, n: u32, half: Tri)
 ///
 /// It is written in its place, since a copy of it waits for the writes before.
 #[inline(always)]
-fn put_child(face: &mut Face, numbers: &VertexTable, n: u32, parent: &Face, t: Tri)
+fn put_child(face: &mut Face, numbers: &[u32], n: u32, parent: &Face, t: Tri)
     requires in_grid { (1 ≤ n) × (n ≤ GREATEST_LEVEL) }
     requires splittable { level_of t < 2 * n }
     requires child { 4 ≤ t }

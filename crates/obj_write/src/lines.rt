@@ -1,6 +1,6 @@
 //! The lines of a mesh, one after another.
 
-ghost use Rattle.std.specs.Prelude.{◌≡◌, ℕ, ◌+◌, ◌*◌, ◌^◌, ◌<◌, ◌≤◌, ◌++◌, [], Some, true, false, All, length};
+ghost use Rattle.std.specs.Prelude.{◌≡◌, ℕ, ◌+◌, ◌*◌, ◌^◌, ◌<◌, ◌≤◌, ◌++◌, [], Some, true, false, All, length, IfSome};
 ghost use Rattle.arrayvec.specs.ArrayVec.{array_vec_len};
 ghost use Rattle.mesh_defs.specs.Triangle.{level_of, corners_of};
 ghost use Rattle.mesh_defs.specs.MeshText.{face_line, group_line, is_mark_before, triangle_mark, vertices_of};
@@ -9,6 +9,7 @@ ghost use Rattle.obj_write.specs.Numbers.{numbers_of};
 ghost use Rattle.obj_write.specs.MeshView.{view_text, IsView, IsShown, group_text};
 ghost use Rattle.obj_write.specs.LinesLeft.{face_text};
 ghost use Rattle.obj_write.specs.Faces.{AreFaces};
+ghost use Rattle.obj_write.specs.Table.{AreFlagged};
 ghost use Rattle.obj_write.specs.declared.faces.TheConstants.{LEVELS};
 ghost use Rattle.obj_write.specs.declared.lines.TheConstants.{LONGEST_LINE, LONGEST_GROUP, LONGEST_PIECE};
 
@@ -16,6 +17,8 @@ use crate::faces::{Face, LEVELS, base_of, first_faces, half_face, make_known};
 use crate::mesh::MeshView;
 use crate::page::Page;
 use crate::row::{Row, first_row, put_vertex};
+use crate::scan::first_from;
+use crate::sparse::SparseView;
 use arrayvec::ArrayVec;
 use bintree_addr::Tri;
 use mesh_defs::Mark;
@@ -37,6 +40,8 @@ pub const LONGEST_PIECE: usize = LONGEST_GROUP + LONGEST_LINE;
 #[derive(Drop)]
 pub struct MeshLines<'a> {
     view: MeshView<'a>,
+    /// For each block of places whether a number may stand there, where it is known.
+    used: Option<&'a [bool]>,
     /// The place from which on vertices are to come.
     place: usize,
     /// The row of the vertex that came last.
@@ -50,11 +55,12 @@ pub struct MeshLines<'a> {
 }
 
 impl<'a> Model for MeshLines<'a> {
-    ghost use Rattle.std.specs.Prelude.{◌+◌, ◌-◌, ◌≤◌, ◌++◌, length};
+    ghost use Rattle.std.specs.Prelude.{◌+◌, ◌-◌, ◌≤◌, ◌++◌, length, IfSome};
     ghost use Rattle.obj_write.specs.MeshView.{IsView};
     ghost use Rattle.obj_write.specs.LinesLeft.{LinesLeft, vertex_text, face_text};
     ghost use Rattle.obj_write.specs.Faces.{AreFaces};
     ghost use Rattle.obj_write.specs.Row.{IsRow};
+    ghost use Rattle.obj_write.specs.Table.{AreFlagged};
 
     ghost Value = { LinesLeft };
 
@@ -65,12 +71,13 @@ impl<'a> Model for MeshLines<'a> {
 
     ghost invariant = { λ l. IsView l.view × (l.place ≤ length l.view.numbers.now) × (l.face ≤ length l.view.leaves.now)
         × IsRow l.view.wedges.now.n l.view.spacing l.row × (l.row.start ≤ l.place)
-        × AreFaces l.view.wedges.now.n l.view.numbers.now l.faces };
+        × AreFaces l.view.wedges.now.n l.view.numbers.now l.faces
+        × IfSome l.used (λ used. AreFlagged l.view.numbers.now used.now) };
 }
 
 impl<'a> MeshLines<'a> {
     /// All lines of a mesh.
-    pub fn new(view: MeshView<'a>) -> MeshLines<'a>
+    pub fn new(view: SparseView<'a>) -> MeshLines<'a>
         requires levels { All (λ a. level_of a ≤ 2 * view.wedges.now.n) view.leaves.now }
         requires numbers { view.numbers.now ≡ numbers_of view.wedges.now.n view.leaves.now }
         requires spacing_low { 1 ≤ view.spacing }
@@ -78,9 +85,21 @@ impl<'a> MeshLines<'a> {
         ensures text { result.text ≡ view_text view.entry }
         ensures most { result.most ≡ length view.entry.numbers.now + length view.entry.leaves.now }
     {
+        let SparseView { mesh, used } = view;
+        MeshLines::of(mesh, used)
+    }
+
+    /// The same of the parts of a view.
+    fn of(view: MeshView<'a>, used: Option<&'a [bool]>) -> MeshLines<'a>
+        requires view { IsView view }
+        requires flagged { IfSome used (λ used. AreFlagged view.numbers.now used.now) }
+        ensures text { result.text ≡ view_text view.entry }
+        ensures most { result.most ≡ length view.entry.numbers.now + length view.entry.leaves.now }
+    {
         let faces = first_faces(view.numbers, view.wedges.grid().n());
         MeshLines {
             view,
+            used,
             place: 0,
             row: first_row(),
             face: 0,
@@ -92,8 +111,8 @@ impl<'a> MeshLines<'a> {
     /// Appends the next line to a text that has room for the longest, a face line with the group line before it.
     ///
     /// The answer is whether there was one. Takes no memory.
-    /// Cost (not proved): for the vertices altogether that of `VertexTable::first_from`; for a triangle a step a
-    /// level and a plane.
+    /// Cost (not proved): for the vertices altogether a look at the flag of each block that is passed, where there is
+    /// a table, and a step for each sixteen places of the others; for a triangle a step a level and a plane.
     pub fn push_next<const ROOM: usize>(&mut self, page: &mut ArrayVec<u8, ROOM>) -> bool
         requires room { array_vec_len page.old + LONGEST_PIECE ≤ ROOM }
         ensures text { page.new.items ++ self.new.text ≡ page.old.items ++ self.old.text }
@@ -116,8 +135,9 @@ impl<'a> MeshLines<'a> {
         ensures fewer { result ≡ true → self.new.most < self.old.most }
         ensures ended { result ≡ false → (self.old.text ≡ []) × (self.new.text ≡ []) }
     {
-        self.place = self.view.numbers.first_from(self.place);
-        if self.place < self.view.numbers.places() {
+        self.place = first_from(self.view.numbers, self.used, self.place);
+        let places = self.view.numbers.len();
+        if self.place < places {
             put_vertex(&self.view, &mut self.row, self.place, page);
             self.place += 1;
             return true;

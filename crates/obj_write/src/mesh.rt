@@ -14,7 +14,7 @@ ghost use Rattle.obj_write.specs.MeshView.{view_text, IsView};
 
 use crate::lines::MeshLines;
 use crate::page::{PAGE_ROOM, Page, make_room, write_rest};
-use crate::table::VertexTable;
+use crate::sparse::SparseView;
 use bintree_addr::Tri;
 use cull_marks::Planes;
 use roam_edge::{Failed, MeshSink};
@@ -27,8 +27,8 @@ pub struct MeshView<'a> {
     pub wedges: &'a Wedges,
     /// The triangles, in the order of their faces.
     pub leaves: &'a [Tri],
-    /// The numbers of their vertices, as `VertexTable::number` gives them.
-    pub numbers: &'a VertexTable,
+    /// The numbers of their vertices, as `number_vertices` gives them.
+    pub numbers: &'a [u32],
     /// How many world units a grid step has.
     pub spacing: u32,
     /// The view planes in force.
@@ -39,11 +39,45 @@ pub struct MeshView<'a> {
 ///
 /// The sink gets the text in pieces of at least 8 KiB, but for the last. After a failed call the mesh holds
 /// a prefix of its text, and stays unfinished and under way; where it could not be begun, nothing has changed.
-/// Cost (not proved): a look at one flag in 64 places, a step for each sixteen places where a flag is set, and a few
-/// steps a level and a plane for each leaf.
+/// It is `write_sparse` of a mesh of which no table is there.
+/// Cost (not proved): a step for each sixteen places, and a few steps a level and a plane for each leaf.
 /// Source: the Wavefront object file format, the lines v, f and g.
 pub fn write_mesh<M: MeshSink>(
     view: &MeshView<'_>,
+    prefix: &str,
+    number: u32,
+    out: &mut M,
+) -> Result<(), Failed>
+    requires levels { All (λ a. level_of a ≤ 2 * view.now.wedges.now.n) view.now.leaves.now }
+    requires numbers { view.now.numbers.now ≡ numbers_of view.now.wedges.now.n view.now.leaves.now }
+    requires spacing_low { 1 ≤ view.now.spacing }
+    requires spacing_high { view.now.spacing ≤ GREATEST_SPACING }
+    requires idle { M.under_way out.old ≡ false }
+    requires prefix_some { 0 < length prefix.now }
+    requires prefix_short { length prefix.now ≤ LONGEST_PREFIX }
+    requires number_low { 1 ≤ number }
+    requires number_high { number ≤ GREATEST_NUMBER }
+    ensures ok { OnOk result (Grows (M.meshes out.old) (M.meshes out.new)
+        (mesh_with prefix.now number (view_text view.now) true ∷ [])) }
+    ensures idle { OnOk result (M.under_way out.new ≡ false) }
+    ensures err { OnErr result ((all : List WrittenMesh) → M.meshes out.old ≡ Some all → (part : List WrittenMesh)
+        × IsPartOfMesh prefix.now number (view_text view.now) part × (M.meshes out.new ≡ Some (all ++ part))) }
+    // After a failed call a mesh is under way exactly where it was begun: no mesh came, or an unfinished one.
+    ensures not_begun { OnErr result (M.under_way out.new ≡ false → M.meshes out.new ≡ M.meshes out.old) }
+    ensures begun { OnErr result (M.under_way out.new ≡ true → GrowsByPart (M.meshes out.old) (M.meshes out.new)
+        prefix.now number (view_text view.now)) }
+    ensures faults { HasCause (M.faults out.old) (M.faults out.new) result }
+    ensures in_time { IsInTime (M.late out.old) (M.faults out.old) (M.late out.new) }
+{
+    write_sparse(&SparseView::new(*view), prefix, number, out)
+}
+
+/// The same of a mesh with a table.
+///
+/// Cost (not proved): a look at one flag in 64 places, a step for each sixteen places where a flag is set, and a few
+/// steps a level and a plane for each leaf.
+pub fn write_sparse<M: MeshSink>(
+    view: &SparseView<'_>,
     prefix: &str,
     number: u32,
     out: &mut M,
@@ -78,7 +112,7 @@ pub fn write_mesh<M: MeshSink>(
 
 /// Writes the lines of the mesh.
 fn write_lines<M: MeshSink>(
-    view: &MeshView<'_>,
+    view: &SparseView<'_>,
     page: &mut Page<PAGE_ROOM>,
     out: &mut M,
 ) -> Result<(), Failed>
@@ -92,7 +126,7 @@ fn write_lines<M: MeshSink>(
     ensures faults { HasCause (M.faults out.old) (M.faults out.new) result }
     ensures in_time { IsInTime (M.late out.old) (M.faults out.old) (M.late out.new) }
 {
-    let mut lines = MeshLines::new(*view);
+    let mut lines = MeshLines::new(view.copy());
     make_room(page, out)?;
     'lines: while lines.put_next(page) {
         make_room(page, out)?;

@@ -1,6 +1,6 @@
 //! The next place at which a number stands.
 
-ghost use Rattle.std.specs.Prelude.{◌≡◌, ℕ, ◌+◌, ◌<◌, ◌≤◌, length, slice_index};
+ghost use Rattle.std.specs.Prelude.{◌≡◌, ℕ, ◌+◌, ◌<◌, ◌≤◌, length, slice_index, IfSome};
 ghost use Rattle.obj_write.specs.Scan.{IsClear, IsFirstIn, first_set};
 ghost use Rattle.obj_write.specs.Table.{AreFlagged};
 ghost use Rattle.obj_write.specs.declared.scan.TheConstants.{LANES};
@@ -11,12 +11,41 @@ use std::simd::prelude::*;
 /// How many places are looked at together.
 const LANES: usize = 16;
 
-/// The first place from this one on with a number other than 0, or the number of places. A block whose flag is not
-/// set is not looked at.
+/// The first place from this one on with a number other than 0, or the number of places. Where flags are there, a block
+/// whose flag is not set is not looked at.
 ///
-/// Cost (not proved): a step for each block that is passed, and one for each sixteen places of those whose flag is set.
+/// Cost (not proved): a step for each block that is passed, and one for each sixteen places of those whose flag is set,
+/// or of all.
 #[inline(always)]
-pub(crate) fn first_numbered(numbers: &[u32], used: &[bool], from: usize) -> usize
+pub(crate) fn first_from(numbers: &[u32], used: Option<&[bool]>, from: usize) -> usize
+    requires flagged { IfSome used (λ used. AreFlagged numbers.now used.now) }
+    requires from { from ≤ length numbers.now }
+    ensures later { from ≤ result }
+    ensures within { result ≤ length numbers.now }
+    ensures clear { IsClear numbers.now from result }
+    ensures number { result < length numbers.now → slice_index numbers.now result ≡ 0 → ⊥ }
+{
+    match used {
+        Some(used) => first_numbered(numbers, used, from),
+        None => first_of_all(numbers, from),
+    }
+}
+
+/// The same where no flags are there.
+#[inline(never)]
+fn first_of_all(numbers: &[u32], from: usize) -> usize
+    requires from { from ≤ length numbers.now }
+    ensures later { from ≤ result }
+    ensures within { result ≤ length numbers.now }
+    ensures clear { IsClear numbers.now from result }
+    ensures number { result < length numbers.now → slice_index numbers.now result ≡ 0 → ⊥ }
+{
+    first_before(numbers, from, numbers.len())
+}
+
+/// The same with flags.
+#[inline(always)]
+fn first_numbered(numbers: &[u32], used: &[bool], from: usize) -> usize
     requires flagged { AreFlagged numbers.now used.now }
     requires from { from ≤ length numbers.now }
     ensures later { from ≤ result }

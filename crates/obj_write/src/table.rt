@@ -9,10 +9,8 @@ ghost use Rattle.bintree_laws.specs.Corners.{IsInSquare};
 ghost use Rattle.mesh_defs.specs.declared.level.TheConstants.{GREATEST_LEVEL};
 ghost use Rattle.obj_write.specs.Numbers.{numbers_of};
 ghost use Rattle.obj_write.specs.VertexMarks.{grid_place, vertex_marks, numbered, marked};
-ghost use Rattle.obj_write.specs.Scan.{IsClear};
 ghost use Rattle.obj_write.specs.Table.{AreFlagged, IsCounted, block_end};
 
-use crate::scan::first_numbered;
 use crate::vertices::place;
 use crate::walk::{corners_on_the_way, first_steps};
 use bintree_addr::{Point, Tri};
@@ -64,35 +62,6 @@ impl VertexTable {
         ensures { result.now ≡ self.now }
     {
         &self.numbers
-    }
-
-    /// How many grid points there are.
-    #[inline(always)]
-    pub(crate) fn places(&self) -> usize
-        ensures { result ≡ length self.now }
-    {
-        self.numbers.len()
-    }
-
-    /// The number at a place, or 0.
-    #[inline(always)]
-    pub(crate) fn number_at(&self, place: usize) -> u32
-        requires { place < length self.now }
-        ensures { result ≡ slice_index self.now place }
-    {
-        self.numbers[place]
-    }
-
-    /// The first place from this one on with a number other than 0, or the number of places.
-    #[inline(always)]
-    pub(crate) fn first_from(&self, from: usize) -> usize
-        requires from { from ≤ length self.now }
-        ensures later { from ≤ result }
-        ensures within { result ≤ length self.now }
-        ensures clear { IsClear self.now from result }
-        ensures number { result < length self.now → slice_index self.now result ≡ 0 → ⊥ }
-    {
-        first_numbered(&self.numbers, &self.used, from)
     }
 
     /// Gives each vertex of the leaves its number, counted from 1, and answers how many there are.

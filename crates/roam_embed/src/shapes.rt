@@ -10,7 +10,7 @@ use crate::notes::Deviation;
 use frame_loop::{Engine, NoMemory, Tri};
 use mesh_arrays::write_indices;
 use mesh_measure::deviation;
-use obj_write::{write_places, write_positions};
+use obj_write::{SparseView, write_places, write_positions};
 use std::alloc::Global;
 use strip_order::strip;
 
@@ -27,7 +27,7 @@ pub fn tell_positions(engine: &Engine, out: &mut [u32], vertices: &mut usize) ->
     if out.len() / 3 < count {
         return Answer::NoRoom;
     }
-    write_positions(&engine.view(), out);
+    write_positions(&SparseView::by_table(engine.view(), engine.table()), out);
     *vertices = count;
     Answer::Done
 }

@@ -15,6 +15,7 @@ use crate::report::frame_report;
 use crate::shows::{write_measure, write_strip};
 use bintree_addr::Tri;
 use frame_loop::{Engine, FrameNote};
+use obj_write::SparseView;
 use roam_edge::Failed;
 use run_files::{Outside, show_mesh};
 use run_words::Showing;
@@ -64,7 +65,7 @@ fn write_frame<O: Outside>(
 {
     let line = frame_report(engine, note);
     show_mesh(
-        &engine.view(),
+        &SparseView::by_table(engine.view(), engine.table()),
         prefix,
         engine.frames(),
         line.as_slice(),

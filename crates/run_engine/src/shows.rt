@@ -21,7 +21,7 @@ use arrayvec::ArrayVec;
 use bintree_addr::Tri;
 use frame_loop::Engine;
 use mesh_measure::{deviation, thickest};
-use obj_write::MeshView;
+use obj_write::{MeshView, SparseView};
 use roam_edge::Failed;
 use roam_num::push_bytes;
 use run_files::{Outside, Text, push_placed, show_mesh};
@@ -90,7 +90,7 @@ fn write_order<O: Outside>(
 }
 
 /// The mesh of an engine, with its triangles in the order of their strip.
-fn in_order<'a>(engine: &'a Engine, order: &'a [Tri]) -> MeshView<'a>
+fn in_order<'a>(engine: &'a Engine, order: &'a [Tri]) -> SparseView<'a>
     requires order { order.now ≡ strip_of engine.now.state.grid.n (is_split engine.now) }
     ensures leaves { result.leaves.now ≡ order.now }
     ensures wedges { result.wedges.now ≡ engine.now.state.grid }
@@ -102,13 +102,14 @@ fn in_order<'a>(engine: &'a Engine, order: &'a [Tri]) -> MeshView<'a>
     ensures spacing_high { result.spacing ≤ GREATEST_SPACING }
 {
     let view = engine.view();
-    MeshView {
+    let mesh = MeshView {
         wedges: view.wedges,
         leaves: order,
         numbers: view.numbers,
         spacing: view.spacing,
         planes: view.planes,
-    }
+    };
+    SparseView::by_table(mesh, engine.table())
 }
 
 /// The line of the strip of an engine's last frame.

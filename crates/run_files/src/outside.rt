@@ -22,7 +22,7 @@ use cert_text::{Cert, write_cert};
 use fit_cert_text::write_fit_cert;
 use fit_certificate_laws::FitCert;
 use mesh_compare::{CompareFault, compare};
-use obj_write::{MeshView, write_mesh};
+use obj_write::{SparseView, write_sparse};
 use roam_edge::{Failed, MeshSink, Shelf, Sink};
 use std::alloc::Global;
 use wedgie_tree::Wedges;
@@ -101,7 +101,7 @@ pub trait Outside {
             (moment self.new).shelf_late };
 
     /// Writes a whole mesh, named by the prefix and the number.
-    fn write_mesh(&mut self, view: &MeshView<'_>, prefix: &str, number: u32) -> Result<(), Failed>
+    fn write_mesh(&mut self, view: &SparseView<'_>, prefix: &str, number: u32) -> Result<(), Failed>
         requires view { IsView view.now }
         requires idle { (moment self.old).under_way ≡ false }
         requires prefix_some { 0 < length prefix.now }
@@ -174,8 +174,13 @@ impl<'f, 'm, 'r, F: Shelf, M: MeshSink, R: Sink> Outside for Lent<'f, 'm, 'r, F,
         compare(alloc, w, leaves, spacing, self.shelf)
     }
 
-    fn write_mesh(&mut self, view: &MeshView<'_>, prefix: &str, number: u32) -> Result<(), Failed> {
-        write_mesh(view, prefix, number, self.meshes)
+    fn write_mesh(
+        &mut self,
+        view: &SparseView<'_>,
+        prefix: &str,
+        number: u32,
+    ) -> Result<(), Failed> {
+        write_sparse(view, prefix, number, self.meshes)
     }
 
     fn tell(&mut self, text: &[u8]) -> Result<(), Failed> {

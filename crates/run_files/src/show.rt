@@ -7,12 +7,12 @@ ghost use Rattle.run_laws.specs.Act.{WholeMesh, ReportText};
 ghost use Rattle.run_laws.specs.Moment.{Does};
 
 use crate::outside::Outside;
-use obj_write::MeshView;
+use obj_write::SparseView;
 use roam_edge::Failed;
 
 /// Writes a whole mesh, and then its line. The line comes only after the mesh was finished.
 pub fn show_mesh<O: Outside>(
-    view: &MeshView<'_>,
+    view: &SparseView<'_>,
     prefix: &str,
     number: u32,
     line: &[u8],

@@ -10,7 +10,7 @@ ghost use Rattle.run_fit.specs.FittedSeen.{fitted_acts};
 use crate::fitted::Fitted;
 use crate::report::fit_report;
 use cull_marks::Planes;
-use obj_write::MeshView;
+use obj_write::{MeshView, SparseView};
 use roam_edge::Failed;
 use run_files::{Outside, grid_or_end, show_mesh};
 use run_laws::Status;
@@ -51,13 +51,15 @@ fn show<O: Outside>(fitted: &Fitted, words: &FitWords<'_>, outside: &mut O) -> R
     ensures does { Does (O.moment outside.old) (O.moment outside.new)
         (fitted_acts (fitting_seen words.now) fitted.now) result }
 {
-    let view = MeshView {
+    let table = fitted.fit.numbers();
+    let mesh = MeshView {
         wedges: &fitted.wedges,
         leaves: fitted.fit.leaves(),
-        numbers: fitted.fit.numbers(),
+        numbers: table.numbers(),
         spacing: words.spacing,
         planes: &Planes::none(),
     };
+    let view = SparseView::by_table(mesh, table);
     let n = fitted.wedges.grid().n();
     let line = fit_report(n, &fitted.note);
     show_mesh(&view, words.prefix, 1, line.as_slice(), outside)

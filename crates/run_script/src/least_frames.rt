@@ -21,7 +21,7 @@ use arrayvec::ArrayVec;
 use cull_marks::Plane;
 use height_edit::raise_area;
 use least_mesh::{Least, LeastNote};
-use obj_write::MeshView;
+use obj_write::{MeshView, SparseView};
 use pgm_grid::Grid;
 use roam_edge::{Failed, NoMemory};
 use roam_num::push_bytes;
@@ -124,19 +124,20 @@ impl<'a> LeastFrames<'a> {
     }
 
     /// The mesh, as it is to be written.
-    fn view(&self) -> MeshView<'_>
+    fn view(&self) -> SparseView<'_>
         requires level { self.now.least.n ≡ self.now.outlook.grid.n }
         ensures valid { IsView result }
         ensures text { view_text result ≡ text_in (state_seen self.now) self.now.least.leaves }
     {
         let scene = self.outlook.scene();
-        MeshView {
+        let mesh = MeshView {
             wedges: scene.wedges,
             leaves: self.least.leaves(),
             numbers: self.least.numbers(),
             spacing: scene.spacing,
             planes: scene.planes,
-        }
+        };
+        SparseView::by_table(mesh, self.least.table())
     }
 
     /// Writes the mesh, and then the line of its frame, of which this is the note. The line comes only after the mesh

@@ -155,7 +155,7 @@ fn written(alloc: Global, wedges: &Wedges, cert: &Cert) -> Result<MemMeshes, Fai
     let view = MeshView {
         wedges,
         leaves: cert.leaves(),
-        numbers: &vertex_numbers,
+        numbers: vertex_numbers.numbers(),
         spacing: 7,
         planes: &Planes::none(),
     };

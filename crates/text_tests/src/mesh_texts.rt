@@ -5,8 +5,8 @@ ghost use Rattle.std.specs.Prelude.{◌≡◌, false};
 use crate::leaves::{finest, leaves_of};
 use crate::pieces::Pieces;
 use cull_marks::{Plane, Planes};
-use obj_write::{MeshView, VertexTable, number_vertices, write_mesh};
-use pgm_grid::Grid;
+use obj_write::{MeshView, SparseView, VertexTable, number_vertices, write_mesh, write_sparse};
+use pgm_grid::{Grid, side_for};
 use roam_edge::{MemMeshes, MeshCall, MeshSink};
 use std::alloc::Global;
 use std::test::Fail;
@@ -101,7 +101,35 @@ fn a_table_numbers_one_mesh_after_another(rt: HostRuntime) -> Result<(), Fail> {
     Ok(())
 }
 
-/// Writes the mesh of these triangles, and answers whether that ended well.
+/// Writes the mesh of these triangles with the numbers of a slice, and answers whether that ended well.
+fn write_by_slice<M: MeshSink>(
+    alloc: Global,
+    wedges: &Wedges,
+    numbers: &[u32],
+    spacing: u32,
+    planes: &Planes,
+    out: &mut M,
+) -> Result<bool, Fail>
+    requires { M.under_way out.old ≡ false }
+{
+    if spacing == 0 || spacing > GREATEST_SPACING {
+        return Err("a spacing".into());
+    }
+    let n = wedges.grid().n();
+    let leaves = leaves_of(alloc, n, numbers)?;
+    let mut vertex_numbers = vec![in alloc; 0; side_for(n) * side_for(n)]?;
+    number_vertices(leaves.as_slice(), n, vertex_numbers.as_mut_slice());
+    let view = MeshView {
+        wedges,
+        leaves: leaves.as_slice(),
+        numbers: vertex_numbers.as_slice(),
+        spacing,
+        planes,
+    };
+    Ok(write_mesh(&view, "out", 7, out).is_ok())
+}
+
+/// Writes it with the numbers of a table.
 fn write_to<M: MeshSink>(
     alloc: Global,
     wedges: &Wedges,
@@ -119,14 +147,15 @@ fn write_to<M: MeshSink>(
     let leaves = leaves_of(alloc, n, numbers)?;
     let mut vertex_numbers = VertexTable::new(alloc, n)?;
     vertex_numbers.number(leaves.as_slice(), n);
-    let view = MeshView {
+    let mesh = MeshView {
         wedges,
         leaves: leaves.as_slice(),
-        numbers: &vertex_numbers,
+        numbers: vertex_numbers.numbers(),
         spacing,
         planes,
     };
-    Ok(write_mesh(&view, "out", 7, out).is_ok())
+    let view = SparseView::by_table(mesh, &vertex_numbers);
+    Ok(write_sparse(&view, "out", 7, out).is_ok())
 }
 
 /// The square of side 2 whose middle has height 10.
@@ -154,7 +183,8 @@ fn has_mesh(out: &MemMeshes, want: &str) -> bool {
     is_named && out.finished(0) && out.bytes(0) == want.as_bytes()
 }
 
-/// Whether these triangles of the hill in the middle are written as this text, under the plane with this offset.
+/// Whether these triangles of the hill in the middle are written as this text, under the plane with this offset, with
+/// the numbers of a table and with those of a slice.
 fn is_written_as(
     alloc: Global,
     wedges: &Wedges,
@@ -164,9 +194,11 @@ fn is_written_as(
     want: &str,
 ) -> Result<bool, Fail> {
     let planes = planes_of(offset)?;
-    let mut out = MemMeshes::new(alloc, &[], 1, 1024)?;
-    let done = write_to(alloc, wedges, numbers, spacing, &planes, &mut out)?;
-    Ok(done && has_mesh(&out, want))
+    let mut by_table = MemMeshes::new(alloc, &[], 1, 1024)?;
+    let mut by_slice = MemMeshes::new(alloc, &[], 1, 1024)?;
+    let first = write_to(alloc, wedges, numbers, spacing, &planes, &mut by_table)?;
+    let second = write_by_slice(alloc, wedges, numbers, spacing, &planes, &mut by_slice)?;
+    Ok(first && second && has_mesh(&by_table, want) && has_mesh(&by_slice, want))
 }
 
 #[test]
@@ -252,6 +284,34 @@ fn second_piece_fails(alloc: Global) -> Result<[bool; 3], Fail> {
 #[test]
 fn a_second_piece_that_fails_leaves_the_first(rt: HostRuntime) -> Result<(), Fail> {
     assert_eq!(rt; second_piece_fails(rt.alloc())?, [true, false, true]);
+    Ok(())
+}
+
+/// Whether the finest triangles are written as the same text with the numbers of a slice as with those of a table.
+fn finest_texts_are_one(alloc: Global) -> Result<bool, Fail> {
+    let wedges = Wedges::build(alloc, Grid::flat(alloc, 5, 1)?)?;
+    let numbers = finest(alloc)?;
+    let mut by_table = MemMeshes::new(alloc, &[], 1, 65536)?;
+    let mut by_slice = MemMeshes::new(alloc, &[], 1, 65536)?;
+    let first = write_finest(alloc, &mut by_table)?;
+    let second = write_by_slice(
+        alloc,
+        &wedges,
+        numbers.as_slice(),
+        1,
+        &Planes::none(),
+        &mut by_slice,
+    )?;
+    if by_table.count() != 1 || by_slice.count() != 1 {
+        return Ok(false);
+    }
+    let text = by_slice.bytes(0);
+    Ok(first && second && text.len() == WHOLE && text == by_table.bytes(0))
+}
+
+#[test]
+fn numbers_of_a_slice_and_of_a_table_give_one_text(rt: HostRuntime) -> Result<(), Fail> {
+    assert!(rt; finest_texts_are_one(rt.alloc())?);
     Ok(())
 }
 

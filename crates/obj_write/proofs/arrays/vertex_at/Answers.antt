@@ -18,8 +18,8 @@ number-is v n place p view same is within shown =
     ∙ ap (λ xs. get_or xs (grid_place v.wedges.now.n p) 0) view.vertex_numbers
     ∙ number-of-vertex v.wedges.now.n v.leaves.now p within shown
 
-pub number_at-requires : goal.number_at-requires
-number_at-requires c =
+pub bounds-view-place : goal.bounds-view-place
+bounds-view-place c =
     let same = c.n.ensures.value ∙ ap (λ (g : HeightField). g.n) c.grid.ensures.value in
     let size = ap (λ n. side_of n * side_of n) same in
     let long = ap length c.requires.view.vertex_numbers
@@ -30,7 +30,7 @@ number_at-requires c =
 pub overflow_sub-result : goal.overflow_sub-result
 overflow_sub-result c =
     let number =
-    c.number_at.ensures ∙ number-is c.args.view.now c.n.result c.place-place.result c.args.vertex c.requires.view
+    number-is c.args.view.now c.n.result c.place-place.result c.args.vertex c.requires.view
     (c.n.ensures.value ∙ ap (λ (g : HeightField). g.n) c.grid.ensures.value) c.place-place.ensures.value
     c.requires.within c.requires.shown in
     omega arith
@@ -38,6 +38,6 @@ overflow_sub-result c =
 pub returns : goal.returns
 returns c =
     ap (λ k. k - 1)
-    (c.number_at.ensures ∙ number-is c.args.view.now c.n.result c.place-place.result c.args.vertex c.requires.view
+    (number-is c.args.view.now c.n.result c.place-place.result c.args.vertex c.requires.view
     (c.n.ensures.value ∙ ap (λ (g : HeightField). g.n) c.grid.ensures.value) c.place-place.ensures.value
     c.requires.within c.requires.shown)

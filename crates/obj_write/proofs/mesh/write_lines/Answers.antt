@@ -18,7 +18,8 @@ lines-init g c =
       room = c.in_ok-make_room.ensures.room;
       passed = subst (λ text.
           Passed (g.M.MeshSink.meshes c.args.out.now) (g.M.MeshSink.meshes c.make_room.new.out) c.args.page.now
-          (c.make_room.new.page ++ text) all) (sym c.new-lines.ensures.text) passed;
+          (c.make_room.new.page ++ text) all)
+          (sym (c.new-lines.ensures.text ∙ ap view_text c.copy.ensures)) passed;
       in_time = search rules;
     }
 

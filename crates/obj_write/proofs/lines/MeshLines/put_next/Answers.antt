@@ -11,7 +11,7 @@ pub put_vertex-requires : goal.put_vertex-requires
 put_vertex-requires g c =
     let grid = c.self.inside.view.wedges.now in
     let below : c.first_from-self-inside.result < side_of grid.n * side_of grid.n =
-    omega (arith, places c.self.inside.view c.self.invariant.0, c.places.ensures, c.if-self-places.true) in
+    omega (arith, places c.self.inside.view c.self.invariant.0, c.if-self-places.true) in
     search rules
 
 pub returns-then-self-places-clause-text : goal.returns-then-self-places-clause-text
@@ -19,7 +19,7 @@ returns-then-self-places-clause-text g c =
     let v = c.self.inside.view in
     let found = c.first_from-self-inside in
     let at = found.result in
-    let below : at < length v.numbers.now = omega (arith, c.places.ensures, c.if-self-places.true) in
+    let below : at < length v.numbers.now = omega (arith, c.if-self-places.true) in
     let faces = face_text v c.self.inside.face c.self.inside.before in
     let passed = vertex-text-passed v c.self.invariant.0 c.self.inside.place at found.ensures.later
     found.ensures.within found.ensures.clear in
@@ -44,7 +44,7 @@ returns-then-self-clause-ended g c _ =
     let passed = vertex-text-passed v c.self.invariant.0 c.self.inside.place found.result found.ensures.later
     found.ensures.within found.ensures.clear in
     let vertices =
-    vertex-text-end v c.self.invariant.0 found.result (omega (arith, c.places.ensures, c.if-self-places.false)) in
+    vertex-text-end v c.self.invariant.0 found.result (omega (arith, c.if-self-places.false)) in
     let faces = face-text-end v c.self.inside.face c.self.inside.before (omega (arith, c.if-self.true)) in (
       ap (λ (l : LinesLeft). l.text) (sym c.self.view_is)
           ∙ ap₂ (λ (xs ys : List ℕ). xs ++ ys) (sym passed ∙ vertices) faces,
@@ -59,7 +59,7 @@ returns-clause-text g c =
     let at = found.result in
     let passed = vertex-text-passed v c.self.invariant.0 c.self.inside.place at found.ensures.later
     found.ensures.within found.ensures.clear in
-    let vertices = vertex-text-end v c.self.invariant.0 at (omega (arith, c.places.ensures, c.if-self-places.false)) in
+    let vertices = vertex-text-end v c.self.invariant.0 at (omega (arith, c.if-self-places.false)) in
     let leaf = get_or v.leaves.now i c.index-self-self.result in
     let mark = triangle_mark v.wedges.now.n v.wedges.now.heights v.spacing v.planes.now leaf in
     let faces = face-text-step v i c.index-self-self.result c.self.inside.before mark

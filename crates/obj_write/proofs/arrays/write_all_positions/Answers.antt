@@ -6,17 +6,17 @@ use Rattle.obj_write.specs.Arrays.{position_of, positions_of}
 use Rattle.obj_write.proofs.NumberLemmas.{length-numbers}
 use Rattle.obj_write.proofs.ArrayLemmas.{vertices_from, vertices_from-start, vertices_from-passed, vertices_from-step}
 use Rattle.obj_write.proofs.ArrayLemmas.{vertices_from-end, so_far-written, rest-written, all-written}
-use Rattle.obj_write.proofs.arrays.write_positions.Goals as goal
+use Rattle.obj_write.proofs.arrays.write_all_positions.Goals as goal
 
 pub loop-k-init : goal.loop-k-init
 loop-k-init c =
     let v = c.args.view.now in
     let n = v.wedges.now.n in
     let first = c.first_from-k in
-    let long = ap length c.requires.numbers ∙ length-numbers n v.leaves.now in
+    let long = ap length c.requires.view.vertex_numbers ∙ length-numbers n v.leaves.now in
     let inside = first.ensures.within in
-    let all = sym (vertices_from-passed n v.leaves.now v.numbers.now c.requires.numbers 0 first.result (omega arith)
-    (omega arith) first.ensures.clear)
+    let all = sym (vertices_from-passed n v.leaves.now v.numbers.now c.requires.view.vertex_numbers 0 first.result
+    (omega arith) (omega arith) first.ensures.clear)
     ∙ vertices_from-start n v.leaves.now in
     record {
       within = first.ensures.within;
@@ -29,19 +29,19 @@ loop-k-init c =
 pub write_position-requires-clause-below : goal.write_position-requires-clause-below
 write_position-requires-clause-below c =
     let v = c.args.view.now in
-    let long = ap length c.requires.numbers ∙ length-numbers v.wedges.now.n v.leaves.now in
-    let test = c.loop-k-test.true in let size = c.places.ensures in omega arith
+    let long = ap length c.requires.view.vertex_numbers ∙ length-numbers v.wedges.now.n v.leaves.now in
+    let test = c.loop-k-test.true in omega arith
 
 pub write_position-requires-clause-room : goal.write_position-requires-clause-room
 write_position-requires-clause-room c =
     let v = c.args.view.now in
     let n = v.wedges.now.n in
-    let long = ap length c.requires.numbers ∙ length-numbers n v.leaves.now in
-    let there : c.loop-k.k < length v.numbers.now = let test = c.loop-k-test.true in
-    let size = c.places.ensures in omega arith in
+    let long = ap length c.requires.view.vertex_numbers ∙ length-numbers n v.leaves.now in
+    let there : c.loop-k.k < length v.numbers.now = let test = c.loop-k-test.true in omega arith in
     let below : c.loop-k.k < side_of n * side_of n = omega arith in
     let one = ap length (vertices_from-step n v.leaves.now c.loop-k.k below
-    (λ none. c.loop-k.invariant.number there (ap (λ xs. get_or xs c.loop-k.k 0) c.requires.numbers ∙ none))) in
+    (λ none. c.loop-k.invariant.number there
+    (ap (λ xs. get_or xs c.loop-k.k 0) c.requires.view.vertex_numbers ∙ none))) in
     let before = c.loop-k.invariant.room in let same = c.loop-k.auto.out in let room = c.requires.room in
     omega arith
 
@@ -51,15 +51,14 @@ loop-k-preserved c =
     let n = v.wedges.now.n in
     let at = c.loop-k.at in let was = c.loop-k.out in
     let next = c.first_from-k-in-loop-k in
-    let long = ap length c.requires.numbers ∙ length-numbers n v.leaves.now in
-    let there : c.loop-k.k < length v.numbers.now = let test = c.loop-k-test.true in
-    let size = c.places.ensures in omega arith in
+    let long = ap length c.requires.view.vertex_numbers ∙ length-numbers n v.leaves.now in
+    let there : c.loop-k.k < length v.numbers.now = let test = c.loop-k-test.true in omega arith in
     let below : c.loop-k.k < side_of n * side_of n = omega arith in
     let inside = next.ensures.within in
-    let passed = vertices_from-passed n v.leaves.now v.numbers.now c.requires.numbers
+    let passed = vertices_from-passed n v.leaves.now v.numbers.now c.requires.view.vertex_numbers
     (c.loop-k.k + 1) next.result next.ensures.later (omega arith) next.ensures.clear in
     let one = vertices_from-step n v.leaves.now c.loop-k.k below
-    (λ none. c.loop-k.invariant.number there (ap (λ xs. get_or xs c.loop-k.k 0) c.requires.numbers ∙ none))
+    (λ none. c.loop-k.invariant.number there (ap (λ xs. get_or xs c.loop-k.k 0) c.requires.view.vertex_numbers ∙ none))
     ∙ ap (λ vs. place_point n c.loop-k.k ∷ vs) passed in
     let count = ap length one in
     let before = c.loop-k.invariant.room in
@@ -83,9 +82,8 @@ pub returns : goal.returns
 returns c =
     let v = c.args.view.now in
     let n = v.wedges.now.n in
-    let long = ap length c.requires.numbers ∙ length-numbers n v.leaves.now in
-    let beyond : side_of n * side_of n ≤ c.loop-k.k = let test = c.loop-k-test.false in
-    let size = c.places.ensures in omega arith in
+    let long = ap length c.requires.view.vertex_numbers ∙ length-numbers n v.leaves.now in
+    let beyond : side_of n * side_of n ≤ c.loop-k.k = let test = c.loop-k-test.false in omega arith in
     let none = vertices_from-end n v.leaves.now c.loop-k.k beyond in
     let count = ap length none in
     let before = c.loop-k.invariant.room in

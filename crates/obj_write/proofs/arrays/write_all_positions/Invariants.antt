@@ -3,7 +3,7 @@ use Rattle.std.proofs.Common.{◌≡◌, ◌+◌, ◌-◌, ◌*◌, ◌<◌, ◌
 use Rattle.mesh_defs.specs.MeshText.{vertices_of}
 use Rattle.obj_write.specs.Arrays.{position_of, positions_of}
 use Rattle.obj_write.proofs.ArrayLemmas.{vertices_from}
-use Rattle.obj_write.proofs.arrays.write_positions.Given as goal
+use Rattle.obj_write.proofs.arrays.write_all_positions.Given as goal
 
 abbrev pub invariant-loop-k : goal.invariant-loop-k
 invariant-loop-k l =
