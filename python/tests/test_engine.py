@@ -1,107 +1,296 @@
+"""The binding: its structures, its arguments, its threads, and what it gives against the definitions."""
 import ctypes
+import gc
 import pathlib
+import re
+import resource
 import subprocess
 import threading
-import time
 
 import numpy as np
 import pytest
 from hypothesis import given, strategies as st
 
 import calfrewin
-from calfrewin import _library as c
-from calfrewin import Engine, surface
+import sessions
+from calfrewin import Engine, _library, surface
 
-HEADER = pathlib.Path(__file__).resolve().parents[2] / "lib/roam.h"
+TOP = pathlib.Path(__file__).resolve().parents[2]
+HEADER = TOP / "lib/roam.h"
+HILL = [0, 0, 0, 0, 100, 0, 0, 0, 0]
+SIDE, FRAMES = 33, 60
+HEIGHTS = (np.arange(SIDE * SIDE) * 7919 % 211).astype(np.uint16)
 
 
-def test_structures_are_those_of_the_header(tmp_path):
-    pairs = {"roam_handle": c.Handle, "roam_frame_note": c.FrameNote, "roam_plane": c.Plane, "roam_changes_note": c.ChangesNote, "roam_deviation_note": c.DeviationNote,
-             "roam_fit_note": c.FitNote, "roam_state_note": c.StateNote}
-    lines = [f'printf("{name} {field} %zu %zu\\n", offsetof({name}, {field}), sizeof((({name} *)0)->{field}));' for name, it in pairs.items() for field, *_ in it._fields_]
+def test_structures_and_calls_are_those_of_the_header(tmp_path):
+    pairs = {"roam_handle": _library.Handle, "roam_frame_note": _library.FrameNote, "roam_plane": _library.Plane,
+             "roam_changes_note": _library.ChangesNote, "roam_deviation_note": _library.DeviationNote,
+             "roam_fit_note": _library.FitNote, "roam_state_note": _library.StateNote}
+    lines = [f'printf("{name} {field} %zu %zu\\n", offsetof({name}, {field}), sizeof((({name} *)0)->{field}));'
+             for name, it in pairs.items() for field, *_ in it._fields_]
     lines += [f'printf("{name} - %zu 0\\n", sizeof({name}));' for name in pairs]
-    (tmp_path / "a.c").write_text('#include "roam.h"\n#include <stdio.h>\nint main(void) {' + "\n".join(lines) + "return 0; }")
+    text = '#include "roam.h"\n#include <stdio.h>\nint main(void) {' + "\n".join(lines) + "return 0; }"
+    (tmp_path / "a.c").write_text(text)
     subprocess.run(["cc", f"-I{HEADER.parent}", "-o", tmp_path / "a", tmp_path / "a.c"], check=True)
     for line in subprocess.run([tmp_path / "a"], stdout=subprocess.PIPE, text=True, check=True).stdout.splitlines():
         name, field, at, size = line.split()
         if field == "-":
-            assert ctypes.sizeof(pairs[name]) == int(at)
+            assert ctypes.sizeof(pairs[name]) == int(at), line
         else:
             it = getattr(pairs[name], field)
             assert (it.offset, it.size) == (int(at), int(size)), line
-    text = HEADER.read_text()
-    import re
-    assert set(re.findall(r"^(?:int32_t|void) roam_(\w+)\(", text, re.M)) == set(c.CALLS)
+    assert set(re.findall(r"^(?:int32_t|void) roam_(\w+)\(", HEADER.read_text(), re.M)) == set(_library.CALLS)
+
+
+def test_the_ranges_are_those_of_the_header():
+    from calfrewin import engine
+    said = HEADER.read_text()
+    assert f"above {engine.MOST_TRIANGLES}" in said and f"above {engine.MOST_SPACING} " in said
+    assert f"above {engine.MOST_TOLERANCE} thousandths" in said and "2^30" in said and "2^20" in said and "2^50" in said
+    answers = dict(re.findall(r"ROAM_(\w+) = (\d+)", said))
+    assert [int(answers[it]) for it in ("NO_MEMORY", "TOO_MANY_PLANES", "WORN", "IS_EMPTY")] == [
+        engine.NO_MEMORY, engine.TOO_MANY_PLANES, engine.WORN, engine.IS_EMPTY]
+
+
+@pytest.mark.parametrize("number", range(100))
+def test_a_session_is_as_the_definitions_have_it(number):
+    sessions.run(1, number)
+
+
+@pytest.mark.parametrize("name", ["jacksboro", "flight"])
+def test_the_frames_of_an_example_have_the_expected_report(name):
+    calls = {"camera": "camera", "raise": "raise_area", "plane": "add_plane", "budget": "budget"}
+    data = (TOP / "examples/jacksboro/grid.pgm").read_bytes()
+    heights = np.frombuffer(data, ">u2", 257 * 257, len(data) - 2 * 257 * 257)
+    found = []
+    with Engine(heights, 2000, 90) as engine:
+        for line in (TOP / "examples" / name / "script").read_text().splitlines():
+            command, *words = line.split("#")[0].split() or [""]
+            if command == "frame":
+                note, state = engine.frame(), engine.state()
+                line = (f"frame {state.frames} triangles {note.triangles} vertices {note.vertices} worst {note.worst} splits "
+                        f"{note.splits} merges {note.merges} blocked ")
+                line += f"{note.blocking} needs {note.need}" if note.blocking else "none"
+                line += f" inside {note.inside} cut {note.cut} outside {note.outside}" if state.planes else ""
+                found.append(line)
+            elif command:
+                getattr(engine, calls[command])(*map(int, words))
+    assert found == (TOP / "examples" / name / "expected/report").read_text().splitlines()
 
 
 @given(st.integers(1, 5), st.integers(0, 2 ** 32 - 1), st.floats(0, 300), st.integers(1, 1000))
-def test_a_fit_is_off_by_what_it_tells_and_a_budget_is_kept(n, seed, tolerance, relief):
+def test_a_fit_is_off_by_what_it_tells_and_within_its_budget(n, seed, tolerance, relief):
     side = 2 ** n + 1
     heights = np.random.default_rng(seed).integers(0, relief + 1, (side, side)).astype(np.uint16)
+    budget = 2 + seed % 50
     with Engine(heights, 2) as engine:
-        for found in (engine.fit(tolerance), engine.fit(0, 2 + seed % 50)):
+        for found in (engine.fit(tolerance), engine.fit(0, budget)):
             is_vertex = np.zeros(side * side, bool)
             is_vertex[found.triangles.reshape(-1)] = True
             assert is_vertex.sum() == found.vertices
             assert abs(heights - surface(heights, is_vertex.reshape(side, side))).max() == float(found.deviation)
         assert engine.fit(tolerance).deviation <= tolerance
-        assert len(engine.fit(0, 2 + seed % 50).triangles) <= 2 + seed % 50
+        assert len(engine.fit(0, budget).triangles) <= budget
 
 
-def test_frames_and_arrays():
+def test_a_tolerance_is_rounded_down_to_thousandths():
+    with Engine([0, 0, 0, 0, 9, 0, 0, 0, 0], 2) as engine:
+        assert [len(engine.fit(tolerance).triangles) for tolerance in (9, 8.9996, 8.9994, 9.0001)] == [2, 4, 4, 2]
+    with Engine([0, 0, 0, 0, 29, 0, 0, 0, 0], 2) as engine:  # 0.29 * 1000 is 289.99999999999994
+        assert [len(engine.fit(29 * k).triangles) for k in (1, 0.99)] == [2, 4]
+
+
+def test_out_is_written_into_and_heights_are_not_copied():
     heights = np.random.default_rng(1).integers(0, 500, (65, 65)).astype(np.uint16)
     with Engine(heights, 500, 30) as engine:
-        engine.camera(900.4, np.float32(100), 600)
-        note = engine.frame()
-        out = np.empty(3 * 500, np.uint32)
-        triangles = engine.indices(out)
-        assert triangles.shape == (note.triangles, 3) and np.shares_memory(out, triangles)
+        engine.frame()
+        out = np.zeros(1500, np.uint32)
+        found = engine.indices(out)
+        assert found.base is not None and np.shares_memory(found, out) and np.array_equal(found, engine.indices())
+        assert np.array_equal(engine.leaves(out), engine.leaves()) and np.shares_memory(engine.leaves(out), out)
         corners = engine.positions()[engine.compact()]
-        assert np.array_equal(corners[..., 2], heights.reshape(-1)[triangles])
-        leaves = engine.leaves()
-        engine.camera(100, 1000, 50)
-        engine.frame()
-        gone, come = calfrewin.changes(leaves, engine.leaves())
-        assert [set(it) for it in engine.changed()] == [set(gone), set(come)]
-        assert engine.certificate(10, 10, 10).startswith("roam certificate") or engine.certificate(10, 10, 10)
-        assert engine.state().frames == 2
-    with pytest.raises(ValueError, match="closed"):
-        engine.frame()
+        assert np.array_equal(corners[..., 2], heights.reshape(-1)[engine.indices()])
+        assert np.array_equal(corners[..., 0], engine.indices() % 65 * 30)
+    # A C-contiguous uint16 array is read where it lies; all else is copied once.
+    from calfrewin.engine import _whole_heights
+    assert np.shares_memory(_whole_heights(heights), heights)
+    assert np.array_equal(_whole_heights(np.asfortranarray(heights)), heights)
 
 
-@pytest.mark.parametrize("call, words", [
-    (lambda: Engine(np.zeros((4, 4), np.uint16), 2), "heights have the shape .4, 4., and have to be side x side"),
-    (lambda: Engine(np.zeros((3, 3)), 2), "heights are of type float64"),
-    (lambda: Engine(np.full((3, 3), 70000), 2), "heights are from 70000 to 70000"),
-    (lambda: Engine(np.zeros((3, 3), int), 1), "budget is 1, and has to be from 2 to 1048576"),
-    (lambda: Engine(np.zeros((3, 3), int), 2.5), "budget is 2.5, and has to be a whole number"),
-    (lambda: Engine(np.zeros((3, 3), int), 2, 2000), "spacing is 2000, and has to be from 1 to 1024"),
-    (lambda: Engine(np.zeros((3, 3), int), 2).camera(float("nan"), 0, 0), "x is nan"),
-    (lambda: Engine(np.zeros((3, 3), int), 2).fit(-1), "tolerance in thousandths is -1"),
-    (lambda: Engine(np.zeros((3, 3), int), 2).indices(np.zeros(9, np.int64)), "out has to be a writable"),
-    (lambda: Engine(np.zeros((3, 3), int), 2).indices(np.zeros(3, np.uint32)), "out has 3 places, and has to have at least 6"),
-    (lambda: Engine(np.zeros((3, 3), int), 2).set(3, 0, 0), "x is 3, and has to be from 0 to 2"),
+def test_a_worn_engine_says_so_and_is_renewed():
+    with Engine(HILL, 8, 1024) as engine:
+        for k in range(10 ** 6):
+            if k % 250_000 == 0:
+                engine.camera(k, 0, 0)
+            engine.frame()
+        with pytest.raises(calfrewin.Worn, match="1,000,000 frames"):
+            engine.frame()
+        engine.renew()
+        assert engine.frame().triangles == 4 and engine.state().frames == 1
+
+
+@pytest.mark.parametrize("kind, text, call", [
+    (ValueError, "budget is 1, and has to be from 2 to 1048576", lambda _: Engine(HILL, 1)),
+    (ValueError, "budget is 1048577, and has to be from 2 to 1048576", lambda _: Engine(HILL, 1_048_577)),
+    (TypeError, "budget is 2.5, and has to be a whole number from 2 to 1048576", lambda _: Engine(HILL, 2.5)),
+    (ValueError, "spacing is 0, and has to be from 1 to 1024", lambda _: Engine(HILL, 8, 0)),
+    (ValueError, "spacing is 18446744073709551617, and has to be from 1 to 1024", lambda _: Engine(HILL, 8, 2 ** 64 + 1)),
+    (ValueError, "heights have the shape (8,), and have to be side x side, side one of 3, 5, 9", lambda _: Engine(HILL[:8], 8)),
+    (ValueError, "heights have the shape (4, 4)", lambda _: Engine(np.zeros((4, 4), np.uint16), 2)),
+    (ValueError, "heights have the shape (3, 3, 1)", lambda _: Engine(np.zeros((3, 3, 1), np.uint16), 2)),
+    (ValueError, "heights have the shape (0,)", lambda _: Engine(np.zeros(0, np.uint16), 2)),
+    (ValueError, "heights are from 0 to 70000, and have to be from 0 to 65535", lambda _: Engine([70_000] + HILL[1:], 8)),
+    (ValueError, "heights are from -1 to 100, and have to be from 0 to 65535", lambda _: Engine([-1] + HILL[1:], 8)),
+    (TypeError, "heights are of type float64", lambda _: Engine([0.5] + HILL[1:], 8)),
+    (ValueError, "x is 1073741825, and has to be from -1073741824 to 1073741824", lambda it: it.camera(2 ** 30 + 1, 0, 0)),
+    (ValueError, "z is -18446744073709551616, and has to be from", lambda it: it.camera(0, 0, -2 ** 64)),
+    (TypeError, "y is nan, and has to be a whole number", lambda it: it.camera(0, float("nan"), 0)),
+    (TypeError, "y is inf, and has to be a whole number", lambda it: it.camera(0, float("inf"), 0)),
+    (TypeError, "x is '1', and has to be a whole number", lambda it: it.camera("1", 0, 0)),
+    (ValueError, "b is 1048577, and has to be from -1048576 to 1048576", lambda it: it.add_plane(0, 2 ** 20 + 1, 0, 0)),
+    (ValueError, "d is 1125899906842625, and has to be from", lambda it: it.add_plane(0, 0, 0, 2 ** 50 + 1)),
+    (ValueError, "a is -1048577, and has to be from", lambda it: it.look([(0, 0, 1, 0), (-2 ** 20 - 1, 0, 0, 0)])),
+    (ValueError, "planes are 7, and may be 6 at most", lambda it: it.look(7 * [(0, 0, 1, 0)])),
+    (ValueError, "triangles is 9, and has to be from 2 to 8", lambda it: it.budget(9)),
+    (ValueError, "x is 3, and has to be from 0 to 2", lambda it: it.set(3, 0, 1)),
+    (ValueError, "y is -1, and has to be from 0 to 2", lambda it: it.set(0, -1, 1)),
+    (ValueError, "height is 65536, and has to be from 0 to 65535", lambda it: it.set(0, 0, 65_536)),
+    (ValueError, "x1 is 0, and has to be from 1 to 2", lambda it: it.raise_area(1, 0, 0, 2, 1)),
+    (ValueError, "y1 is 3, and has to be from 0 to 2", lambda it: it.raise_area(0, 0, 1, 3, 1)),
+    (ValueError, "dz is -65536, and has to be from -65535 to 65535", lambda it: it.raise_area(0, 0, 1, 1, -65_536)),
+    (ValueError, "out has 5 places, and has to have at least 6", lambda it: it.indices(np.zeros(5, np.uint32))),
+    (TypeError, "out has to be a writable, C-contiguous array of numpy.uint32", lambda it: it.indices(np.zeros(9, np.int64))),
+    (TypeError, "out has to be a writable, C-contiguous", lambda it: it.indices(np.zeros(99, np.uint32)[::2])),
+    (TypeError, "out has to be a writable, C-contiguous", lambda it: it.indices(np.frombuffer(bytes(99 * 4), np.uint32))),
+    (TypeError, "out has to be a writable, C-contiguous", lambda it: it.leaves([1, 2, 3])),
+    (ValueError, "out has 11 places, and has to have at least 12", lambda it: it.positions(np.zeros(11, np.uint32))),
+    (ValueError, "tolerance in thousandths is -1, and has to be from 0 to 65535999", lambda it: it.fit(-0.001)),
+    (ValueError, "tolerance in thousandths is 65536000, and has to be from 0 to 65535999", lambda it: it.fit(65_536)),
+    (TypeError, "tolerance in thousandths is nan", lambda it: it.fit(float("nan"))),
+    (ValueError, "budget is 1, and has to be from 2 to 4294967295", lambda it: it.fit(budget=1)),
+    (ValueError, "x is 1073741825, and has to be from -1073741824 to 1073741824", lambda it: it.certificate(2 ** 30 + 1, 0, 0)),
+    (TypeError, "before has to be what leaves() gave", lambda it: calfrewin.changes([2, 3], it.leaves())),
+    (TypeError, "after has to be what leaves() gave", lambda it: calfrewin.changes(it.leaves(), it.indices())),
 ])
-def test_a_refusal_names_the_argument_and_its_range(call, words):
-    with pytest.raises((ValueError, TypeError), match=words):
-        call()
+def test_a_refusal_names_the_argument_and_its_range_and_changes_nothing(kind, text, call):
+    with Engine(HILL, 8, 10) as engine:
+        before = engine.state()
+        with pytest.raises(kind, match=re.escape(text)):
+            call(engine)
+        assert engine.state() == before and engine.frame().triangles == 4
 
 
-def test_calls_let_other_threads_run_and_two_on_one_engine_are_refused():
-    heights = np.random.default_rng(1).integers(0, 60000, (1025, 1025)).astype(np.uint16)
-    engine, count, refused, ends = Engine(heights, 2), 0, 0, []
+def test_a_seventh_plane_is_refused():
+    with Engine(HILL, 8) as engine:
+        for _ in range(6):
+            engine.add_plane(0, 0, 1, 0)
+        with pytest.raises(ValueError, match="six are in force"):
+            engine.add_plane(0, 0, 1, 0)
+        assert engine.state().planes == 6
 
-    def run():
-        engine.fit(10)
-        ends.append(1)
-    thread = threading.Thread(target=run)
+
+@pytest.mark.parametrize("call", ["frame", "deviation", "fit", "state", "indices", "clear_planes", "renew"])
+def test_a_closed_engine_says_so(call):
+    engine = Engine(HILL, 8)
+    engine.close()
+    engine.close()
+    with pytest.raises(ValueError, match="the engine is closed"):
+        getattr(engine, call)()
+    assert "closed" in repr(engine)
+
+
+def test_words_that_are_missing_leave_nothing_behind():
+    with pytest.raises(TypeError):
+        Engine()
+    gc.collect()
+
+
+def fly(engine, frames):
+    """What the frames show: their notes, indices and addresses."""
+    found = []
+    for k in frames:
+        engine.camera(9 * k, 7.5 * k, 90)
+        if k % 20 == 7:
+            engine.raise_area(2, 3, 11, 20, k)
+        found.append((engine.frame(), engine.indices().tobytes(), engine.leaves().tobytes()))
+    return found
+
+
+def on_a_thread(call, *words):
+    """What the call gives on a thread of its own, at its end."""
+    found = []
+    thread = threading.Thread(target=lambda: found.append(call(*words)))
     thread.start()
-    time.sleep(0.02)
-    while not ends:
-        count += 1
+    thread.join()
+    return found[0]
+
+
+def alone():
+    with Engine(HEIGHTS, 400, 10) as engine:
+        return fly(engine, range(FRAMES))
+
+
+def test_an_engine_goes_from_thread_to_thread():
+    engine = on_a_thread(Engine, HEIGHTS, 400, 10)
+    found = on_a_thread(fly, engine, range(20)) + fly(engine, range(20, 40)) + on_a_thread(fly, engine, range(40, FRAMES))
+    on_a_thread(engine.close)
+    with pytest.raises(ValueError, match="the engine is closed"):
+        engine.frame()
+    assert found == alone() and len({addresses for _, _, addresses in found}) > 1
+
+
+def test_two_threads_take_turns_by_a_lock():
+    engine, lock, found = Engine(HEIGHTS, 400, 10), threading.Lock(), []
+
+    def fly_on():
+        while True:
+            with lock:
+                if len(found) == FRAMES:
+                    return
+                found.extend(fly(engine, [len(found)]))
+    threads = [threading.Thread(target=fly_on) for _ in range(2)]
+    for thread in threads:
+        thread.start()
+    for thread in threads:
+        thread.join()
+    assert found == alone()
+
+
+def test_engines_of_several_threads_run_side_by_side():
+    found = [[] for _ in range(3)]
+    threads = [threading.Thread(target=lambda to=to: to.extend(alone())) for to in found]
+    for thread in threads:
+        thread.start()
+    for thread in threads:
+        thread.join()
+    assert found == 3 * [alone()]
+
+
+def test_an_engine_that_another_thread_lets_go_of_gives_its_memory_back():
+    heights = np.zeros((257, 257), np.uint16)
+    engines = [Engine(heights, 2000)]
+    on_a_thread(engines.clear)
+    before = resource.getrusage(resource.RUSAGE_SELF).ru_maxrss
+    for _ in range(40):  # of 2 MB each
+        engines.append(Engine(heights, 2000))
+        on_a_thread(engines.clear)
+    assert resource.getrusage(resource.RUSAGE_SELF).ru_maxrss - before < 20_000
+
+
+def test_a_call_lets_other_threads_run_and_a_second_one_on_its_engine_is_refused():
+    heights = np.random.default_rng(1).integers(0, 60000, (1025, 1025)).astype(np.uint16)
+    engine, refused = Engine(heights, 2), []
+    thread = threading.Thread(target=lambda: engine.fit(10))
+    thread.start()
+    while thread.is_alive():
         try:
             engine.state()
-        except RuntimeError:
-            refused += 1
+        except RuntimeError as why:
+            refused.append(str(why))
+            if len(refused) == 1:
+                with pytest.raises(RuntimeError, match="cannot be closed"):
+                    engine.close()
     thread.join()
-    assert count > 1000 and refused > 100
+    # Were the interpreter locked in the call, none would come to its turn while it lasts.
+    assert len(refused) > 100 and set(refused) == {"another thread is using this engine: give each its own, or share a lock"}
+    assert engine.state().side == 1025

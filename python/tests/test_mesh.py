@@ -1,3 +1,5 @@
+"""fit and view: what they take, what they give, how far off it is."""
+import math
 import re
 
 import numpy as np
@@ -5,58 +7,27 @@ import pytest
 from hypothesis import given, strategies as st
 
 import calfrewin
-from conftest import hills
+from made import hills
+from readers import has_no_cracks, heights_from_vertices, heights_of
+
+SHAPES = st.tuples(st.integers(2, 40), st.integers(2, 40))
+SEEDS = st.integers(0, 10 ** 6)
 
 
-def heights_of(mesh):
-    """The mesh's height at each point of the array, triangle by triangle, and how often each cell's middle is covered."""
-    rows, columns = mesh.shape
-    found, times = np.full((rows, columns), np.nan), np.zeros((rows - 1, columns - 1), int)
-    x, y, z = mesh.column, -mesh.row, mesh.height
-    for a, b, c in mesh.triangles.astype(int):
-        area = (x[b] - x[a]) * (y[c] - y[a]) - (y[b] - y[a]) * (x[c] - x[a])
-        assert area > 0, "clockwise or empty"
-        at = [x[[a, b, c]].min(), x[[a, b, c]].max(), -y[[a, b, c]].max(), -y[[a, b, c]].min()]
-        for shift, out in ((0, found), (0.31, times)):
-            i, j = np.mgrid[int(np.ceil(at[2])) - 1:int(at[3]) + 2, int(np.ceil(at[0])) - 1:int(at[1]) + 2]
-            p, q = j + shift, -(i + shift * 0.77)
-            u = ((p - x[a]) * (y[c] - y[a]) - (q - y[a]) * (x[c] - x[a])) / area
-            v = ((x[b] - x[a]) * (q - y[a]) - (y[b] - y[a]) * (p - x[a])) / area
-            hit = (u >= -1e-9) & (v >= -1e-9) & (u + v <= 1 + 1e-9) & (i >= 0) & (j >= 0) & (i < out.shape[0]) & (j < out.shape[1])
-            if shift:
-                out[i[hit], j[hit]] += 1
-            else:
-                out[i[hit], j[hit]] = (z[a] + u * (z[b] - z[a]) + v * (z[c] - z[a]))[hit]
-    return found, times
-
-
-def has_no_cracks(mesh):
-    """Each edge has one triangle on each side, or lies on the border."""
-    t = mesh.triangles.astype(np.int64)
-    n = len(mesh.height)
-    edges = np.concatenate((t[:, [0, 1]], t[:, [1, 2]], t[:, [2, 0]]))
-    key, back = edges[:, 0] * n + edges[:, 1], edges[:, 1] * n + edges[:, 0]
-    assert len(np.unique(key)) == len(key)
-    alone = edges[~np.isin(key, back)]
-    rows, columns = mesh.shape
-    a, b = alone.T
-    on = ((mesh.column[a] == mesh.column[b]) & np.isin(mesh.column[a], (0, columns - 1))) | ((mesh.row[a] == mesh.row[b]) & np.isin(mesh.row[a], (0, rows - 1)))
-    return on.all()
-
-
-@given(st.integers(2, 40), st.integers(2, 40), st.integers(0, 10 ** 6), st.floats(0.05, 100))
-def test_any_shape_within_the_error_and_without_cracks(rows, columns, seed, error):
-    heights = hills(rows, columns, seed)
+@given(SHAPES, SEEDS, st.floats(0.05, 100))
+def test_any_shape_is_within_the_error_and_without_cracks(shape, seed, error):
+    heights = hills(*shape, seed)
     mesh = calfrewin.fit(heights, error=error)
     found, times = heights_of(mesh)
-    assert mesh.error <= error + 1e-9
-    assert np.abs(found - heights).max() <= mesh.error + 1e-6
+    assert mesh.error <= error
+    assert np.abs(found - heights).max() <= mesh.error + 1e-9
     assert (times == 1).all() and has_no_cracks(mesh)
+    assert np.allclose(mesh.surface(), found, rtol=0, atol=1e-9)
 
 
-@given(st.integers(2, 40), st.integers(2, 40), st.integers(0, 10 ** 6), st.integers(2, 300))
-def test_a_budget_is_kept_with_any_shape(rows, columns, seed, triangles):
-    heights = hills(rows, columns, seed)
+@given(SHAPES, SEEDS, st.integers(2, 300))
+def test_any_shape_is_within_the_budget(shape, seed, triangles):
+    heights = hills(*shape, seed)
     try:
         mesh = calfrewin.fit(heights, triangles=triangles)
     except ValueError as why:
@@ -64,54 +35,213 @@ def test_a_budget_is_kept_with_any_shape(rows, columns, seed, triangles):
         assert re.fullmatch(r"triangles is [2-4], and has to be at least [3-5] for this shape", str(why))
         return
     assert len(mesh.triangles) <= triangles
-    assert np.abs(heights_of(mesh)[0] - heights).max() <= mesh.error + 1e-6
+    assert np.abs(heights_of(mesh)[0] - heights).max() <= mesh.error + 1e-9
 
 
-def test_whole_heights_keep_their_unit_and_holes_are_filled():
+@pytest.mark.parametrize("shape", [(100, 150), (65, 66), (3, 100), (257, 257)])
+def test_most_of_a_budget_is_used(shape):
+    assert 0.95 * 400 < len(calfrewin.fit(hills(*shape), triangles=400).triangles) <= 400 or min(shape) == 3
+
+
+@given(st.integers(1, 5), SEEDS, st.floats(0, 300), st.integers(1, 1000))
+def test_heights_from_vertices_alone_are_off_by_what_is_told(n, seed, error, relief):
+    side = 2 ** n + 1
+    heights = np.random.default_rng(seed).integers(0, relief + 1, (side, side))
+    mesh = calfrewin.fit(heights, error=error)
+    found = heights_from_vertices(heights, mesh.grid.is_vertex)
+    assert np.abs(found - heights).max() == mesh.error <= error
+    assert np.array_equal(found, mesh.surface())
+    assert set(zip(mesh.row, mesh.column)) == set(zip(*np.nonzero(mesh.grid.is_vertex)))
+
+
+@given(st.sampled_from(["u1", "i1", "<u2", ">u2", "<i2", ">i2", "<i4", "<u4", "<i8", "<u8", "<f2", ">f4", "<f4", "<f8"]),
+       st.sampled_from(["C", "F", "stepped", "list"]), SEEDS)
+def test_any_dtype_and_order_is_taken(dtype, order, seed):
+    heights = np.random.default_rng(seed).integers(0, 100, (20, 30)).astype(dtype)
+    given_ = {"C": heights, "F": np.asfortranarray(heights), "stepped": np.repeat(heights, 2, 0)[::2],
+              "list": heights.tolist()}[order]
+    mesh = calfrewin.fit(given_, error=10)
+    assert (mesh.unit, mesh.rounding) == (1, 0)
+    assert np.abs(heights_of(mesh)[0] - heights.astype(float)).max() <= 10
+
+
+@given(st.floats(1e-6, 1e6), st.floats(-1e4, 1e4), st.sampled_from([np.float32, np.float64]), SEEDS)
+def test_the_rounding_is_in_the_error(relief, base, dtype, seed):
+    heights = (base + relief * np.random.default_rng(seed).random((17, 23))).astype(dtype)
+    if np.ptp(heights) > 65_534:
+        with pytest.raises(ValueError, match="more than 65534 steps of 1.*give a unit of"):
+            calfrewin.fit(heights, error=1)
+        mesh = calfrewin.fit(heights, error=relief / 10, unit=relief / 1000)
+    else:
+        mesh = calfrewin.fit(heights, error=max(relief / 10, 1e-4))
+    slack = 1e-12 * (abs(base) + relief)
+    assert np.abs(heights_of(mesh)[0] - heights).max() <= mesh.error + slack
+    assert mesh.rounding <= mesh.unit / 2 + slack and mesh.error <= max(relief / 10, 1e-4)
+
+
+@pytest.mark.parametrize("error", [0.29, 0.57, 1.005, 0.1, 0.3])
+def test_an_error_is_taken_by_the_decimals_that_print(error):
+    # A hill of exactly that height over a plane: it may be left out, and one of a thousandth more may not.
+    for rise, count in ((error, 2), (error + 0.001, 4)):
+        assert len(calfrewin.fit([[0, 0, 0], [0, rise, 0], [0, 0, 0]], error=error, unit=0.001).triangles) == count
+
+
+@given(SHAPES, SEEDS, st.floats(0.01, 0.95))
+def test_holes_of_any_kind_are_filled_alike(shape, seed, share):
+    rng = np.random.default_rng(seed)
+    whole = np.rint(hills(*shape, seed)).astype(np.int16)
+    holes = rng.random(shape) < share
+    holes[rng.integers(shape[0]), rng.integers(shape[1])] = False
+    with_nan = np.where(holes, np.nan, whole)
+    meshes = [calfrewin.fit(np.where(holes, -32768, whole), error=5, nodata=-32768),
+              calfrewin.fit(np.ma.array(whole, mask=holes), error=5)]
+    assert len({(mesh.filled, mesh.unit, len(mesh.triangles)) for mesh in meshes}) == 1 and meshes[0].unit == 1
+    for mesh in (*meshes, calfrewin.fit(with_nan, error=5)):
+        assert mesh.filled == holes.sum()
+        found = heights_of(mesh)[0]
+        assert np.abs(found - whole)[~holes].max() <= mesh.error + 1e-9
+        # What is filled lies between the least and the greatest height.
+        assert whole[~holes].min() - 5 <= found.min() and found.max() <= whole[~holes].max() + 5
+
+
+def test_holes_get_the_height_that_is_said():
     heights = np.rint(hills(33, 50)).astype(np.int16)
     heights[5:9, 5:9] = -32768
-    mesh = calfrewin.fit(heights, error=3, nodata=-32768)
-    assert (mesh.unit, mesh.rounding, mesh.filled) == (1.0, 0.0, 16)
-    assert mesh.height.min() >= heights[heights > -32768].min()
-    assert calfrewin.fit(heights, error=3, nodata=-32768, fill=0).height.min() == 0
-    with pytest.raises(ValueError, match="no point has one"):
-        calfrewin.fit(np.full((3, 3), np.nan), error=1)
-    with pytest.raises(ValueError, match="finite"):
-        calfrewin.fit(np.array([[1, np.inf], [0, 1]]), error=1)
+    assert calfrewin.fit(heights, error=3, nodata=-32768, fill=0).surface()[6, 6] <= 3
+    assert calfrewin.fit(heights, error=3, nodata=-32768, fill=0.5).unit < 1
 
 
-def test_refusals():
-    heights = hills(33, 33)
-    for words, text in (({}, "one of error and triangles"), ({"error": 1, "triangles": 5}, "one of error"), ({"error": -1}, "error is -1"), ({"triangles": 1}, "triangles is 1"),
-                        ({"error": 1, "unit": 1e-6}, "unit is 1e-06, and has to be at least"), ({"error": 0}, "has to be at least")):
-        with pytest.raises(ValueError, match=text):
-            calfrewin.fit(heights, **words)
-    with pytest.raises(ValueError, match="2 to 2049 of each"):
-        calfrewin.fit(np.zeros((2050, 3)), error=1)
-    with pytest.raises(ValueError, match=r"nodata"):
-        calfrewin.fit(np.array([[0, 3.4e38], [0, 0]]), error=1)
+@pytest.mark.parametrize("dtype", [np.int16, np.float32])
+def test_a_hole_in_a_plain_is_filled_level(dtype):
+    heights = np.full((50, 70), 7, dtype)
+    heights[10:33, 5:60] = -99
+    mesh = calfrewin.fit(heights, error=0, nodata=-99)
+    assert (mesh.surface() == 7).all() and len(mesh.triangles) < 6
+
+
+def test_a_fill_is_smooth_over_a_great_hole():
+    y, x = np.mgrid[0:300, 0:300].astype(float)
+    plane = 2 * x + 3 * y
+    heights = plane.copy()
+    heights[50:250, 50:250] = np.nan
+    found = calfrewin.fit(heights, error=1).surface()
+    assert np.abs(found - plane).max() < 150 and np.abs(np.diff(found, axis=0)).max() < 20
+
+
+@pytest.mark.parametrize("heights, options, kind, text", [
+    (hills(33, 33), {}, ValueError, "one of error and triangles is wanted"),
+    (hills(33, 33), {"error": 1, "triangles": 5}, ValueError, "one of error and triangles is wanted"),
+    (hills(33, 33), {"error": -1}, ValueError, "error is -1, and has to be 0 or more"),
+    (hills(33, 33), {"error": math.nan}, ValueError, "error is nan, and has to be 0 or more"),
+    (hills(33, 33), {"error": math.inf}, ValueError, "error is inf, and has to be 0 or more"),
+    (hills(33, 33), {"triangles": 1}, ValueError, "triangles is 1, and has to be from 2 to 4294967295"),
+    (hills(33, 33), {"triangles": 2.5}, TypeError, "triangles is 2.5, and has to be a whole number"),
+    (hills(33, 33), {"error": 1, "unit": 1e-6}, ValueError, "unit is 1e-06, and has to be at least 0.00"),
+    (hills(33, 33), {"error": 1, "unit": -1}, ValueError, "unit is -1, and has to be above 0"),
+    (hills(33, 33), {"error": 0}, ValueError, "error is 0, and has to be at least 0.00.* by which heights are rounded"),
+    (hills(33, 33), {"error": 1, "cell": 0}, ValueError, "cell is 0, and has to be above 0"),
+    (hills(33, 33), {"error": 1, "transform": (1, 2, 0, 2, 4, 0)}, ValueError, "puts all points on one line"),
+    (hills(33, 33), {"error": 1, "globe": True}, ValueError, "globe: the heights have no coordinate system"),
+    (hills(33, 33), {"error": 1, "globe": True, "crs": "EPSG:1"}, ValueError, "crs is 'EPSG:1', and PROJ knows no such"),
+    (np.zeros((2050, 3)), {"error": 1}, ValueError, r"shape \(2050, 3\), .*2 to 2049 of each.*heights\[::2, ::2\]"),
+    (np.zeros((1, 9)), {"error": 1}, ValueError, r"shape \(1, 9\)"),
+    (np.zeros(9), {"error": 1}, ValueError, r"shape \(9,\)"),
+    (np.zeros((3, 3, 3)), {"error": 1}, ValueError, r"shape \(3, 3, 3\)"),
+    (np.zeros((0, 0)), {"error": 1}, ValueError, r"shape \(0, 0\)"),
+    (np.full((3, 3), np.nan), {"error": 1}, ValueError, "no point has one"),
+    (np.full((3, 3), 7), {"error": 1, "nodata": 7}, ValueError, "no point has one"),
+    (np.array([[1, np.inf], [0, 1]]), {"error": 1}, ValueError, "from 0 to inf, and have to be finite"),
+    (np.array([[0, 3.4e38], [0, 0]]), {"error": 1}, ValueError, r"is a value among them that stands for none \(nodata\)"),
+    (np.zeros((3, 3), complex), {"error": 1}, TypeError, "of type complex128"),
+    (np.zeros((3, 3), "M8[s]"), {"error": 1}, TypeError, "of type datetime64"),
+    (np.array([["a", "b"]]), {"error": 1}, TypeError, "of type <U1"),
+    ([[1, 2], [3, None]], {"error": 1}, TypeError, "of type object"),
+])
+def test_a_refusal_names_the_argument_its_value_and_its_range(heights, options, kind, text):
+    with pytest.raises(kind, match=text):
+        calfrewin.fit(heights, **options)
+
+
+def test_no_budget_caps_an_error():
+    heights = np.random.default_rng(1).integers(0, 60000, (1025, 1025))
+    mesh = calfrewin.fit(heights, error=1)
+    assert mesh.error <= 1 and len(mesh.triangles) > 1_048_576
+
+
+def test_the_best_mesh_has_no_more_triangles_than_the_engine_says_and_a_lower_error_more():
+    heights = hills(129, 129)
+    counts = [len(calfrewin.fit(heights, error=error).triangles) for error in (1, 2, 4, 8, 16)]
+    assert counts == sorted(counts, reverse=True)
+    errors = [calfrewin.fit(heights, triangles=count).error for count in (100, 200, 400)]
+    assert errors == sorted(errors, reverse=True)
+
+
+def test_padding_costs_few_triangles():
+    heights = np.full((40, 70), 1000.0)
+    heights[0, 0] = 0
+    assert len(calfrewin.fit(heights, error=1).triangles) < 60
+
+
+@pytest.mark.parametrize("transform", [(30, 0, 5, 0, -30, 7), (30, 0, 5, 0, 30, 7), (0, 30, 5, 30, 0, 7), (20, 5, 0, -5, -20, 9)])
+def test_triangles_are_counterclockwise_wherever_they_lie(transform):
+    mesh = calfrewin.fit(hills(20, 30), error=2, transform=transform)
+    for placed in (mesh, calfrewin.fit(hills(20, 30), error=2).at(transform)):
+        a, b, c = (placed.vertices[placed.triangles[:, k], :2] for k in range(3))
+        assert (np.cross(b - a, c - a) > 0).all()
+        assert np.array_equal(placed.vertices, mesh.vertices)
+    a, b, c, d, e, f = transform
+    assert np.allclose(mesh.vertices[:, 0], a * mesh.column + b * mesh.row + c)
 
 
 def test_xarray_brings_its_place():
     xarray = pytest.importorskip("xarray")
     heights = hills(20, 30)
     array = xarray.DataArray(heights, dims=("y", "x"), coords={"y": 1000 - 10 * np.arange(20), "x": 500 + 10 * np.arange(30)})
-    mesh = calfrewin.fit(array, error=1)
-    assert mesh.vertices[:, 0].max() == 790 and mesh.vertices[:, 1].min() == 810
-    up = calfrewin.fit(array[::-1], error=1)  # rows to the north
-    assert up.vertices[:, 1].min() == 810
-    t, v = up.triangles, up.vertices
-    a, b, c = (v[t[:, k]] for k in range(3))
-    assert (np.cross((b - a)[:, :2], (c - a)[:, :2]) > 0).all()
+    for given_ in (array, array[::-1], array.expand_dims("band")):
+        mesh = calfrewin.fit(given_, error=1)
+        assert mesh.vertices[:, 0].max() == 790 and mesh.vertices[:, 1].min() == 810
+        a, b, c = (mesh.vertices[mesh.triangles[:, k], :2] for k in range(3))
+        assert (np.cross(b - a, c - a) > 0).all()
+    with pytest.raises(ValueError, match="a coordinate x whose steps are not even"):
+        calfrewin.fit(array.assign_coords(x=np.arange(30) ** 2), error=1)
+    with pytest.raises(ValueError, match="choose a band"):
+        calfrewin.fit(xarray.concat([array, array], "band"), error=1)
 
 
-def test_what_a_grid_is_padded_with_costs_few_triangles():
-    heights = np.full((40, 70), 1000.0)
-    heights[0, 0] = 0
-    assert len(calfrewin.fit(heights, error=1).triangles) < 60
+@given(SHAPES, SEEDS, st.integers(10, 500))
+def test_a_view_of_any_shape_is_off_by_what_it_tells(shape, seed, triangles):
+    heights = hills(*shape, seed)
+    mesh = calfrewin.view(heights, (100, 100, 400), triangles, cell=30)
+    assert len(mesh.triangles) <= triangles
+    found, times = heights_of(mesh)
+    assert np.abs(found - heights).max() <= mesh.error + 1e-9
+    assert (times == 1).all() and has_no_cracks(mesh)
 
 
-def test_view():
-    heights = hills(65, 65)
-    mesh = calfrewin.view(heights, (100, 100, 400), 500, cell=30)
-    assert len(mesh.triangles) <= 500 and np.abs(heights_of(mesh)[0] - heights).max() <= mesh.error + 1e-6
+def test_a_view_is_fine_where_the_camera_is():
+    heights = np.random.default_rng(1).integers(0, 100, (200, 300)).astype(float)
+    for x, y, rows, columns in ((0, 0, slice(150, 200), slice(0, 50)), (8970, 5970, slice(0, 50), slice(250, 300))):
+        mesh = calfrewin.view(heights, (x, y, 50), 2000, cell=30)
+        near = np.zeros((200, 300), bool)
+        near[rows, columns] = True
+        is_near = near[np.rint(mesh.row).astype(int), np.rint(mesh.column).astype(int)]
+        assert is_near.sum() > 5 * is_near.size * 2500 / 60000
+
+
+@pytest.mark.parametrize("options, kind, text", [
+    ({"triangles": 1}, ValueError, "triangles is 1, and has to be from 2 to 1048576"),
+    ({"triangles": 100, "camera": (1, 2, math.nan)}, TypeError, "z is nan"),
+    ({"triangles": 100, "cell": 1e6}, ValueError, "cell / unit is 1000000, and has to be from 1 to 1024"),
+])
+def test_a_refusal_of_view_names_the_argument(options, kind, text):
+    with pytest.raises(kind, match=text):
+        calfrewin.view(hills(20, 30), **{"camera": (0, 0, 100)} | options)
+
+
+def test_a_plot_has_the_triangles():
+    matplotlib = pytest.importorskip("matplotlib")
+    matplotlib.use("agg")
+    mesh = calfrewin.fit(hills(20, 30), error=10)
+    axes = mesh.plot(cmap="gray")
+    assert len(axes.collections[0]._triangulation.triangles) == len(mesh.triangles)
+    assert "triangles" in repr(mesh) and "20 x 30 points" in repr(mesh)

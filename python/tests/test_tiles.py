@@ -11,7 +11,7 @@ from hypothesis import given, strategies as st
 from calfrewin import quantized, systems, tiles
 from calfrewin.raster import open_raster
 from readers import check_tileset, read_glb, up_of
-from conftest import hills, write_tif
+from made import hills, write_tif
 
 
 class Place:

@@ -79,22 +79,25 @@ def _cut(mesh: GridMesh, end: float) -> GridMesh:
     return with_triangles(mesh, np.concatenate((kept, pieces[(mesh.column[pieces] <= end).all(1)])))
 
 
-def split(mesh: GridMesh, triangles: Numbers, value: Floats, asked: Optional[Flags] = None) -> tuple[GridMesh, Numbers]:
+def split(mesh: GridMesh, triangles: Numbers, value: Floats, along: Optional[Floats] = None) -> tuple[GridMesh, Numbers]:
     """Triangles split along a straight line: the mesh with the new vertices at its end, and the pieces.
 
     Args:
         triangles: some of the mesh, of which each edge that crosses the line gets one new vertex.
         value: of each vertex, linear over the plane, and 0 on the line.
-        asked: which of `triangles` the line is meant for; their neighbours are split where an edge is shared, and no
-            other ones. Without it all are.
+        along: of each vertex, linear over the plane: only what crosses the line where this is from 0 to 1 is split, so
+            where it is 0 and 1 the line has to meet a vertex.
     """
     corners = [triangles, np.roll(triangles, -1, axis=1)]
     low, high = np.minimum(*corners).astype(np.int64), np.maximum(*corners).astype(np.int64)
     edges = low * np.int64(len(mesh.column)) + high  # both triangles of an edge name it alike
-    crosses = value[low] * value[high] < 0
-    edge = np.unique(edges[crosses if asked is None else crosses & asked[:, None]])
+    edge = np.unique(edges[value[low] * value[high] < 0])
     i, j = edge // len(mesh.column), edge % len(mesh.column)
     part = value[i] / (value[i] - value[j])
+    if along is not None:
+        at = along[i] + part * (along[j] - along[i])
+        is_asked = (at > 0) & (at < 1)
+        edge, i, j, part = edge[is_asked], i[is_asked], j[is_asked], part[is_asked]
     column, row, number = (np.concatenate((values, values[i] + part * (values[j] - values[i]))) for values in mesh[:3])
     return GridMesh(column, row, number, mesh.triangles), _pieces(triangles, edges, edge, len(mesh.column))
 

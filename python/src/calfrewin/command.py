@@ -13,7 +13,7 @@ from typing import Any, Callable, Iterator, Optional
 import click
 
 from . import __version__
-from .export import KINDS
+from .export import GLOBE, KINDS
 from .formats import ENCODINGS
 
 Progress = Callable[[int, int], None]
@@ -36,6 +36,7 @@ class Words:
     fill: Optional[float]
     spacing: Optional[float]
     encoding: Optional[str]
+    mask: Optional[str]
     unit: Optional[float]
     crs: Optional[str]
     vertical: Optional[str]
@@ -97,8 +98,8 @@ def stage(label: str, words: Words) -> Iterator[Optional[Progress]]:
 @click.argument("out", metavar="OUT")
 @click.option("--error", type=click.FloatRange(0), help="The fewest triangles that are nowhere off by more metres.")
 @click.option("--triangles", type=click.IntRange(2), help="The least greatest error of at most so many.")
-@click.option("--camera", callback=numbers(float, "X,Y,Z"), help="With --triangles: the best mesh for a viewer there, X and "
-              "Y in metres from the window's lower left point.")
+@click.option("--camera", callback=numbers(float, "X,Y,Z"), help="With --triangles: the best mesh for a viewer there, in "
+              "coordinates of OUT with its origin added.")
 @click.option("--window", callback=numbers(int, "COLUMN,ROW,COLUMNS,ROWS"), help="Only this part of IN.")
 @click.option("--bounds", callback=numbers(float, "X,Y,X,Y"), help="Only what lies between these coordinates of IN's system: "
               "least X, least Y, greatest X, greatest Y.")
@@ -107,12 +108,15 @@ def stage(label: str, words: Words) -> Iterator[Optional[Progress]]:
 @click.option("--measure", is_flag=True, help="Reads IN once more and tells the error at all its points, those left out too.")
 @click.option("--band", type=int, default=1, show_default=True)
 @click.option("--encoding", type=click.Choice(ENCODINGS), help="For pictures whose colours are heights.")
+@click.option("--mask", type=click.Path(exists=True, dir_okay=False), help="A file of polygons (.geojson, or what fiona reads): "
+              "only what lies within.")
 @click.option("--nodata", type=float, help="The number that stands for no height, where IN does not say.")
 @click.option("--fill", type=float, help="The height of points without one; without it they are filled from their edges.")
 @click.option("--spacing", type=click.FloatRange(0, min_open=True), help="Metres from point to point, where IN does not say.")
 @click.option("--unit", type=click.FloatRange(0, min_open=True), help="Heights are rounded to multiples of it; without it the "
               "finest that their range allows.")
-@click.option("--crs", help="The system of the vertices, as EPSG:25832; without it IN's own if it is in metres, else UTM.")
+@click.option("--crs", help="The system of the vertices, as EPSG:25832; without it IN's own if it is in metres, else "
+              "UTM. globe: metres to the east, to the north and up about the middle, on the curved earth.")
 @click.option("--vertical", metavar="EPSG:CODE", help="What heights are over: EPSG:5773 for SRTM, EPSG:3855 for Copernicus; "
               "without it what IN says, else the ellipsoid.")
 @click.option("--origin", callback=numbers(float, "X,Y,Z"), help="What is 0 in OUT; without it a whole place in the middle.")
@@ -151,7 +155,7 @@ def mesh(**words: Any) -> None:
     try:
         report = run(asked)
     except KeyboardInterrupt:
-        raise click.ClickException(f"interrupted; {asked.out} was not written") from None
+        raise click.ClickException(f"interrupted; {asked.out} is as it was") from None
     except (ValueError, TypeError, OSError, MemoryError, ImportError) as why:
         raise click.ClickException(str(why) or type(why).__name__) from None
     click.echo(json.dumps(report) if asked.as_json else told(report))
@@ -169,7 +173,9 @@ def main() -> None:
 
 def run(words: Words) -> dict[str, Any]:
     """Does what the words say; the report."""
-    is_folder = words.kind is not None or words.tile is not None or words.out.endswith("/") or os.path.isdir(words.out)
+    has_ending = pathlib.PurePath(words.out).suffix.lower() in KINDS
+    is_folder = (words.kind is not None or words.tile is not None or words.out.endswith("/")
+                 or not has_ending and os.path.isdir(words.out))
     _refuse(words, is_folder)
     from .raster import open_raster
     began = time.perf_counter()
@@ -189,7 +195,16 @@ def _refuse(words: Words, is_folder: bool) -> None:
             words.kind != "quantized-mesh" and (words.error is None) == (words.triangles is None),
         f"OUT is {words.out!r}, and no such folder is there":
             not is_folder and not pathlib.Path(words.out).resolve().parent.is_dir(),
+        f"OUT is {words.out!r}, and a folder is there": not is_folder and os.path.isdir(words.out),
         "--camera is for --triangles": words.camera is not None and words.triangles is None,
+        "--camera is for a map, and not for --crs globe or --mask":
+            words.camera is not None and (words.crs == GLOBE or words.mask is not None),
+        "--texture, --uv and --quantize are for .glb alone":
+            kind != ".glb" and not is_folder and bool(words.texture or words.uv or words.quantize),
+        "--texture and --uv are for a mesh, and --base and --size make a solid":
+            bool(words.texture or words.uv) and (words.base is not None or words.size is not None),
+        "--crs globe is for a mesh, and --base and --size make a print of a map":
+            words.crs == GLOBE and (words.base is not None or words.size is not None),
         "one of --window and --bounds is wanted": words.window is not None and words.bounds is not None,
     }
     for text, is_so in wrong.items():
@@ -228,11 +243,20 @@ def one(raster: Any, words: Words) -> dict[str, Any]:
     from . import systems
     from .export import save
     window = raster.window_of(words.bounds) if words.bounds else raster.window(by_rows(words.window))
-    crs = words.crs or (None if words.camera else systems.metres_crs(raster.crs, raster.transform, raster.shape))
+    crs = words.crs or systems.metres_crs(raster.crs, raster.transform, raster.shape)
+    camera = words.camera
+    if camera and crs and raster.crs and crs != raster.crs:
+        x, y = systems.flat_transformer(crs, raster.crs).transform(*camera[:2])
+        camera = x, y, camera[2]
+    polygons = None
+    if words.mask:
+        from .mask import mask_of
+        polygons = mask_of(words.mask, raster.crs)
     texture = pathlib.Path(words.texture).read_bytes() if words.texture else None
     with stage(f"reading {words.source}, {window.columns} x {window.rows} points, and meshing", words) as progress:
         found = r.fit_raster(raster, error=words.error, triangles=words.triangles, window=window, every=words.every,
-                             fill=words.fill, unit=words.unit, camera=words.camera, progress=progress)
+                             fill=words.fill, unit=words.unit, camera=camera, globe=crs == GLOBE, polygons=polygons,
+                             progress=progress)
     made = found.mesh
     with stage(f"writing {words.out}", words):
         report = save(made, words.out, crs=crs, origin=words.origin, normals=words.normals, uv=words.uv, texture=texture,
@@ -241,7 +265,7 @@ def one(raster: Any, words: Words) -> dict[str, Any]:
     covered = (rows - 1) * found.every * (columns - 1) * found.every / ((raster.shape[0] - 1) * (raster.shape[1] - 1))
     report |= {"out": words.out, "rounding": made.rounding, "unit": made.unit, "points": list(made.shape),
                "of": list(raster.shape), "every": found.every, "covered": round(covered, 4), "filled": made.filled}
-    if crs and made.crs and crs != made.crs:
+    if crs and made.crs and crs not in (made.crs, GLOBE):
         report["sideways"] = round(systems.sideways(made, crs), 3)
     if words.measure:
         with stage(f"measuring {words.source}", words) as progress:

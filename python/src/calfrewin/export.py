@@ -11,7 +11,8 @@ from . import glb as gltf
 from ._types import Floats, Numbers
 from .files import whole_file, write_bytes
 from .mesh import Mesh
-from .solid import normals_of, solid
+from .normals import Normals, ground_normals, normals_of
+from .solid import solid
 
 BY_MESHIO = (".ply", ".stl", ".obj", ".vtk", ".vtu", ".off")
 BINARY = (".ply", ".stl", ".vtk", ".vtu")
@@ -44,7 +45,8 @@ def kind_of(path: str) -> str:
 def save(mesh: Mesh, path: str, *, crs: Optional[str] = None, origin: Optional[tuple[float, float, float]] = None,
          normals: bool = True, uv: bool = False, texture: Optional[bytes] = None, quantize: bool = False,
          base: Optional[float] = None, size: Optional[float] = None, exaggerate: float = 1.0) -> dict[str, Any]:
-    """Writes the mesh, and PATH.json beside it with the origin and the coordinate system; what that says comes back.
+    """Writes the mesh, and PATH.json beside it with the origin, the coordinate system and the error; what that says comes
+    back. The error is that of the ground, before it is exaggerated and brought to a size.
 
     Args:
         path: its ending is the format: .glb .npz .ply .stl .obj .vtk .vtu .off.
@@ -63,6 +65,11 @@ def save(mesh: Mesh, path: str, *, crs: Optional[str] = None, origin: Optional[t
         exaggerate: heights are multiplied by it.
     """
     kind = kind_of(path)
+    is_solid = base is not None or size is not None
+    if kind != ".glb" and (uv or texture or quantize):
+        raise ValueError(f"path is {path!r}, and uv, texture and quantize are for .glb alone")
+    if is_solid and (uv or texture or quantize):
+        raise ValueError("uv, texture and quantize are for a mesh, and base and size make a solid")
     if crs == GLOBE and (base is not None or size is not None or origin is not None):
         raise ValueError("crs globe is no system for base, size and origin: give one of a map")
     x, y, z, frame = _places(mesh, crs, exaggerate)
@@ -72,22 +79,29 @@ def save(mesh: Mesh, path: str, *, crs: Optional[str] = None, origin: Optional[t
         zero = origin_of(x, y)
     else:
         zero = np.zeros(3)
-    told = {"origin": zero.tolist(), "crs": crs or mesh.crs, "error": mesh.error * exaggerate,
+    told = {"origin": zero.tolist(), "crs": crs or mesh.crs, "error": mesh.error,
             "triangles": len(mesh.triangles), "vertices": len(mesh.height), "exaggerate": exaggerate}
     if frame is not None:
         told["to_EPSG:4978"] = frame.T.reshape(-1).tolist()
-    if kind == ".glb" and quantize:
+    if quantize:
         write_bytes(path, *_quantized(mesh, zero, uv, normals, texture, exaggerate, told))
+    elif kind == ".glb" and not is_solid:
+        up = _normals(mesh, crs, (x, y, z), exaggerate) if normals else None
+        places = np.empty((len(x), 3), "<f4")
+        places[:, 0], places[:, 1], places[:, 2] = x - zero[0], z - zero[2], zero[1] - y
+        del x, y, z
+        write_bytes(path, *gltf.glb(places, mesh.triangles, normals=None if up is None else gltf.y_up(up),
+                                    uv=_texture_places(mesh) if uv or texture else None, image=texture, extras=told))
     else:
         points = np.column_stack((x, y, z))
         points -= zero
-        points, triangles = _printable(mesh, points, zero, base, size, exaggerate, told)
-        is_solid = len(triangles) != len(mesh.triangles)
+        triangles = mesh.triangles
+        if is_solid:
+            points, triangles = _solid(mesh, points, zero, base, size, exaggerate, told)
+            told |= {"triangles": len(triangles), "vertices": len(points)}
         if kind == ".glb":
             up = gltf.y_up(normals_of(points, triangles)) if normals else None
-            st = _texture_places(mesh) if (uv or texture) and not is_solid else None
-            write_bytes(path, *gltf.glb(gltf.y_up(points).astype("<f4"), triangles, normals=up, uv=st, image=texture,
-                                        extras=told))
+            write_bytes(path, *gltf.glb(gltf.y_up(points).astype("<f4"), triangles, normals=up, extras=told))
         elif kind == ".npz":
             _npz(path, points, triangles, told)
         else:
@@ -116,17 +130,23 @@ def _places(mesh: Mesh, crs: Optional[str], exaggerate: float) -> Places:
     return Places(x, y, z, frame)
 
 
-def _printable(mesh: Mesh, points: Floats, zero: Floats, base: Optional[float], size: Optional[float], exaggerate: float,
-               told: dict[str, Any]) -> tuple[Floats, Numbers]:
-    """The points in millimetres where a size is wanted, and the solid where one is."""
-    scale = 1.0 if size is None else size / float(np.ptp(points[:, :2], axis=0).max())
+def _normals(mesh: Mesh, crs: Optional[str], places: tuple[Floats, Floats, Floats], exaggerate: float) -> Normals:
+    """Those of the ground; on the globe, and of a mesh without a grid, those of the triangles."""
+    if mesh.grid is None or crs == GLOBE:
+        return normals_of(np.column_stack(places), mesh.triangles)
+    return ground_normals(mesh, crs, exaggerate)
+
+
+def _solid(mesh: Mesh, points: Floats, zero: Floats, base: Optional[float], size: Optional[float], exaggerate: float,
+           told: dict[str, Any]) -> tuple[Floats, Numbers]:
+    """The points and triangles of a solid, in millimetres where a size is wanted."""
+    scale = 1.0
     if size is not None:
+        scale = size / float(np.ptp(points[:, :2], axis=0).max())
         points *= scale
         told["millimetres_to_a_metre"] = scale
-    floor = None if base is None else (base * exaggerate - float(zero[2])) * scale
-    if floor is None and size is not None:
-        floor = float(points[:, 2].min()) - FLOOR
-    return (points, mesh.triangles) if floor is None else solid(points, mesh.triangles, floor, not mesh.is_clipped)
+    floor = float(points[:, 2].min()) - FLOOR if base is None else (base * exaggerate - float(zero[2])) * scale
+    return solid(points, mesh.triangles, floor, not mesh.is_clipped)
 
 
 def origin_of(x: Floats, y: Floats) -> Floats:
@@ -168,8 +188,7 @@ def _quantized(mesh: Mesh, origin: Floats, uv: bool, normals: bool, texture: Opt
         raise ValueError("quantize wants rows from north to south without a turn, and vertices at the array's points")
     low = float(mesh.height.min())
     number = np.rint((mesh.height - low) / mesh.unit)
-    scaled = np.column_stack((a * column, e * row, mesh.height * exaggerate))
-    up = gltf.y_up(normals_of(scaled, mesh.triangles)) if normals else None
+    up = gltf.y_up(ground_normals(mesh, exaggerate=exaggerate)) if normals else None
     return gltf.glb(np.column_stack((column, number, row)).astype("<u2"), mesh.triangles, normals=up,
                     uv=_texture_places(mesh) if uv or texture else None, image=texture, extras=told,
                     scale=(a, mesh.unit * exaggerate, -e),

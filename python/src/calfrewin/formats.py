@@ -26,9 +26,22 @@ class Tile(NamedTuple):
     south: float
 
 
-@functools.lru_cache(maxsize=8)
+def stamp(path: str) -> tuple[int, int]:
+    """What changes with a file: when it was written, and its size; of a URL nothing is known."""
+    try:
+        found = os.stat(path)
+    except OSError:
+        return 0, 0
+    return found.st_mtime_ns, found.st_size
+
+
 def array_of_file(path: str, form: str) -> Array:
     """rows x columns of numbers as they stand: read by pages where the form allows that."""
+    return _array(path, form, stamp(path))
+
+
+@functools.lru_cache(maxsize=8)
+def _array(path: str, form: str, stamp: tuple[int, int]) -> Array:
     return {"npy": _npy, "pgm": _pgm, "hgt": _hgt}[form](path)
 
 

@@ -11,6 +11,7 @@ from ._types import Flags, Floats
 from .engine import MOST_HEIGHT, SIDES
 
 UNITS = tuple(float(f"{digit}e{power}") for power in range(-9, 0) for digit in (1, 2, 5)) + (1.0,)
+NO_PART = 1e-9  # of a unit: what is off by less is a multiple, but for the last bits of a float
 FINEST = 1e-9  # of the greatest height: finer units would be rounding of floats alone
 
 
@@ -50,8 +51,8 @@ def rounded(heights: npt.NDArray[Any], unit: Optional[float] = None) -> Rounded:
     exact /= unit
     numbers = np.rint(exact)
     exact -= numbers
-    rounding = max(float(exact.max()), -float(exact.min())) * unit
-    return Rounded(numbers.astype(np.uint16), unit, base, rounding)
+    part = max(float(exact.max()), -float(exact.min()))
+    return Rounded(numbers.astype(np.uint16), unit, base, part * unit if part > NO_PART else 0.0)
 
 
 def _finest_unit(heights: npt.NDArray[Any], low: float, high: float) -> float:

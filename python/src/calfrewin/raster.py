@@ -72,10 +72,10 @@ class Raster:
         if self.form != "gdal":
             return formats.array_of_file(self.path, self.form)[row:row + rows, column:column + columns]
         bands = [1, 2, 3] if self.encoding else self.band
-        from rasterio.errors import RasterioError
+        from rasterio.errors import RasterioError, RasterioIOError
         try:
             found = _dataset(self.path).read(bands, window=((row, row + rows), (column, column + columns)))
-        except RasterioError as why:
+        except (RasterioError, RasterioIOError) as why:
             raise Unreadable(f"{self.path} cannot be read to its end: {why}") from None
         return formats.decoded(self.encoding, found) if self.encoding else np.asarray(found)
 
@@ -122,12 +122,12 @@ class Raster:
         return Window(row, column, rows, columns)
 
 
-_open: dict[tuple[int, str], Any] = {}
+_open: dict[tuple[int, str, tuple[int, int]], Any] = {}
 
 
 def _dataset(path: str) -> Any:
     """An open dataset, one for each thread: GDAL's are not for two threads at once."""
-    key = threading.get_ident(), path
+    key = threading.get_ident(), path, formats.stamp(path)
     if key not in _open:
         if len(_open) >= MOST_OPEN:
             _open.clear()
@@ -242,7 +242,7 @@ class RasterMesh(NamedTuple):
 def fit_raster(raster: Raster, *, error: Optional[float] = None, triangles: Optional[int] = None,
                window: Optional[Sequence[int]] = None, every: Optional[int] = None, fill: Optional[float] = None,
                unit: Optional[float] = None, camera: Optional[tuple[float, float, float]] = None, globe: bool = False,
-               progress: Optional[Progress] = None) -> RasterMesh:
+               polygons: Any = None, progress: Optional[Progress] = None) -> RasterMesh:
     """The mesh of a raster, or of a window (row, column, rows, columns) of it.
 
     Where there are more than 2049 points along a side, each second one is taken, or each third, ..; `error` holds at those
@@ -251,11 +251,18 @@ def fit_raster(raster: Raster, *, error: Optional[float] = None, triangles: Opti
     Args:
         camera: for `triangles`: x, y and height of a viewer, in the raster's system.
         globe: the error is to hold on the globe.
+        polygons: a shapely geometry in the raster's system, along whose outline the mesh is cut.
         error, triangles, fill, unit: as for `calfrewin.fit`.
     """
     array, part, step = array_of_raster(raster, window=window, every=every, fill=fill, progress=progress)
     if camera is None:
-        return RasterMesh(mesh_of(array, error=error, triangles=triangles, unit=unit, globe=globe), part, step)
+        clip = None
+        if polygons is not None:
+            from .mask import clip_to
+            clip = clip_to(polygons, array.transform, (array.heights.shape[0], array.heights.shape[1]))
+        return RasterMesh(mesh_of(array, error=error, triangles=triangles, unit=unit, globe=globe, clip=clip), part, step)
+    if polygons is not None:
+        raise ValueError("camera and polygons are not for one mesh")
     if triangles is None:
         raise ValueError("camera is for triangles, and no number of these is given")
     cell = systems.metres_of_cell(raster.crs, array.transform, array.heights.shape)

@@ -1,28 +1,10 @@
-"""Normals, borders, and the closed solid of a mesh."""
+"""Borders, and the closed solid of a mesh: for prints."""
 from __future__ import annotations
 
 import numpy as np
 import numpy.typing as npt
 
 from ._types import Floats, Numbers
-
-
-def normals_of(points: Floats, triangles: Numbers, at_once: int = 1 << 20) -> npt.NDArray[np.float32]:
-    """Shape (vertices, 3): a normal of length 1 at each vertex, the mean of those of its triangles by their areas.
-
-    >>> normals_of(np.array([[0., 0, 5], [1, 0, 5], [0, 1, 5]]), np.array([[0, 1, 2]], np.uint32))[0].tolist()
-    [0.0, 0.0, 1.0]
-    """
-    found = np.zeros((3, len(points)))
-    for begin in range(0, len(triangles), at_once):
-        corners = triangles[begin:begin + at_once].T.astype(np.int64)
-        a, b, c = (points[corner] for corner in corners)
-        each = np.cross(b - a, c - a).T
-        for axis in range(3):
-            for corner in corners:
-                found[axis] += np.bincount(corner, each[axis], len(points))
-    found /= np.maximum(np.sqrt((found * found).sum(0)), 1e-300)
-    return found.T.astype(np.float32)
 
 
 def border_edges(triangles: Numbers) -> npt.NDArray[np.int64]:

@@ -16,14 +16,29 @@ if TYPE_CHECKING:
     from .mesh import Mesh
 
 GEOCENTRIC, GEODETIC = "EPSG:4978", "EPSG:4979"  # WGS 84 as x, y, z from the earth's middle; as degrees and metres over it
+TRUE = 0.01  # so far from 1 may be the scale of a map that is taken as true
 LONGEST = 20_000  # edges that are looked at
 HALF_AXES = (6_378_137.0, 6_356_752.314245179)  # of WGS 84, at the equator and at the poles
 
 
+def crs_of(crs: str) -> Any:
+    """A pyproj.CRS, or the error that names what is none.
+
+    >>> crs_of("EPSG:1")
+    Traceback (most recent call last):
+    ValueError: crs is 'EPSG:1', and PROJ knows no such system: give one as EPSG:32632
+    """
+    from pyproj import CRS
+    from pyproj.exceptions import CRSError
+    try:
+        return CRS.from_user_input(crs)
+    except CRSError:
+        raise ValueError(f"crs is {crs!r}, and PROJ knows no such system: give one as EPSG:32632") from None
+
+
 def _horizontal(crs: str) -> Any:
     """The part of a system that has no heights."""
-    from pyproj import CRS
-    found = CRS.from_user_input(crs)
+    found = crs_of(crs)
     return next((part for part in found.sub_crs_list if not part.is_vertical), found)
 
 
@@ -35,24 +50,16 @@ def metres_of_height(crs: Optional[str]) -> float:
     """
     if crs is None:
         return 1.0
-    from pyproj import CRS
-    vertical = next((part for part in CRS.from_user_input(crs).sub_crs_list if part.is_vertical), None)
+    vertical = next((part for part in crs_of(crs).sub_crs_list if part.is_vertical), None)
     return float(vertical.axis_info[0].unit_conversion_factor) if vertical is not None else 1.0
-
-
-def has_heights(crs: str) -> bool:
-    """Whether a system says what its heights are over."""
-    from pyproj import CRS
-    return len(CRS.from_user_input(crs).axis_info) == 3
 
 
 def with_heights(crs: Optional[str], vertical: str) -> str:
     """A system with heights of its own: over the geoid of `vertical`, as EPSG:5773 (EGM96) or EPSG:3855 (EGM2008)."""
-    from pyproj import CRS
     from pyproj.crs.crs import CompoundCRS
     if crs is None:
         raise ValueError(f"vertical is {vertical}, and the raster has no coordinate system that it could be added to")
-    height = CRS.from_user_input(vertical)
+    height = crs_of(vertical)
     if not height.is_vertical:
         raise ValueError(f"vertical is {vertical} ({height.name}), and has to be a system of heights, as EPSG:5773")
     flat = _horizontal(crs)
@@ -75,8 +82,8 @@ def _refuse_without_grid(crs: str, to: str, vertical: str) -> None:
 
 @functools.lru_cache(maxsize=64)
 def _transformer(crs: str, to: str, thread: int) -> Any:
-    from pyproj import CRS, Transformer
-    source, goal = CRS.from_user_input(crs), CRS.from_user_input(to)
+    from pyproj import Transformer
+    source, goal = crs_of(crs), crs_of(to)
     if len(goal.axis_info) == 2:
         source = _horizontal(crs)  # heights stay as they are
     elif len(source.axis_info) == 3:
@@ -95,17 +102,24 @@ def transformer(crs: str, to: str) -> Any:
     return _transformer(crs, to, threading.get_ident())
 
 
+def flat_transformer(crs: str, to: str) -> Any:
+    """A pyproj.Transformer of x and y alone."""
+    return transformer(crs, _horizontal(to).to_wkt())
+
+
 def metres_crs(crs: Optional[str], transform: Transform, shape: tuple[int, int]) -> Optional[str]:
-    """The system for vertices in metres: the raster's own where it is in metres and true to scale, else UTM."""
+    """The system for vertices in metres: the raster's own where it is in metres and true to scale, else UTM.
+
+    >>> metres_crs("EPSG:2056", (10, 0, 2600000, 0, -10, 1200000), (100, 100))
+    'EPSG:2056'
+    """
     if crs is None:
         return None
-    flat = _horizontal(crs)
-    method = flat.coordinate_operation.method_name if flat.coordinate_operation else ""
-    is_world_map = "Mercator" in method and "Transverse" not in method
-    is_metric = all(abs(axis.unit_conversion_factor - 1) < 1e-9 for axis in flat.axis_info[:2])
-    if flat.is_projected and is_metric and not is_world_map:
-        return crs
-    return utm_crs(crs, transform, shape)
+    a, b, _, d, e, _ = transform
+    # What a step of 1 in x and in y is in metres on the ground: a map of the world stretches it, and degrees and feet do.
+    cell = Curvature(crs, transform, (shape[1] - 1) / 2, (shape[0] - 1) / 2, reach=1.0).jacobian
+    is_true = np.abs(np.linalg.svd(cell @ np.linalg.inv([[a, b], [d, e]]), compute_uv=False) - 1).max() < TRUE
+    return crs if is_true else utm_crs(crs, transform, shape)
 
 
 def utm_crs(crs: str, transform: Transform, shape: tuple[int, int]) -> str:
@@ -149,8 +163,9 @@ def name_of(crs: Optional[str]) -> str:
     """
     if crs is None:
         return "no coordinate system"
-    from pyproj import CRS
-    found = CRS.from_user_input(crs)
+    if crs == "globe":
+        return "metres to the east, to the north and up about the middle, on the globe"
+    found = crs_of(crs)
     return f"{crs}, {found.name}" if crs.upper().startswith("EPSG:") else str(found.name)
 
 

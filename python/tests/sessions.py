@@ -1,23 +1,17 @@
-#!/usr/bin/env python3
 """Random sessions of the library against the definitions (terrain.py, frames.py), of which it knows nothing: after each
 frame the addresses of the mesh, its indices, vertices and strip, how far it is off, and each number of the note; between frames
 what changed, and now and then the mesh for a tolerance and a budget, and a certificate.
 
-usage: sessions.py SEED COUNT      with roam.py on PYTHONPATH"""
-import os
+The definitions are those of checks/, a plain program for the same words."""
 import random
-import sys
 from fractions import Fraction
 
-sys.path.insert(0, os.path.dirname(os.path.dirname(os.path.abspath(__file__))))
-
-import certifying  # noqa: E402
-from frames import View, forced, frame_of, leaves_of, run_of_steps, vertices_of  # noqa: E402
-from scripts import carry_out  # noqa: E402
-from strips import deviation, strip_of  # noqa: E402
-from terrain import Terrain  # noqa: E402
-
-import roam  # noqa: E402
+import calfrewin
+import certifying
+from frames import View, forced, frame_of, leaves_of, run_of_steps, vertices_of
+from scripts import carry_out
+from strips import deviation, strip_of
+from terrain import Terrain
 
 
 def flat(found):
@@ -56,7 +50,7 @@ class Session:
         points = {(k % self.side, self.side - 1 - k // self.side): height for k, height in enumerate(heights)}
         self.most, self.before, self.leaves = most, set(), []
         self.terrain = Terrain((n, 65_535, points), spacing, most)
-        self.engine = roam.Engine(heights, most, spacing)
+        self.engine = calfrewin.Engine(heights, most, spacing)
         self.reach = spacing * self.side + 100
 
     def point(self):
@@ -64,7 +58,8 @@ class Session:
 
     def change(self):
         """One change, of the engine and of the terrain."""
-        draw, kind = self.draw, self.draw.choice([b"camera", b"camera", b"set", b"raise", b"plane", b"noplanes", b"look", b"budget"])
+        draw = self.draw
+        kind = draw.choice([b"camera", b"camera", b"set", b"raise", b"plane", b"noplanes", b"look", b"budget"])
         if kind == b"camera":
             values = [draw.randint(-self.reach, self.reach) for _ in range(3)]
             if draw.randrange(9) == 0:
@@ -83,7 +78,8 @@ class Session:
                 values = [draw.choice([-1, 1]) * 2 ** 20 for _ in range(3)] + [draw.choice([-1, 1]) * 2 ** 50]
             self.engine.add_plane(*values)
         elif kind == b"look":
-            planes = [[draw.randint(-3, 3) for _ in range(3)] + [draw.randint(-self.reach, self.reach)] for _ in range(draw.randrange(7))]
+            planes = [[draw.randint(-3, 3) for _ in range(3)] + [draw.randint(-self.reach, self.reach)]
+                      for _ in range(draw.randrange(7))]
             self.engine.look(planes)
             carry_out(self.terrain, b"noplanes", [])
             for plane in planes:
@@ -133,19 +129,21 @@ class Session:
         leaves = leaves_of(split)
         marks = [terrain.mark(a) for a in leaves]
         counts = (marks.count(kind) for kind in ("inside", "cut", "outside"))
-        wanted = roam.Note(view.worst(leaves), len(leaves), len(vertices_of(terrain, leaves)), splits, merges, *(blocked or (0, 0)), *counts)
+        wanted = calfrewin.Note(view.worst(leaves), len(leaves), len(vertices_of(terrain, leaves)), splits, merges,
+                                *(blocked or (0, 0)), *counts)
         assert note == wanted, f"the note is {note}, not {wanted}"
         assert flat(self.engine.indices()) == self.places(leaves), "the indices are others"
         vertices = vertices_of(terrain, leaves)
         positions = [k for x, y in vertices for k in (x * terrain.spacing, y * terrain.spacing, terrain.heights[x, y])]
         assert flat(self.engine.positions()) == positions, "the vertices are others"
         number = {point: k for k, point in enumerate(vertices)}
-        assert flat(self.engine.compact()) == [number[point] for a in leaves for point in terrain.corners[a]], "their numbers are others"
+        compact = [number[point] for a in leaves for point in terrain.corners[a]]
+        assert flat(self.engine.compact()) == compact, "their numbers are others"
         assert flat(self.engine.strip()) == self.places(strip_of(split)), "the strip is another"
         assert self.engine.deviation() == Fraction(deviation(terrain, leaves), terrain.m), "the deviation is another"
         found = self.engine.leaves()
         assert [int(a) for a in found] == leaves, f"the mesh is {list(found)}, not {leaves}"
-        gone, come = roam.changes(self.leaves if len(self.leaves) else found, found)
+        gone, come = calfrewin.changes(self.leaves if len(self.leaves) else found, found)
         old = set(map(int, self.leaves)) if len(self.leaves) else set(leaves)
         assert [int(a) for a in gone] == sorted_as(self.leaves, old - set(leaves)), "what went is another"
         assert [int(a) for a in come] == sorted_as(leaves, set(leaves) - old), "what came is another"
@@ -160,22 +158,14 @@ def sorted_as(these, wanted):
     return [int(a) for a in these if int(a) in wanted]
 
 
-def main(seed, count):
-    for k in range(count):
-        session = Session(random.Random(f"{seed} {k}"))
-        with session.engine:
-            for frame in range(8):
-                for _ in range(session.draw.randrange(4)):
-                    session.change()
-                try:
-                    session.frame()
-                    if frame % 4 == 1:
-                        session.fit()
-                        session.certify()
-                except (AssertionError, certifying.Rejected) as why:
-                    sys.exit(f"session {k} of seed {seed}, frame {frame + 1}: {why}")
-    print(f"{count} sessions")
-
-
-if __name__ == "__main__":
-    main(int(sys.argv[1]), int(sys.argv[2]))
+def run(seed, number):
+    """One session; an AssertionError, or certifying.Rejected, says what is wrong with it."""
+    session = Session(random.Random(f"{seed} {number}"))
+    with session.engine:
+        for frame in range(8):
+            for _ in range(session.draw.randrange(4)):
+                session.change()
+            session.frame()
+            if frame % 4 == 1:
+                session.fit()
+                session.certify()
