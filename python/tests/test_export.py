@@ -52,7 +52,7 @@ def test_a_glb_has_the_normals_of_the_ground(tmp_path):
     inner = (mesh.column > 0) & (mesh.column < 49) & (mesh.row > 0) & (mesh.row < 39)
     assert np.abs(up_of(it["normals"]) - want)[inner].max() < 0.01
     # Where every point is a vertex, the triangles around it have nearly the same mean.
-    fine = calfrewin.fit(ground[::-1], error=0.003, unit=0.002, cell=10)
+    fine = calfrewin.fit(ground[::-1], error=0.01, cell=10)
     assert np.abs(ground_normals(fine) - normals_of(fine.vertices, fine.triangles)).max() < 0.15
     placed = calfrewin.fit(ground[::-1], error=1, transform=(0, -10, 400, 10, 0, 5))
     assert np.abs(ground_normals(placed)[:, 2] - normals_of(placed.vertices, placed.triangles)[:, 2]).max() < 0.2

@@ -4,7 +4,7 @@ import struct
 import numpy as np
 import pytest
 from click.testing import CliRunner
-from conftest import hills, write_tif
+from made import hills, write_tif
 
 from calfrewin.fly import FRAME_HEAD, GROUND_HEAD, Flight, fly
 from calfrewin.mesh import array_of
