@@ -1,13 +1,13 @@
 # shellcheck shell=bash disable=SC2154
 # examples/dem.py over an .hgt, a PGM, an .npy and, where GDAL's tools are there, a GeoTIFF in degrees and one in metres. Each
-# mesh is looked at by plain readers (dem.py of this folder), and by assimp, meshio, trimesh and numpy where they are there.
+# mesh is looked at by plain readers (dem.py of this folder), and by assimp, meshio and numpy where they are there.
 # Sourced by checks/run.
 
 mkdir -- "$room/dem" && cd -- "$room/dem" || exit 1
 python3 "$checks/dem.py" make .
 
 command -v assimp >/dev/null || skip dem_by_assimp "the command assimp is not there (Debian: assimp-utils)"
-for module in meshio trimesh numpy; do
+for module in meshio numpy; do
   python3 -c "import $module" 2>/dev/null || skip "dem_by_$module" "Python's $module is not there"
 done
 
@@ -22,10 +22,6 @@ readers() {
   *.ply | *.stl | *.obj)
     found=$(python3 -c 'import sys, meshio; print(sum(len(it.data) for it in meshio.read(sys.argv[1]).cells if it.type == "triangle"))' "$1" 2>/dev/null) &&
       [ "$(tail -n 1 <<<"$found")" != "$2" ] && echo "meshio finds '$found' triangles, not $2"
-    ;;&
-  *.ply | *.stl | *.obj | *.glb)
-    found=$(python3 -c 'import sys, trimesh; print(len(trimesh.load(sys.argv[1], force="mesh", process=False).faces))' "$1" 2>/dev/null) &&
-      [ "$found" != "$2" ] && echo "trimesh finds '$found' triangles, not $2"
     ;;
   *.npz)
     found=$(python3 -c '

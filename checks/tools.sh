@@ -85,9 +85,9 @@ if has tools_imagemagick convert identify; then
   same_heights magick_with_and_without_a_comment_are_alike magick16.pgm magick_one_comment.pgm
 fi
 
-# --- GDAL: elevations from -40 to 1180 with a hole, which is filled first where the script for it is there. ---
+# --- GDAL: elevations from -40 to 1180 with a hole, which is filled first. ---
 
-if has tools_gdal gdal_translate gdalinfo; then
+if has tools_gdal gdal_translate gdalinfo gdal_fillnodata.py; then
   awk 'BEGIN {
     print "ncols 60\nnrows 40\nxllcorner 0\nyllcorner 0\ncellsize 30\nNODATA_value -9999"
     for (y = 0; y < 40; y++) {
@@ -96,8 +96,7 @@ if has tools_gdal gdal_translate gdalinfo; then
     }
   }' >in.asc
   gdal_translate -q -ot Int16 in.asc in.tif 2>/dev/null
-  cp in.tif filled.tif
-  if command -v gdal_fillnodata.py >/dev/null; then gdal_fillnodata.py -q in.tif filled.tif >/dev/null 2>&1; fi
+  gdal_fillnodata.py -q in.tif filled.tif >said 2>&1
   gdal_translate -q -a_nodata none -of PNM -ot UInt16 -outsize 257 257 -r bilinear -scale -40 1180 0 1220 \
     filled.tif gdal16.pgm 2>/dev/null
   gdal_translate -q -a_nodata none -of PNM -ot UInt16 -outsize 257 257 -r bilinear -scale -40 1180 0 1220 -co MAXVAL=1220 \

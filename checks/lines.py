@@ -1,0 +1,53 @@
+"""A plugin of pytest: each check is told by a line 'ok NAME' or 'FAILED NAME: why' in the file that --lines names, as it ends.
+
+checks/run loads it, and prints the lines among those of its other checks."""
+from __future__ import annotations
+
+import re
+from typing import Any, TextIO
+
+
+def pytest_addoption(parser: Any) -> None:
+    parser.addoption("--lines", help="the file in which each check gets its line")
+
+
+def pytest_configure(config: Any) -> None:
+    is_worker = hasattr(config, "workerinput")  # of xdist, whose reports come to the process that began it
+    if config.getoption("--lines") and not is_worker:
+        config.pluginmanager.register(Lines(open(config.getoption("--lines"), "w", encoding="utf-8")))
+
+
+def name_of(node: str) -> str:
+    """The name of a check: that of its row in a table, or of its function without `test_`."""
+    row = re.search(r"\[(.*)\]$", node)
+    return row[1] if row else re.sub("^test_", "", node.rpartition("::")[2])
+
+
+def reason_of(report: Any) -> str:
+    """What was wrong, in a line: what pytest marks as the error, and the case that hypothesis has found."""
+    text = report.longreprtext
+    lines = [line[1:].strip() for line in text.splitlines() if line.startswith("E ")] or text.splitlines()[-3:]
+    lines += [line.strip() for title, told in report.sections if "ypothesis" in title for line in told.splitlines()]
+    return " / ".join(line for line in lines if line)[:3000]
+
+
+class Lines:
+    def __init__(self, out: TextIO) -> None:
+        self.out = out
+
+    def tell(self, text: str) -> None:
+        print(text, file=self.out, flush=True)
+
+    def pytest_runtest_logreport(self, report: Any) -> None:
+        name = name_of(report.nodeid)
+        if report.failed:
+            self.tell(f"FAILED {name}: {reason_of(report)}")
+        elif report.skipped:
+            why = report.longrepr
+            self.tell(f"skipped {name}: {why[2] if isinstance(why, tuple) else why}")
+        elif report.when == "call":
+            self.tell(f"ok {name}")
+
+    def pytest_collectreport(self, report: Any) -> None:
+        if report.failed:
+            self.tell(f"FAILED {report.nodeid}: {reason_of(report)}")
