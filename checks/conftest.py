@@ -8,6 +8,8 @@ from typing import Any
 
 import pytest
 
+from place import Place
+
 CHECKS = Path(__file__).resolve().parent
 TOP = CHECKS.parent
 sys.dont_write_bytecode = True
@@ -23,3 +25,8 @@ def program(request: Any) -> Path:
     found = Path(request.config.getoption("--program")).resolve()
     assert found.is_file(), f"there is no {found}; run './roam' first"
     return found
+
+
+@pytest.fixture
+def place(tmp_path: Path, program: Path) -> Place:
+    return Place(tmp_path, program)

@@ -29,6 +29,10 @@ class Usage(Exception):
     """The words are no command."""
 
 
+class CannotWrite(Exception):
+    """A mesh cannot be written."""
+
+
 def number(word, low, high):
     """The number that a word is, 1 to 19 digits, within its range."""
     if not re.fullmatch("[0-9]{1,19}", word, re.ASCII) or not low <= int(word) <= high:
@@ -52,8 +56,7 @@ def write_mesh(prefix, k, text):
         with open(f"{prefix}{k:06}.obj", "w", newline="\n") as out:
             out.write(text)
     except OSError as fault:
-        print(fault, file=sys.stderr)
-        sys.exit(6)
+        raise CannotWrite(fault) from None
 
 
 def budget_word(word):
@@ -238,14 +241,22 @@ def main(words):
     return command(*words[1:]) or 0
 
 
-if __name__ == "__main__":
+def run(words):
+    """The exit status of these words."""
     try:
-        sys.exit(main(sys.argv[1:]))
+        return main(words)
     except Usage:
-        sys.exit(2)
+        return 2
     except Refused as why:
         print(why)
-        sys.exit(4)
+        return 4
+    except CannotWrite as fault:
+        print(fault, file=sys.stderr)
+        return 6
     except OSError as fault:
         print(fault, file=sys.stderr)
-        sys.exit(5)
+        return 5
+
+
+if __name__ == "__main__":
+    sys.exit(run(sys.argv[1:]))

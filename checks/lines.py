@@ -19,6 +19,7 @@ def pytest_configure(config: Any) -> None:
 
 def name_of(node: str) -> str:
     """The name of a check: that of its row in a table, or of its function without `test_`."""
+    node = re.sub("@[a-z_0-9]*$", "", node)  # the group that xdist runs in one process
     row = re.search(r"\[(.*)\]$", node)
     return row[1] if row else re.sub("^test_", "", node.rpartition("::")[2])
 

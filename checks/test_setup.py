@@ -40,7 +40,8 @@ def place(tmp_path: Path) -> Path:
 
 
 def setup(place: Path, *words: str) -> subprocess.CompletedProcess[str]:
-    return subprocess.run([CHECKS / "setup", *words], env={**os.environ, "PATH": str(place)}, capture_output=True, text=True, check=False)
+    return subprocess.run([str(CHECKS / "setup"), *words], env={**os.environ, "PATH": str(place)}, capture_output=True,
+                          text=True, check=False)
 
 
 MISSING = "setup: missing: assimp \nsetup: on Debian: apt-get install assimp-utils \n"
