@@ -165,7 +165,8 @@ WORDS = ("mesh", "a b", "", "*")
 def launch(chain: Repository, status: int, commands: list[str], lines: int) -> None:
     """One call: its status, which commands of the toolchain it gave, and how many lines it wrote on standard error."""
     ended = chain.roam(*WORDS)
-    assert (ended.returncode, chain.commands(), len(ended.stderr.splitlines())) == (status, commands, lines), ended.stderr
+    found = (ended.returncode, chain.commands(), len(ended.stderr.splitlines()))
+    assert found == (status, commands, lines), ended.stderr
     chain.check_left()
     if status == 3:
         assert ended.stdout == f"{chain.caller}\n<mesh><a b><><*>"
@@ -462,7 +463,7 @@ if __name__ == "__main__":
 
 @pytest.mark.parametrize("driver, taken", [
     pytest.param(DRIVER, 1, id="launcher_takes_a_checksum_once"),
-    pytest.param(DRIVER.replace("rtlib =", "rtlib_of_another_kit ="), 2, id="launcher_runs_the_plain_driver_of_another_toolchain"),
+    pytest.param(DRIVER.replace("rtlib =", "another ="), 2, id="launcher_runs_the_plain_driver_of_another_toolchain"),
 ])
 def test_rt(chain: Repository, driver: str, taken: int) -> None:
     (chain.bin / "rt").write_text(driver)

@@ -157,7 +157,8 @@ def expect_last(place: Place, status: int, report: bytes, mesh: Optional[bytes])
      b"frame 1 triangles 4 vertices 5 worst 0 splits 2 merges 0 blocked none inside 0 cut 3 outside 1\n", None),
     ("worked_planes_that_are_dropped", "mesh g s out 8 1", spots(3), b"plane 1 0 0 -2\nnoplanes\nframe\n", 0,
      b"frame 1 triangles 2 vertices 4 worst 0 splits 0 merges 0 blocked none\n", HALVES),
-    ("worked_budget_that_falls_and_comes_back", "mesh g s out 9 1", spots(5, (1, 0, 10)), b"frame\nbudget 7\nframe\nbudget 9\nframe\n", 0,
+    ("worked_budget_that_falls_and_comes_back", "mesh g s out 9 1", spots(5, (1, 0, 10)),
+     b"frame\nbudget 7\nframe\nbudget 9\nframe\n", 0,
      b"frame 1 triangles 9 vertices 9 worst 0 splits 7 merges 0 blocked none\n"
      b"frame 2 triangles 5 vertices 6 worst 1310720 splits 0 merges 4 blocked 8 needs 8\n"
      b"frame 3 triangles 9 vertices 9 worst 0 splits 4 merges 0 blocked none\n", NINE),
