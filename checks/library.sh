@@ -7,7 +7,7 @@ mkdir -- "$room/library" && cd -- "$room/library" || exit 1
 # lib/build over a small repository with a toolchain of a few lines: what it builds and when, as test_launcher.py has it of the program.
 if has library_build cc ar touch; then
   mkdir -p small/bin small/crates/{low,roam_c,unused}/src
-  cp -R -- "$top/tools" "$top/lib" small/
+  cp -R -- "$top/tools" "$top/lib" "$top/python" small/
   rm -rf small/lib/out
   printf 'low:\nunused:\nroam_c staticlib: low kit_library\n' >small/crates.txt
   for name in low roam_c unused; do echo 'int roam_open(void) { return 0; }' >"small/crates/$name/src/text.c"; done
@@ -204,38 +204,26 @@ if has library_in_valgrind valgrind cc; then
   fi
 fi
 
-# --- Python, with numpy and without: the doctest, the examples' reports, what is refused, and sessions against the definitions. ---
+# --- Python: the example's reports, its mesh and certificate, and the loop of the docs. The rest is in python/tests. ---
 
 if has library_python python3; then
-  mkdir without
-  echo 'raise ImportError("not here")' >without/numpy.py
-  for kind in numpy plain; do
-    path=$prefix/lib/python
-    if [ $kind = plain ]; then
-      path=$PWD/without:$path
-    elif ! python3 -c 'import numpy' 2>/dev/null; then
-      skip library_python_numpy 'numpy is not there'
-      continue
-    fi
-    python=(env PYTHONPATH="$path${PYTHONPATH:+:$PYTHONPATH}" PYTHONDONTWRITEBYTECODE=1 ROAM_LIBRARY="$prefix/lib/libroam.so" python3)
-    runs "library_python_doctest_$kind" '' "${python[@]}" -m doctest "$prefix/lib/python/roam.py"
-    runs "library_python_jacksboro_$kind" 'outside 193' "${python[@]}" "$uses/jacksboro.py"
-    mkdir "found_$kind"
-    runs "library_python_mesh_$kind" 'off by at most' "${python[@]}" "$uses/jacksboro.py" "found_$kind"
-    runs "library_python_obj_$kind" '' cmp "found_$kind/mesh.obj" "$top/examples/jacksboro/expected/out000001.obj"
-    runs "library_python_certificate_$kind" certified python3 "$top/checks/certificates.py" "$jacksboro" "found_$kind/mesh.obj" "found_$kind/certificate" 2000 90
+  if python3 -c 'import numpy' 2>/dev/null; then
+    python=(env PYTHONPATH="$prefix/lib/python" PYTHONDONTWRITEBYTECODE=1 python3)
+    mkdir found
+    runs library_python_mesh 'off by at most' "${python[@]}" "$uses/jacksboro.py" found
+    runs library_python_obj '' cmp found/mesh.obj "$top/examples/jacksboro/expected/out000001.obj"
+    runs library_python_certificate certified python3 "$top/checks/certificates.py" "$jacksboro" found/mesh.obj found/certificate 2000 90
     if [ -x "$program" ]; then
       "$program" certify make "$jacksboro" 0 0 0 2000 90 >of_program
-      runs "library_python_certificate_of_program_$kind" '' cmp "found_$kind/certificate" of_program
+      runs library_python_certificate_of_program '' cmp found/certificate of_program
     else
-      skip "library_python_certificate_of_program_$kind" 'the program is not built'
+      skip library_python_certificate_of_program 'the program is not built'
     fi
-    runs "library_python_refusals_$kind" '' "${python[@]}" "$tests/refusals.py"
-    runs "library_python_threads_$kind" 'threads of Python' "${python[@]}" "$tests/threads.py"
     { echo 'heights, path = [7] * 81, [(1, 2, 3.5)] * 3'; block python; echo 'print(note.triangles)'; } >loop.py
-    runs "library_python_loop_of_the_docs_$kind" 2 "${python[@]}" loop.py
-    runs "library_python_sessions_$kind" '100 sessions' "${python[@]}" "$tests/sessions.py" 1 100
-  done
+    runs library_python_loop_of_the_docs 2 "${python[@]}" loop.py
+  else
+    skip library_python 'numpy is not there'
+  fi
 fi
 
 # --- C#, by mono. ---

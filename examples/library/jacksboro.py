@@ -2,12 +2,12 @@
 """The Jacksboro fault from Python: the first frame of examples/jacksboro, and the flight of examples/flight, whose reports
 were made by another program. Each frame's line is compared with theirs, and the first mesh is written as an OBJ file.
 
-usage: jacksboro.py [FOLDER]      with roam.py on PYTHONPATH; in FOLDER it leaves mesh.obj and its certificate"""
-import array
+usage: jacksboro.py [FOLDER]      with calfrewin on PYTHONPATH; in FOLDER it leaves mesh.obj and its certificate"""
 import os
 import sys
 
-import roam
+import calfrewin
+import numpy
 
 examples = os.path.dirname(os.path.dirname(os.path.abspath(__file__)))
 
@@ -18,10 +18,7 @@ def read_grid(name):
         assert file.readline() == b"P5\n"
         side, _ = map(int, file.readline().split())
         file.readline()
-        heights = array.array("H", file.read(2 * side * side))
-    if sys.byteorder == "little":
-        heights.byteswap()
-    return heights
+        return numpy.frombuffer(file.read(2 * side * side), ">u2").reshape(side, side)
 
 
 def report_line(number, note, has_planes):
@@ -34,7 +31,7 @@ def report_line(number, note, has_planes):
 def report(heights, name):
     """The report of an example's script."""
     calls = {"camera": "camera", "raise": "raise_area", "plane": "add_plane", "budget": "budget"}
-    with roam.Engine(heights, budget=2000, spacing=90) as engine, open(os.path.join(examples, name, "script")) as script:
+    with calfrewin.Engine(heights, budget=2000, spacing=90) as engine, open(os.path.join(examples, name, "script")) as script:
         for line in script:
             command, *words = line.split("#")[0].split() or [""]
             if command == "frame":
@@ -54,7 +51,7 @@ def obj_text(engine):
 
 def write_mesh(heights, folder):
     """The mesh from the camera of examples/jacksboro, and the proof that none of 2,000 triangles is better."""
-    with roam.Engine(heights, budget=2000, spacing=90) as engine:
+    with calfrewin.Engine(heights, budget=2000, spacing=90) as engine:
         engine.frame()
         with open(os.path.join(folder, "mesh.obj"), "w") as file:
             file.write(obj_text(engine))
