@@ -15,8 +15,8 @@ ghost use Rattle.run_check.specs.Judging.{JudgesNoMemory, JudgesFault, NoMemoryB
 use crate::verdict_report::{Judgement, judgement_report};
 use cert_text::Cert;
 use certificate_laws::{Reject, Verdict};
-use mesh_compare::{CompareFault, difference_laws};
-use roam_certify::check;
+use mesh_compare::difference_laws;
+use roam_certify::{CompareFault, check};
 use run_files::{CertStop, Outside, end_with_text, grid_or_end, read_cert};
 use run_laws::Status;
 use run_words::CheckWords;
