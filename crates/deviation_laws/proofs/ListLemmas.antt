@@ -12,7 +12,7 @@ use Rattle.mesh_defs.specs.BoundingBox.{points_of, holds_point, greatest}
 use Rattle.mesh_defs.proofs.PointLemmas.{greatest-le}
 use Rattle.tiling_laws.proofs.DescentLemmas.{IsAddress-leaves_of}
 use Rattle.deviation_laws.specs.PlaneHeight.{off_plane, offs_in, deviation_of, thickest_of}
-use Rattle.deviation_laws.proofs.PlaneLemmas.{off_plane-le}
+use Rattle.deviation_laws.proofs.PlaneLemmas.{off_plane-le, off_plane-most}
 
 -- the greatest entry of two lists
 greatest-append : (xs ys : List ℕ) → greatest (xs ++ ys) ≡ max (greatest xs) (greatest ys)
@@ -27,6 +27,12 @@ offs_in-le n heights a address =
     greatest-le (2 ^ n * thickness_of n heights a / 2) (off_plane n heights a) (holds_point n a)
     (λ r held. omega (arith, off_plane-le n heights a r address held)) (points_of n) in
     omega arith
+
+-- the greatest is at most the greatest height, times 2 ^ n
+pub offs_in-most : (n : ℕ) (heights : List ℕ) (top a : ℕ) → IsAddress n a → All (λ h. h ≤ top) heights →
+    greatest (offs_in n heights a) ≤ 2 ^ n * top
+offs_in-most n heights top a address bounded = greatest-le (2 ^ n * top) (off_plane n heights a) (holds_point n a)
+    (λ r held. off_plane-most n heights top a r address bounded held) (points_of n)
 
 -- twice the deviation is at most the greatest thickness, times 2 ^ n
 pub deviation_of-le : (n : ℕ) (heights triangles : List ℕ) → All (IsAddress n) triangles →

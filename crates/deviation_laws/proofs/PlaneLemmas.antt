@@ -1,11 +1,13 @@
 -- Plane heights are exact, and the areas across from its corners make a held point the mean of the corners.
 use Rattle.std.proofs.Common.{◌≡◌, ℕ, ◌+◌, ◌-◌, ◌*◌, ◌/◌, ◌^◌, ◌<◌, ◌≤◌, true, ◌&&◌, List, refl, sym, ◌∙◌, ap, arith}
-use Rattle.std.proofs.Common.{inl, inr, mul-le-mul_left, pow_pos, pow-add}
+use Rattle.std.proofs.Common.{inl, inr, All, length, get_or, ⊎_elim, mul-le-mul_left, pow_pos, pow-add}
 use Rattle.std.proofs.Math.Nat.{mul-sub, le_of_mul-le-mul_left}
-use Rattle.std.proofs.lemmas.Bool.{and_parts, leb-true}
+use Rattle.std.proofs.lemmas.Bool.{and_parts, cases_lt, leb-true}
+use Rattle.std.proofs.lemmas.List.{get_or_past}
 use Rattle.std.proofs.lemmas.Nat.{div-mul-add}
 use Rattle.mesh_defs.specs.declared.point.Point.{Point}
 use Rattle.mesh_defs.specs.declared.point.Corners.{Corners}
+use Rattle.mesh_defs.specs.HeightField.{place_of}
 use Rattle.mesh_defs.specs.Triangle.{level_of, IsAddress, corners_of, IsCorner}
 use Rattle.mesh_defs.specs.Thickness.{height_of, apart, thickness_under, thickness_of}
 use Rattle.mesh_defs.specs.BoundingBox.{point, is_left_or_on, is_in_closed, holds_point}
@@ -135,6 +137,45 @@ off_plane-le n heights a r address held =
     (mean-le n heights (2 * n - level_of a) a (area_of c) r (doubled_area r c.v0 c.v1) (doubled_area r c.v1 c.apex)
     (doubled_area r c.apex c.v0) (area_of-some n a address) (IsDown-address n a address)
     (IsMean-held n a r address held))
+
+-- ---- how high it is
+
+-- a height is at most the bound of all heights, and 0 where there is none
+height-le : (heights : List ℕ) (top k : ℕ) → All (λ h. h ≤ top) heights → get_or heights k 0 ≤ top
+height-le heights top k bounded = ⊎_elim {C = get_or heights k 0 ≤ top}
+    (λ lt. bounded k 0 lt) (λ ge. omega (arith, get_or_past heights k 0 ge)) (cases_lt k (length heights))
+
+-- the plane of a triangle is nowhere above the greatest height, at a point that the triangle holds
+plane_height-le : (n : ℕ) (heights : List ℕ) (top a : ℕ) (r : Point) → IsAddress n a → All (λ h. h ≤ top) heights →
+    holds_point n a r ≡ true →
+    plane_height n heights a r ≤ 2 ^ n * top
+plane_height-le n heights top a r address bounded held =
+    let c : Corners = corners_of n a in
+    let u : ℕ = doubled_area r c.v0 c.v1 in
+    let v : ℕ = doubled_area r c.v1 c.apex in
+    let w : ℕ = doubled_area r c.apex c.v0 in
+    let height : (p : Point) → height_of n heights p ≤ top = λ p. height-le heights top (place_of n p.x p.y) bounded in
+    let sum : u + v + w ≡ area_of c = (IsMean-held n a r address held).sum in
+    let one : u * height_of n heights c.apex ≤ u * top = mul-le-mul_left u (height c.apex) in
+    let two : v * height_of n heights c.v0 ≤ v * top = mul-le-mul_left v (height c.v0) in
+    let three : w * height_of n heights c.v1 ≤ w * top = mul-le-mul_left w (height c.v1) in
+    let all : (u + v + w) * top ≡ area_of c * top = ap (λ k. k * top) sum in
+    let weights : weighted c (height_of n heights) r ≤ area_of c * top = omega arith in
+    let scaled : 2 ^ n * weighted c (height_of n heights) r ≤ 2 ^ n * (area_of c * top) =
+    mul-le-mul_left (2 ^ n) weights in
+    let exact = plane_height-exact n heights a r address in
+    let swap : 2 ^ n * (area_of c * top) ≡ area_of c * (2 ^ n * top) = omega arith in
+    le_of_mul-le-mul_left {k = area_of c} (omega arith) (area_of-some n a address)
+
+-- so at a held point the surface is off the plane by no more than the greatest height, times 2 ^ n
+pub off_plane-most : (n : ℕ) (heights : List ℕ) (top a : ℕ) (r : Point) → IsAddress n a → All (λ h. h ≤ top) heights →
+    holds_point n a r ≡ true →
+    off_plane n heights a r ≤ 2 ^ n * top
+off_plane-most n heights top a r address bounded held =
+    let plane = plane_height-le n heights top a r address bounded held in
+    let surface : 2 ^ n * height_of n heights r ≤ 2 ^ n * top =
+    mul-le-mul_left (2 ^ n) (height-le heights top (place_of n r.x r.y) bounded) in
+    omega arith
 
 -- ---- running differences
 

@@ -24,7 +24,7 @@ use Rattle.fit_certificate_laws.specs.declared.reason.Off.{Off}
 use Rattle.fit_certificate_laws.specs.declared.reason.Target.{Target}
 use Rattle.fit_certificate_laws.specs.declared.reason.Target.TheVariants.{Error, Budget}
 use Rattle.fit_certificate_laws.specs.Certificate.{FitCertificate, IsOff, IsFitReason, LeadsTo, IsFitSound}
-use Rattle.fit_certificate_laws.specs.Making.{IsPossible, IsBestTolerance, IsBelow}
+use Rattle.fit_certificate_laws.specs.Making.{IsPossible, IsBestTolerance, IsBelow, HasNoneBehind}
 use Rattle.fit_certificate_laws.proofs.LeadLemmas.{leads-closed}
 use Rattle.fit_certificate_laws.proofs.MakeLemmas.{made-sound}
 
@@ -145,24 +145,30 @@ tolerance_found n heights (Budget triangles) possible =
     let mesh : List ℕ = leaves_of n found.0 in
     (worst_of (error_of n heights) mesh, (mesh, found.2.least, found.2.within, refl, λ some. found.2))
 
--- for a budget nothing behind the mesh is above the next lower tolerance
-below-of : (n : ℕ) (heights : List ℕ) (goal : Target) (lower : ℕ) (leaves : List ℕ) →
-    worst_of (error_of n heights) leaves ≤ lower →
-    IsBelow goal (error_of n heights) lower leaves
-below-of n heights (Error tolerance) lower leaves low = tt
-below-of n heights (Budget triangles) lower leaves low = low
+-- the reasons behind a mesh: for a budget until nothing is above the next lower tolerance, and for an error none
+abbrev Behind : ℕ → List ℕ → Target → ℕ → (ℕ → Bool) → Type 0
+Behind n heights goal lower has =
+    (reasons : List Off) × (after : ℕ → Bool) × LeadsTo n heights lower has reasons after
+    × IsBelow goal (error_of n heights) lower (leaves_of n after) × HasNoneBehind goal reasons
 
--- each possible target has a sound certificate
+behind_found : (n : ℕ) (heights : List ℕ) (goal : Target) (lower : ℕ) (has : ℕ → Bool) → IsClosed n has →
+    Behind n heights goal lower has
+behind_found n heights (Error tolerance) lower has closed = ([], has, (λ a. refl), tt, refl)
+behind_found n heights (Budget triangles) lower has closed =
+    let found = settles n heights lower has closed in (found.0, found.1, found.2, found.3, tt)
+
+-- each possible target has a sound certificate, for an error without reasons behind the mesh
 pub sound_found : (n : ℕ) (heights : List ℕ) (goal : Target) → IsPossible goal →
-    (cert : FitCertificate) × (mesh : List ℕ) × IsFitSound n heights goal cert mesh
+    (cert : FitCertificate) × (mesh : List ℕ) × IsFitSound n heights goal cert mesh × HasNoneBehind goal cert.beyond
 sound_found n heights goal possible =
     let own = tolerance_found n heights goal possible in
     let before = settles n heights own.0 (λ a. false) (nothing_closed n) in
-    let behind = settles n heights (own.0 - 1) before.1
+    let behind = behind_found n heights goal (own.0 - 1) before.1
     (leads-closed n heights own.0 (λ a. false) before.0 before.1 (nothing_closed n) before.2) in
     let cert : FitCertificate = record { tolerance = own.0; needed = before.0; beyond = behind.0 } in (
       cert,
       leaves_of n before.1,
       made-sound n heights cert before.1 behind.1 record { needed = before.2; within = before.3 } behind.2 goal own.1
-          (below-of n heights goal (own.0 - 1) (leaves_of n behind.1) behind.3),
+          behind.3,
+      behind.4,
     )

@@ -1,10 +1,15 @@
--- A sound certificate proves its mesh the best for its target.
-use Rattle.std.proofs.Common.{◌≡◌, ℕ, ◌-◌, ◌<◌, ◌≤◌, Bool, false, List, length, sym, ◌∙◌, ap, subst, arith, ⊎_elim}
+-- A sound certificate proves its mesh the best for its target, and how great it is at most.
+use Rattle.std.proofs.Common.{◌≡◌, ℕ, ◌+◌, ◌-◌, ◌*◌, ◌^◌, ◌<◌, ◌≤◌, Bool, false, List, [], ◌∷◌, All, length, length-append}
+use Rattle.std.proofs.Common.{sym, ◌∙◌, ap, subst, arith, ⊎_elim, pow-add}
 use Rattle.std.proofs.lemmas.Bool.{cases_lt}
-use Rattle.mesh_defs.specs.ClosedSet.{IsClosed, leaves_of}
+use Rattle.mesh_defs.specs.BoundingBox.{point}
+use Rattle.mesh_defs.specs.ClosedSet.{IsClosed, leaves_of, leaves_under}
 use Rattle.mesh_defs.specs.Priority.{worst_of}
 use Rattle.tiling_laws.specs.Ancestors.{ancestors_of}
-use Rattle.closure_laws.proofs.ClosureLemmas.{nothing_closed}
+use Rattle.tiling_laws.proofs.DescentLemmas.{IsAddress-splittable}
+use Rattle.closure_laws.proofs.ClosureLemmas.{nothing_closed, leaves_under-some, leaves_of-same}
+use Rattle.closure_laws.proofs.LeafLemmas.{leaves-most, four-power}
+use Rattle.deviation_laws.proofs.PlaneLemmas.{off_plane-most}
 use Rattle.least_laws.specs.Least.{IsLeastMesh}
 use Rattle.fit_laws.specs.Error.{error_of}
 use Rattle.fit_laws.specs.Settled.{IsLeastSettled}
@@ -13,10 +18,11 @@ use Rattle.fit_laws.proofs.SettledLemmas.{nothing_needed, needed-lower}
 use Rattle.fit_laws.proofs.FitLemmas.{fit_mesh, fit_tight}
 use Rattle.fit_laws.proofs.BudgetLemmas.{budget_end, budget_exact}
 use Rattle.fit_laws.proofs.OrderLemmas.{leaves-order}
+use Rattle.fit_certificate_laws.specs.declared.reason.Off.{Off}
 use Rattle.fit_certificate_laws.specs.declared.reason.Target.{Target}
 use Rattle.fit_certificate_laws.specs.declared.reason.Target.TheVariants.{Error, Budget}
-use Rattle.fit_certificate_laws.specs.Certificate.{FitCertificate, LeadsToFit, IsFitSound}
-use Rattle.fit_certificate_laws.proofs.LeadLemmas.{leads-closed, leads-needed}
+use Rattle.fit_certificate_laws.specs.Certificate.{FitCertificate, IsFitReason, LeadsTo, LeadsToFit, IsFitSound}
+use Rattle.fit_certificate_laws.proofs.LeadLemmas.{leads-closed, leads-needed, leads-grown}
 
 -- the set of the mesh is closed
 pub fitted-closed : (n : ℕ) (heights : List ℕ) (cert : FitCertificate) (has : ℕ → Bool) →
@@ -78,3 +84,58 @@ pub sound-order : (n : ℕ) (heights : List ℕ) (target : Target) (cert : FitCe
 sound-order n heights target cert mesh sound =
     ap (λ (l : List ℕ). leaves_of n (ancestors_of l)) sound.leaves
     ∙ leaves-order n sound.has (fitted-closed n heights cert sound.has sound.fitted) ∙ sym sound.leaves
+
+-- how great it is
+
+-- the halves of the square have a leaf each
+leaves-two : (n : ℕ) (has : ℕ → Bool) → 2 ≤ length (leaves_of n has)
+unfolding leaves_of
+leaves-two n has =
+    let lower = leaves_under-some (2 * n) has 2 in let upper = leaves_under-some (2 * n) has 3 in
+    let both = length-append (leaves_under (2 * n) has 2) (leaves_under (2 * n) has 3) in
+    omega arith
+
+-- each reason splits a triangle, so there are no more of them than triangles that may be split
+pub sound-few : (n : ℕ) (heights : List ℕ) (target : Target) (cert : FitCertificate) (mesh : List ℕ)
+    → IsFitSound n heights target cert mesh →
+    length cert.needed + length cert.beyond + 2 ≤ 2 ^ (2 * n + 1)
+sound-few n heights target cert mesh sound =
+    let two = leaves-two n (λ a. false) in
+    let first = leads-grown n heights cert.tolerance (λ a. false) cert.needed sound.has (nothing_closed n)
+    sound.fitted.needed in
+    let second = leads-grown n heights (cert.tolerance - 1) sound.has cert.beyond sound.over
+    (fitted-closed n heights cert sound.has sound.fitted) sound.beyond in
+    let most = leaves-most n sound.over in
+    let four = four-power n in
+    let double = pow-add 2 (2 * n) 1 in
+    omega arith
+
+-- no way off a plane is above the greatest height, so neither is the tolerance of a reason
+reason-low : (n : ℕ) (heights : List ℕ) (tolerance top : ℕ) (has : ℕ → Bool) (r : Off) → All (λ h. h ≤ top) heights →
+    IsFitReason n heights tolerance has r → tolerance < 2 ^ n * top
+reason-low n heights tolerance top has r bounded reason =
+    let most = off_plane-most n heights top r.triangle (point r.x r.y)
+    (IsAddress-splittable n r.triangle reason.splittable) bounded reason.off.held in
+    let above = reason.off.above in omega arith
+
+-- nor that of reasons that split anything
+leads-low : (n : ℕ) (heights : List ℕ) (tolerance top : ℕ) (has : ℕ → Bool) (reasons : List Off) (after : ℕ → Bool) →
+    All (λ h. h ≤ top) heights → LeadsTo n heights tolerance has reasons after →
+    length (leaves_of n has) < length (leaves_of n after) → tolerance < 2 ^ n * top
+leads-low n heights tolerance top has [] after bounded leads more =
+    let same = ap (λ (l : List ℕ). length l) (leaves_of-same n has after leads) in absurd (omega arith)
+leads-low n heights tolerance top has (r ∷ reasons) after bounded leads more =
+    reason-low n heights tolerance top has r bounded leads.1
+
+-- for a budget the tolerance is at most the greatest height, times 2 ^ n
+pub sound-low : (n : ℕ) (heights : List ℕ) (triangles top : ℕ) (cert : FitCertificate) (mesh : List ℕ) →
+    All (λ h. h ≤ top) heights → IsFitSound n heights (Budget triangles) cert mesh → cert.tolerance ≤ 2 ^ n * top
+sound-low n heights triangles top cert mesh bounded sound =
+    let few : length (leaves_of n sound.has) ≤ triangles = sound.few in
+    ⊎_elim
+    (λ (none : cert.tolerance ≡ 0). omega arith)
+    (λ (many : triangles < length (leaves_of n sound.over)).
+    let low = leads-low n heights (cert.tolerance - 1) top sound.has cert.beyond sound.over bounded sound.beyond
+    (omega arith) in
+    omega arith)
+    sound.enough

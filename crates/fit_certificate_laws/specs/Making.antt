@@ -1,9 +1,10 @@
--- The tolerance of a certificate that is made, and what its reasons reach. This project's own words.
--- Words: IsPossible, IsBestTolerance, IsBelow.
-use Rattle.std.specs.Prelude.{◌≡◌, ℕ, ◌<◌, ◌≤◌, List, length}
+-- The tolerance of a certificate that is made, what its reasons reach, and where none stand. This project's own words.
+-- Words: IsPossible, IsBestTolerance, IsBelow, HasNoneBehind.
+use Rattle.std.specs.Prelude.{◌≡◌, ℕ, ◌<◌, ◌≤◌, List, [], length}
 use Rattle.mesh_defs.specs.Priority.{worst_of}
 use Rattle.least_laws.specs.Least.{IsLeastMesh}
 use Rattle.fit_laws.specs.Budget.{IsBudgetMesh}
+use Rattle.fit_certificate_laws.specs.declared.reason.Off.{Off}
 use Rattle.fit_certificate_laws.specs.declared.reason.Target.{Target}
 use Rattle.fit_certificate_laws.specs.declared.reason.Target.TheVariants.{Error, Budget}
 
@@ -23,3 +24,8 @@ IsBestTolerance n error (Budget triangles) own =
 abbrev pub IsBelow : Target → (ℕ → ℕ) → ℕ → List ℕ → Type 0
 IsBelow (Error tolerance) error lower leaves = Unit {0}
 IsBelow (Budget triangles) error lower leaves = worst_of error leaves ≤ lower
+
+-- for an error there are no reasons behind the mesh, since nothing behind it matters
+abbrev pub HasNoneBehind : Target → List Off → Type 0
+HasNoneBehind (Error tolerance) beyond = beyond ≡ []
+HasNoneBehind (Budget triangles) beyond = Unit {0}

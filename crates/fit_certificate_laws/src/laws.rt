@@ -1,6 +1,6 @@
 //! Laws of the definitions, each a clause of a function with an empty body.
 
-ghost use Rattle.std.specs.Prelude.{◌≡◌, ℕ, List, length};
+ghost use Rattle.std.specs.Prelude.{◌≡◌, ℕ, ◌+◌, ◌*◌, ◌^◌, ◌≤◌, List, All, length};
 ghost use Rattle.mesh_defs.specs.ClosedSet.{leaves_of};
 ghost use Rattle.tiling_laws.specs.Ancestors.{ancestors_of};
 ghost use Rattle.deviation_laws.specs.PlaneHeight.{deviation_of};
@@ -17,9 +17,10 @@ ghost use Rattle.fit_certificate_laws.specs.declared.limits.TheConstants.{MOST_R
 ///
 /// `least` the mesh is the fewest triangles for the tolerance of the certificate, whatever the target; `error` so it
 /// is for the tolerance of the target; `budget` no conforming list within the budget has a lower greatest error.
-/// `order` the mesh stands depth first, and `certified` no checker that is exact says anything else of a sound
-/// certificate. `verdict` each certificate has a verdict, `one_verdict` and no other; `some` each target that is
-/// possible has a sound certificate.
+/// `order` the mesh stands depth first; `few` there are no more reasons than triangles that may be split, and
+/// `tolerance` for a budget the tolerance is at most the greatest height. `certified` no checker that is exact says
+/// anything else of a sound certificate. `verdict` each certificate has a verdict, `one_verdict` and no other; `some`
+/// each target that is possible has a sound certificate.
 pub fn fit_certificate_laws()
     ensures least { (n : ℕ) (heights : List ℕ) (target : Target) (cert : FitCertificate) (mesh : List ℕ) →
         IsFitSound n heights target cert mesh →
@@ -32,6 +33,12 @@ pub fn fit_certificate_laws()
         IsBudgetMesh n triangles (error_of n heights) mesh }
     ensures order { (n : ℕ) (heights : List ℕ) (target : Target) (cert : FitCertificate) (mesh : List ℕ) →
         IsFitSound n heights target cert mesh → leaves_of n (ancestors_of mesh) ≡ mesh }
+    ensures few { (n : ℕ) (heights : List ℕ) (target : Target) (cert : FitCertificate) (mesh : List ℕ) →
+        IsFitSound n heights target cert mesh →
+        length cert.needed + length cert.beyond + 2 ≤ 2 ^ (2 * n + 1) }
+    ensures tolerance { (n : ℕ) (heights : List ℕ) (triangles top : ℕ) (cert : FitCertificate) (mesh : List ℕ) →
+        All (λ h. h ≤ top) heights → IsFitSound n heights (Target.Budget triangles) cert mesh →
+        cert.tolerance ≤ 2 ^ n * top }
     ensures certified { (n : ℕ) (heights : List ℕ) (target : Target) (cert : FitCertificate) (mesh : List ℕ)
         (verdict : Verdict) →
         IsFitSound n heights target cert mesh → IsFitVerdict n heights target cert verdict →

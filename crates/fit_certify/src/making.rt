@@ -6,7 +6,7 @@ ghost use Rattle.least_laws.specs.Sweep.{is_flagged};
 ghost use Rattle.fit_laws.specs.Error.{error_of};
 ghost use Rattle.fit_certificate_laws.specs.Certificate.{LeadsTo, IsFitSound};
 ghost use Rattle.fit_certificate_laws.specs.declared.limits.TheConstants.{MOST_REASONS};
-ghost use Rattle.fit_certificate_laws.specs.Making.{IsPossible, IsBestTolerance, IsBelow};
+ghost use Rattle.fit_certificate_laws.specs.Making.{IsPossible, IsBestTolerance, IsBelow, HasNoneBehind};
 
 use crate::settle::settle;
 use address_flags::end;
@@ -18,12 +18,13 @@ use std::alloc::Global;
 
 /// A sound certificate of the best mesh for an error or a budget: the mesh of `Fit::frame` of `fit_mesh`.
 ///
-/// Its tolerance is that of the target, or the deviation of the mesh.
+/// Its tolerance is that of the target, or the deviation of the mesh. Reasons stand behind the mesh for a budget alone.
 /// Cost (not proved): that of `Fit::frame` for a budget; a byte for each splittable triangle, and a few passes over
 /// all of them, in each the error of each leaf; 12 bytes for each reason.
 pub fn make(alloc: Global, grid: &Grid, target: Target) -> Result<FitCert, NoMemory>
     requires possible { IsPossible target }
     ensures sound { IfOk result (λ c. (mesh : List ℕ) × IsFitSound grid.now.n grid.now.heights target c mesh) }
+    ensures behind { IfOk result (λ c. HasNoneBehind target c.beyond) }
 {
     let tolerance = tolerance_for(alloc, grid, target)?;
     let mut flags = vec![in alloc; false; end(grid.n()) as usize]?;
@@ -42,6 +43,7 @@ fn cert_of(
     requires empty { (a : ℕ) → is_flagged flags.old a ≡ false }
     requires best { IsBestTolerance grid.now.n (error_of grid.now.n grid.now.heights) target tolerance }
     ensures sound { IfOk result (λ c. (mesh : List ℕ) × IsFitSound grid.now.n grid.now.heights target c mesh) }
+    ensures behind { IfOk result (λ c. HasNoneBehind target c.beyond) }
 {
     let _level = grid.n();
     let needed = settle(alloc, grid, tolerance, flags)?;
@@ -79,6 +81,7 @@ fn settle_below(
     ensures below { IfOk result (λ v. IsBelow target (error_of grid.now.n grid.now.heights)
         (tolerance - 1) (leaves_of grid.now.n (is_flagged flags.new))) }
     ensures few { IfOk result (λ v. length v.items ≤ MOST_REASONS) }
+    ensures none { IfOk result (λ v. HasNoneBehind target v.items) }
 {
     match target {
         Target::Error { tolerance: _ } => Ok(Vec::new(alloc)),

@@ -1,4 +1,4 @@
--- The error of a triangle: from its gaps, how great it is, and whether it is above a tolerance.
+-- The error of a triangle: how great it is by its gaps, and whether it is above a tolerance.
 use Rattle.std.proofs.Common.{◌≡◌, ℕ, ◌+◌, ◌*◌, ◌/◌, ◌^◌, ◌<◌, ◌≤◌, ◌↔◌, inl, inr, true, List, All, length, get_or, sym}
 use Rattle.std.proofs.Common.{◌∙◌, ap, subst, arith, ⊎_elim, mul-le-mul_left}
 use Rattle.std.proofs.Math.Nat.{le-div_iff_mul-le, le_of_mul-le-mul_left}
@@ -21,45 +21,6 @@ use Rattle.mesh_measure.specs.Facet.{AreBounds}
 use Rattle.mesh_measure.specs.Most.{gap_of, IsMost, IsMostUntil, IsMostReached, IsInBounds}
 use Rattle.mesh_measure.proofs.GapLemmas.{off_plane-gap, IsMost-off_plane}
 use Rattle.mesh_measure.proofs.BoxLemmas.{IsInBounds-held, held-le, greatest-most}
-
--- ---- how great it is
-
--- a height is at most the bound of all heights, and 0 where there is none
-height-le : (heights : List ℕ) (top k : ℕ) → All (λ h. h ≤ top) heights → get_or heights k 0 ≤ top
-height-le heights top k bounded = ⊎_elim {C = get_or heights k 0 ≤ top}
-    (λ lt. bounded k 0 lt) (λ ge. omega (arith, get_or_past heights k 0 ge)) (cases_lt k (length heights))
-
--- the plane of a triangle is nowhere above the greatest height, at a point that the triangle holds
-plane_height-le : (n : ℕ) (heights : List ℕ) (top a : ℕ) (r : Point) → IsAddress n a → All (λ h. h ≤ top) heights →
-    holds_point n a r ≡ true →
-    plane_height n heights a r ≤ 2 ^ n * top
-plane_height-le n heights top a r address bounded held =
-    let c : Corners = corners_of n a in
-    let u : ℕ = doubled_area r c.v0 c.v1 in
-    let v : ℕ = doubled_area r c.v1 c.apex in
-    let w : ℕ = doubled_area r c.apex c.v0 in
-    let height : (p : Point) → height_of n heights p ≤ top = λ p. height-le heights top (place_of n p.x p.y) bounded in
-    let sum : u + v + w ≡ area_of c = (IsMean-held n a r address held).sum in
-    let one : u * height_of n heights c.apex ≤ u * top = mul-le-mul_left u (height c.apex) in
-    let two : v * height_of n heights c.v0 ≤ v * top = mul-le-mul_left v (height c.v0) in
-    let three : w * height_of n heights c.v1 ≤ w * top = mul-le-mul_left w (height c.v1) in
-    let all : (u + v + w) * top ≡ area_of c * top = ap (λ k. k * top) sum in
-    let weights : weighted c (height_of n heights) r ≤ area_of c * top = omega arith in
-    let scaled : 2 ^ n * weighted c (height_of n heights) r ≤ 2 ^ n * (area_of c * top) =
-    mul-le-mul_left (2 ^ n) weights in
-    let exact = plane_height-exact n heights a r address in
-    let swap : 2 ^ n * (area_of c * top) ≡ area_of c * (2 ^ n * top) = omega arith in
-    le_of_mul-le-mul_left {k = area_of c} (omega arith) (area_of-some n a address)
-
--- so no error is
-pub error-le : (n : ℕ) (heights : List ℕ) (top a : ℕ) → IsAddress n a → All (λ h. h ≤ top) heights →
-    greatest (offs_in n heights a) ≤ 2 ^ n * top
-error-le n heights top a address bounded = greatest-le (2 ^ n * top) (off_plane n heights a) (holds_point n a)
-    (λ r held.
-    let plane = plane_height-le n heights top a r address bounded held in
-    let surface : 2 ^ n * height_of n heights r ≤ 2 ^ n * top =
-    mul-le-mul_left (2 ^ n) (height-le heights top (place_of n r.x r.y) bounded) in
-    omega arith) (points_of n)
 
 -- ---- bounds
 

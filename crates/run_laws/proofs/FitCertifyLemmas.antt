@@ -13,7 +13,7 @@ use Rattle.fit_certificate_laws.specs.declared.reason.Verdict.{Verdict}
 use Rattle.fit_certificate_laws.specs.declared.reason.Verdict.TheVariants as verdict
 use Rattle.fit_certificate_laws.specs.Certificate.{FitCertificate, IsVerdictOf, IsFitSound}
 use Rattle.fit_certificate_laws.specs.Making.{IsPossible}
-use Rattle.fit_certificate_laws.proofs.SoundLemmas.{sound-error, sound-budget}
+use Rattle.fit_certificate_laws.proofs.SoundLemmas.{sound-error, sound-budget, sound-few}
 use Rattle.fit_certificate_laws.proofs.DecisionLemmas.{verdict_found, verdict-is, verdict_one, mesh_one}
 use Rattle.fit_certificate_laws.proofs.FoundLemmas.{sound_found}
 use Rattle.fit_cert_text.specs.FitCertText.{fit_cert_text}
@@ -22,7 +22,7 @@ use Rattle.run_laws.specs.declared.status.Status.TheVariants.{Done, NoMemory, Re
 use Rattle.word_laws.specs.Words.{Target, AtError, InBudget, FitMaking, FitChecking, CheckFit, Command, command_of}
 use Rattle.word_laws.specs.Words.{MakeFit}
 use Rattle.run_laws.specs.CertFile.{fit_cert_in}
-use Rattle.run_laws.specs.Certify.{IsFitFaultless}
+use Rattle.run_laws.specs.Certify.{IsFitMade, IsFitFaultless}
 use Rattle.run_laws.specs.Fit.{goal_of, IsFitFor, fit_text}
 use Rattle.run_laws.specs.Act.{Told, Stands, report_of}
 use Rattle.run_laws.specs.ReportText.{certified_fit_line, fit_rejection, rejection}
@@ -32,7 +32,7 @@ use Rattle.run_laws.specs.Promise.{Seen, is_complete, EndsRight}
 use Rattle.run_laws.specs.Headline.{IsRunOf, IsCertifiedFit}
 use Rattle.run_laws.proofs.DifferenceLemmas.{difference-same}
 use Rattle.run_laws.proofs.CertifyLemmas.{IsOneText, compared-text, compared-unique, compared-exists, not-done}
-use Rattle.run_laws.proofs.FitLemmas.{TakesTwo, fit-best}
+use Rattle.run_laws.proofs.FitLemmas.{IsTargetOfWords, fit-best}
 
 -- one text, and then the end
 
@@ -101,16 +101,24 @@ fit_check-exists c grid (Err line) mesh = (text_outcome (rejection (BadLine line
 
 -- a certificate can be made
 
-possible : (n : ℕ) (target : Target) → TakesTwo target → IsPossible (goal_of n target)
-possible n (AtError thousandths) two = tt
+possible : (n : ℕ) (target : Target) → IsTargetOfWords target → IsPossible (goal_of n target)
+possible n (AtError thousandths) within = tt
 possible n (InBudget budget) two = two
 
--- making a certificate of a fitted mesh has an outcome, where a budget has room for two triangles
-pub fit_make-exists : (m : FitMaking) (grid : HeightField) (files : List NamedFile) → TakesTwo m.target →
+-- making a certificate of a fitted mesh has an outcome, where words may say the target
+pub fit_make-exists : (m : FitMaking) (grid : HeightField) (files : List NamedFile) → IsTargetOfWords m.target →
     (end : Outcome) × IsJobOutcome (MakeFit m) grid files end
 fit_make-exists m grid files two =
-    let found = sound_found grid.n grid.heights (goal_of grid.n m.target) (possible grid.n m.target two) in
-    (text_outcome (fit_cert_text found.0) Done 1, (found.0, (found.1, found.2), refl))
+    let goal : Goal = goal_of grid.n m.target in
+    let found = sound_found grid.n grid.heights goal (possible grid.n m.target two) in
+    let made : IsFitMade m grid found.0 =
+    record {
+      triangles = found.1;
+      sound = found.2;
+      behind = found.3;
+      few = sound-few grid.n grid.heights goal found.0 found.1 found.2;
+    } in
+    (text_outcome (fit_cert_text found.0) Done 1, (found.0, made, refl))
 
 -- what is accepted ends with Done
 
@@ -142,7 +150,7 @@ module _ (c : FitChecking) (grid : HeightField) (cert : FitCertificate) (triangl
 -- the mesh of a check that is done
 
 -- a sound certificate is of the mesh of its target
-sound-fits : (target : Target) (grid : HeightField) (cert : FitCertificate) (triangles : List ℕ)
+pub sound-fits : (target : Target) (grid : HeightField) (cert : FitCertificate) (triangles : List ℕ)
     → IsFitSound grid.n grid.heights (goal_of grid.n target) cert triangles → IsFitFor target grid triangles
 sound-fits (AtError thousandths) grid cert triangles sound = sound-error grid.n grid.heights _ cert triangles sound
 sound-fits (InBudget budget) grid cert triangles sound = sound-budget grid.n grid.heights budget cert triangles sound

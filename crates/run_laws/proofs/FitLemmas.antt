@@ -13,7 +13,7 @@ use Rattle.fit_laws.proofs.BudgetLemmas.{budget_found}
 use Rattle.fit_laws.proofs.ErrorLemmas.{error-finest, worst-deviation}
 use Rattle.fit_laws.proofs.OrderLemmas.{leaves-order, least-one, budget-one}
 use Rattle.run_laws.specs.declared.status.Status.TheVariants.{Done}
-use Rattle.word_laws.specs.Words.{Target, AtError, InBudget, Fitting, Fit}
+use Rattle.word_laws.specs.Words.{Target, AtError, InBudget, greatest_error, Fitting, Fit}
 use Rattle.run_laws.specs.Fit.{tolerance_of, IsFitFor, IsFitted, IsFewestFor, IsClosestFor, IsBestFit}
 use Rattle.run_laws.specs.Outcome.{Outcome, plain_outcome, fit_acts, IsJobOutcome}
 use Rattle.run_laws.specs.Laws.{TolerancesAreExact}
@@ -37,13 +37,13 @@ fitted-one (AtError thousandths) grid triangles others p q =
 fitted-one (InBudget budget) grid triangles others p q =
     budget-one grid.n budget (error_of grid.n grid.heights) triangles others p.fit q.fit p.in_order q.in_order
 
--- a budget has room for the two base triangles
-abbrev pub TakesTwo : Target → Type 0
-TakesTwo (AtError thousandths) = Unit {0}
-TakesTwo (InBudget budget) = 2 ≤ budget
+-- a target that words may say: an error within its bound, or a budget with room for the two base triangles
+abbrev pub IsTargetOfWords : Target → Type 0
+IsTargetOfWords (AtError thousandths) = thousandths ≤ greatest_error
+IsTargetOfWords (InBudget budget) = 2 ≤ budget
 
 -- then there is one
-pub fitted-exists : (target : Target) (grid : HeightField) → TakesTwo target →
+pub fitted-exists : (target : Target) (grid : HeightField) → IsTargetOfWords target →
     (triangles : List ℕ) × IsFitted target grid triangles
 fitted-exists (AtError thousandths) grid two =
     let n : ℕ = grid.n in
@@ -68,8 +68,8 @@ fit-unique f grid files end other p q =
     p.2 ∙ ap (λ (triangles : List ℕ). plain_outcome (fit_acts f grid triangles) Done 1)
     (fitted-one f.target grid p.0 q.0 p.1 q.1) ∙ sym q.2
 
--- fitting a mesh has an outcome, where a budget has room for two triangles
-pub fit-exists : (f : Fitting) (grid : HeightField) (files : List NamedFile) → TakesTwo f.target →
+-- fitting a mesh has an outcome, where words may say the target
+pub fit-exists : (f : Fitting) (grid : HeightField) (files : List NamedFile) → IsTargetOfWords f.target →
     (end : Outcome) × IsJobOutcome (Fit f) grid files end
 fit-exists f grid files two =
     let found = fitted-exists f.target grid two in

@@ -1,11 +1,12 @@
--- A certificate that is made is read back from its text, and a check of its mesh accepts it.
-use Rattle.std.proofs.Common.{◌≡◌, ◌≢◌, ℕ, ◌+◌, ◌≤◌, true, List, [], ◌∷◌, ◌++◌, Option, Some, None, Result, Ok, Err}
-use Rattle.std.proofs.Common.{refl, sym, ◌∙◌, ap, subst, arith, append_assoc, ◌^◌}
+-- A certificate that is made is read back from its text, and a check of its mesh accepts it; the same of fitted meshes.
+use Rattle.std.proofs.Common.{◌≡◌, ◌≢◌, ℕ, ◌+◌, ◌-◌, ◌*◌, ◌/◌, ◌<◌, ◌≤◌, Bool, true, false, List, [], ◌∷◌, ◌++◌, Option, Some}
+use Rattle.std.proofs.Common.{None, Result, Ok, Err, refl, sym, ◌∙◌, ap, subst, arith, append_assoc, ◌^◌, pow_mono}
+use Rattle.std.proofs.Common.{mul-le-mul_left}
 use Rattle.std.specs.Prelude.{unsigned_abs}
 use Rattle.std.specs.List.{AllByRecursion, flat_map}
 use Rattle.std.proofs.lemmas.List.Elements.{recursion_from_All, All-from_recursion}
 use Rattle.std.proofs.lemmas.Option.{none-some}
-use Rattle.mesh_defs.specs.HeightField.{HeightField}
+use Rattle.mesh_defs.specs.HeightField.{HeightField, IsHeightField}
 use Rattle.mesh_defs.specs.BoundingBox.{CameraAt}
 use Rattle.mesh_defs.specs.Triangle.{IsSplittable}
 use Rattle.mesh_defs.specs.Priority.{worst_of}
@@ -18,20 +19,26 @@ use Rattle.cert_text.specs.CertReader.{ReadSoFar, read_so_far, nothing_read, cer
 use Rattle.cert_text.specs.CertText.{cert_text, cert_lines}
 use Rattle.cert_text.specs.Laws.{IsCertificateOf, lines_read, WrittenLinesAreRead, WrittenLinesAreEnded}
 use Rattle.cert_text.specs.Laws.{WrittenLinesAreLines}
-use Rattle.fit_certificate_laws.specs.Certificate.{FitCertificate}
+use Rattle.least_laws.proofs.FlagLemmas.{end-high}
+use Rattle.fit_certificate_laws.specs.declared.reason.Off.{Off}
+use Rattle.fit_certificate_laws.specs.Certificate.{FitCertificate, LeadsTo, IsFitSound}
+use Rattle.fit_certificate_laws.proofs.SoundLemmas.{sound-low, sound-order}
 use Rattle.fit_cert_text.specs.FitCertReader.{fit_line_in}
 use Rattle.fit_cert_text.specs.FitCertReader as fit
 use Rattle.fit_cert_text.specs.FitCertText.{fit_cert_text, fit_cert_lines}
-use Rattle.fit_cert_text.specs.Laws as fit_text
+use Rattle.fit_cert_text.specs.Laws as written
 use Rattle.roam_edge.specs.Shelf.{NamedFile, bytes_of}
 use Rattle.run_laws.specs.Walk.{lines_of}
-use Rattle.word_laws.specs.Words.{Making, Checking}
+use Rattle.word_laws.specs.Words.{Making, Checking, Target, AtError, InBudget, FitMaking, FitChecking}
 use Rattle.run_laws.specs.CertFile.{lines_behind, said_behind, cert_of, cert_in, fit_cert_of, fit_cert_in}
-use Rattle.run_laws.specs.Certify.{makes_at, IsMade, IsFaultless}
-use Rattle.run_laws.specs.Promise.{IsAcceptedCheck}
+use Rattle.run_laws.specs.Certify.{makes_at, IsMade, IsFaultless, IsFitMade}
+use Rattle.run_laws.specs.Fit.{goal_of, IsFitted, fit_text}
+use Rattle.run_laws.specs.Promise.{IsAcceptedCheck, IsAcceptedFitCheck}
 use Rattle.run_laws.proofs.LineLemmas.{lines_of-ends}
 use Rattle.run_laws.proofs.OutcomeLemmas.{IsWithinReach}
 use Rattle.run_laws.proofs.CertFileLemmas.{file-said, cert-format, fit-format}
+use Rattle.run_laws.proofs.FitLemmas.{IsTargetOfWords, fitted-one}
+use Rattle.run_laws.proofs.FitCertifyLemmas.{sound-fits}
 
 -- lines that are ended are cut into these lines again
 lines_of-lines : (lines : List (List ℕ)) → AllByRecursion IsOneLine lines →
@@ -85,8 +92,8 @@ reasons-may n worst priority before (r ∷ reasons) are =
     (are.0.splittable, reasons-may n worst priority (before ++ r ∷ []) reasons are.1)
 
 -- a certificate of a fitted mesh is read back from its text
-pub fit-back : fit_text.WrittenFitLinesAreRead → fit_text.WrittenFitLinesAreEnded → fit_text.WrittenFitLinesAreLines
-    → (n : ℕ) (cert : FitCertificate) → fit_text.IsFitCertificateOf n cert →
+pub fit-back : written.WrittenFitLinesAreRead → written.WrittenFitLinesAreEnded → written.WrittenFitLinesAreLines
+    → (n : ℕ) (cert : FitCertificate) → written.IsFitCertificateOf n cert →
     fit_cert_in n (fit_cert_text cert) ≡ Ok cert
 fit-back read ended whole n cert is =
     let all : fit.FitReadSoFar = fit.fit_read_so_far (Some cert.tolerance) true cert.needed cert.beyond in
@@ -161,3 +168,79 @@ module _ (read : WrittenLinesAreRead) (ended : WrittenLinesAreEnded) (whole : Wr
           ∙ ap (λ (place : CameraAt). text_in (with_camera place (start_state grid c.spacing c.budget)) cert.leaves)
           (sym made.camera))),
     )
+
+-- a certificate of a fitted mesh
+
+-- the reasons are of the grid
+leads-of : (n : ℕ) (heights : List ℕ) (tolerance : ℕ) (has : ℕ → Bool) (reasons : List Off) (after : ℕ → Bool) →
+    LeadsTo n heights tolerance has reasons after → AllByRecursion (written.IsOffOf n) reasons
+leads-of n heights tolerance has [] after leads = tt
+leads-of n heights tolerance has (r ∷ reasons) after leads = (
+  record { splittable = leads.1.splittable; column = leads.1.off.column; row = leads.1.off.row },
+  leads-of n heights tolerance leads.0 reasons after leads.3,
+)
+
+-- its tolerance has 32 bits: that of an error is within the bound of words, and that of a budget is no height of a grid
+-- above 65535
+tolerance-small : (target : Target) (grid : HeightField) (cert : FitCertificate) (triangles : List ℕ) →
+    IsHeightField grid → IsTargetOfWords target →
+    IsFitSound grid.n grid.heights (goal_of grid.n target) cert triangles → cert.tolerance < 2 ^ 32
+tolerance-small (AtError thousandths) grid cert triangles valid high sound =
+    let own : cert.tolerance ≡ thousandths * 2 ^ grid.n / 1000 = sound.own in
+    let side : 2 ^ grid.n ≤ 2 ^ 11 = pow_mono valid.n_high in
+    let units : thousandths * 2 ^ grid.n ≤ thousandths * 2 ^ 11 = mul-le-mul_left thousandths side in
+    let most : thousandths ≤ 65535999 = high in
+    omega arith
+tolerance-small (InBudget budget) grid cert triangles valid low sound =
+    let own : cert.tolerance ≤ 2 ^ grid.n * grid.maxval =
+    sound-low grid.n grid.heights budget grid.maxval cert triangles valid.bounded sound in
+    let side : 2 ^ grid.n ≤ 2 ^ 11 = pow_mono valid.n_high in
+    let top : 2 ^ grid.n * grid.maxval ≤ 2 ^ grid.n * 65535 = mul-le-mul_left (2 ^ grid.n) valid.maxval_high in
+    omega arith
+
+-- the triangles of a sound one are fitted
+sound-fitted : (target : Target) (grid : HeightField) (cert : FitCertificate) (triangles : List ℕ) →
+    IsFitSound grid.n grid.heights (goal_of grid.n target) cert triangles → IsFitted target grid triangles
+sound-fitted target grid cert triangles sound = record {
+  fit = sound-fits target grid cert triangles sound;
+  in_order = sound-order grid.n grid.heights (goal_of grid.n target) cert triangles sound;
+}
+
+module _ (read : written.WrittenFitLinesAreRead) (ended : written.WrittenFitLinesAreEnded)
+    (whole : written.WrittenFitLinesAreLines) (m : FitMaking) (grid : HeightField) (cert : FitCertificate)
+    (valid : IsHeightField grid) (said : IsTargetOfWords m.target) (made : IsFitMade m grid cert) where
+  -- what is made is a certificate of the grid
+  made-fit_certificate : written.IsFitCertificateOf grid.n cert
+  made-fit_certificate =
+      let n : ℕ = grid.n in
+      let sound = made.sound in
+      let few = made.few in
+      let end = end-high n valid.n_high in
+      record {
+        few = record {
+          in_grid = (valid.n_low, valid.n_high);
+          few_needed = omega arith;
+          few_beyond = omega arith;
+        };
+        tolerance = tolerance-small m.target grid cert made.triangles valid said sound;
+        needed = All-from_recursion (written.IsOffOf n) cert.needed
+            (leads-of n grid.heights cert.tolerance (λ a. false) cert.needed sound.has sound.fitted.needed);
+        beyond = All-from_recursion (written.IsOffOf n) cert.beyond
+            (leads-of n grid.heights (cert.tolerance - 1) sound.has cert.beyond sound.over sound.beyond);
+      }
+
+  -- and a check of its text and of the text of the mesh that is fitted, for the same target, is accepted
+  pub fit_made-accepted : (c : FitChecking) (files : List NamedFile) (triangles : List ℕ) → c.target ≡ m.target →
+      IsFitted m.target grid triangles → bytes_of files c.certificate ≡ fit_cert_text cert
+      → bytes_of files c.mesh ≡ fit_text c.spacing grid triangles → IsAcceptedFitCheck c grid files
+  fit_made-accepted c files triangles target fitted text mesh =
+      let same : triangles ≡ made.triangles =
+      fitted-one m.target grid triangles made.triangles fitted
+      (sound-fitted m.target grid cert made.triangles made.sound) in (
+        cert,
+        made.triangles,
+        ap (fit_cert_in grid.n) text ∙ fit-back read ended whole grid.n cert made-fit_certificate,
+        subst (λ (t : Target). IsFitSound grid.n grid.heights (goal_of grid.n t) cert made.triangles) (sym target)
+            made.sound,
+        mesh ∙ ap (λ (l : List ℕ). fit_text c.spacing grid l) same,
+      )

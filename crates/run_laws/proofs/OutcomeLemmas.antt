@@ -13,6 +13,7 @@ use Rattle.mesh_defs.specs.HeightField.{HeightField}
 use Rattle.mesh_defs.specs.State.{State, start_state}
 use Rattle.roam_edge.specs.Shelf.{NamedFile, bytes_of}
 use Rattle.text_laws.specs.Numbers.{number_in, signed_in}
+use Rattle.roam_num.specs.Places.{thousandths_in}
 use Rattle.pgm_grid.specs.declared.fault.PgmFault.{PgmFault}
 use Rattle.pgm_grid.specs.Progress.{grid_of}
 use Rattle.pgm_grid.specs.Laws.{TextsAreRead}
@@ -27,8 +28,8 @@ use Rattle.word_laws.specs.Words.{CheckFit, fit_make_command, fit_check_command,
 use Rattle.word_laws.specs.Words.{greatest_level, greatest_seed, number_word, try_command, within, least_budget}
 use Rattle.word_laws.specs.Words.{greatest_budget, is_coordinate, budget_word, spacing_word, tolerance_word, is_prefix}
 use Rattle.word_laws.specs.Words.{in_reach, coordinate_word, camera_word, frames_command, least_command, meshes_command}
-use Rattle.word_laws.specs.Words.{make_command, check_command, error_word, target_word, fit_command, fit_words}
-use Rattle.word_laws.specs.Words.{command_of}
+use Rattle.word_laws.specs.Words.{make_command, check_command, greatest_error, error_word, target_word, fit_command}
+use Rattle.word_laws.specs.Words.{fit_words, command_of}
 use Rattle.fit_certificate_laws.specs.Certificate.{FitCertificate}
 use Rattle.run_laws.specs.CertFile.{cert_in, fit_cert_in}
 use Rattle.run_laws.specs.Picture.{Picture, ArePictures, IsCertified}
@@ -42,7 +43,7 @@ use Rattle.run_laws.specs.Laws.{FramesExist, RunsAreUnique, LevelsAreInRange, Ar
 use Rattle.run_laws.proofs.PictureLemmas.{FramesAreUnique, SetsAreLists, ArePictures-unique, pictures_of, no-members}
 use Rattle.run_laws.proofs.CertifyLemmas.{IsOneText, make-text, check-text, check-unique, check-exists, check-done}
 use Rattle.run_laws.proofs.CertifyLemmas.{CertificatesExist, make-exists}
-use Rattle.run_laws.proofs.FitLemmas.{TakesTwo, fit-unique, fit-exists}
+use Rattle.run_laws.proofs.FitLemmas.{IsTargetOfWords, fit-unique, fit-exists}
 use Rattle.run_laws.proofs.FitCertifyLemmas.{fit_make-text, fit_check-text, fit_check-unique, fit_check-exists}
 use Rattle.run_laws.proofs.FitCertifyLemmas.{fit_check-done, fit_make-exists}
 use Rattle.run_laws.proofs.WalkLemmas.{walk_of-states, made-states, along-stop}
@@ -232,8 +233,8 @@ HasBudget (Frames s) = 2 ≤ s.budget
 HasBudget Facts = Unit {0}
 HasBudget (Make m) = IsWithinReach m
 HasBudget (Check c) = Unit {0}
-HasBudget (Fit f) = TakesTwo f.target
-HasBudget (MakeFit m) = TakesTwo m.target
+HasBudget (Fit f) = IsTargetOfWords f.target
+HasBudget (MakeFit m) = IsTargetOfWords m.target
 HasBudget (CheckFit c) = Unit {0}
 
 abbrev CommandHasBudget : Command → Type 0
@@ -338,35 +339,37 @@ check_command-budget i j k (Some budget) (Some spacing) command is =
     let P : Option Command → Type 0 = λ c. IfSome c CommandHasBudget in
     subst P is tt
 
--- a target has room for two triangles
+-- a target is one that words may say
 
-error-two : (thousandths : Option ℕ) (target : Target) →
-    option_map (λ k. AtError k) thousandths ≡ Some target → TakesTwo target
-error-two None target is = absurd (none-some target is)
-error-two (Some thousandths) target is =
-    let P : Option Target → Type 0 = λ o. IfSome o TakesTwo in
-    subst P is tt
+error-high : (thousandths : Option ℕ) (target : Target) →
+    ((number : ℕ) → thousandths ≡ Some number → number ≤ greatest_error) →
+    option_map (λ k. AtError k) thousandths ≡ Some target → IsTargetOfWords target
+error-high None target high is = absurd (none-some target is)
+error-high (Some thousandths) target high is =
+    let P : Option Target → Type 0 = λ o. IfSome o IsTargetOfWords in
+    subst P is (high thousandths refl)
 
-budget-two : (budget : Option ℕ) (target : Target) → ((number : ℕ) → budget ≡ Some number → 2 ≤ number) →
+budget-low : (budget : Option ℕ) (target : Target) → ((number : ℕ) → budget ≡ Some number → 2 ≤ number) →
     option_map (λ k. InBudget k) budget ≡ Some target
-    → TakesTwo target
-budget-two None target low is = absurd (none-some target is)
-budget-two (Some budget) target low is =
-    let P : Option Target → Type 0 = λ o. IfSome o TakesTwo in
+    → IsTargetOfWords target
+budget-low None target low is = absurd (none-some target is)
+budget-low (Some budget) target low is =
+    let P : Option Target → Type 0 = λ o. IfSome o IsTargetOfWords in
     subst P is (low budget refl)
 
-target-two : (word number : List ℕ) (target : Target) → target_word word number ≡ Some target → TakesTwo target
-target-two word number target is =
+target-said : (word number : List ℕ) (target : Target) → target_word word number ≡ Some target → IsTargetOfWords target
+target-said word number target is =
     let budgets : Option Target = option_map (λ k. InBudget k) (budget_word number) in
     let behind : Option Target = if bytes_eq word (codes "budget") then budgets else None in
     elim (either (bytes_eq word (codes "error")) (option_map (λ k. AtError k) (error_word number)) behind target is) [
-      | inl p ↦ error-two (error_word number) target p
-      | inr p ↦ budget-two (budget_word number) target (budget_word-low number)
+      | inl p ↦ error-high (error_word number) target
+          (λ k found. (within-range 0 greatest_error k (thousandths_in number) found).1) p
+      | inr p ↦ budget-low (budget_word number) target (budget_word-low number)
           (met (bytes_eq word (codes "budget")) budgets target p)
     ]
 
 fit_command-budget : (i j : List ℕ) (target : Option Target) (spacing : Option ℕ) (command : Command) →
-    ((t : Target) → target ≡ Some t → TakesTwo t)
+    ((t : Target) → target ≡ Some t → IsTargetOfWords t)
     → fit_command i j target spacing ≡ Some command → CommandHasBudget command
 fit_command-budget i j None spacing command two is = absurd (none-some command is)
 fit_command-budget i j (Some target) None command two is = absurd (none-some command is)
@@ -378,11 +381,11 @@ fit_words-budget : (i j k l m : List ℕ) (command : Command) → fit_words i j 
     CommandHasBudget command
 fit_words-budget i j k l m command is =
     let target : Option Target = target_word k l in
-    fit_command-budget i j target (spacing_word m) command (λ t found. target-two k l t found)
+    fit_command-budget i j target (spacing_word m) command (λ t found. target-said k l t found)
     (met (is_prefix j) (fit_command i j target (spacing_word m)) command is)
 
 fit_make_command-budget : (i : List ℕ) (target : Option Target) (spacing : Option ℕ) (command : Command) →
-    ((t : Target) → target ≡ Some t → TakesTwo t)
+    ((t : Target) → target ≡ Some t → IsTargetOfWords t)
     → fit_make_command i target spacing ≡ Some command → CommandHasBudget command
 fit_make_command-budget i None spacing command two is = absurd (none-some command is)
 fit_make_command-budget i (Some target) None command two is = absurd (none-some command is)
@@ -422,7 +425,7 @@ words-budget (word ∷ (i ∷ (j ∷ (k ∷ (l ∷ (m ∷ [])))))) command is =
     elim (either (bytes_eq word (codes "fit")) (fit_words i j k l m) (if makes then made else behind) command is) [
       | inl p ↦ fit_words-budget i j k l m command p
       | inr p ↦ elim (either makes made behind command p) [
-        | inl q ↦ fit_make_command-budget j target (spacing_word m) command (λ t found. target-two k l t found) q
+        | inl q ↦ fit_make_command-budget j target (spacing_word m) command (λ t found. target-said k l t found) q
         | inr q ↦ meshes_command-budget word i j k l m command (met (is_prefix k) meshes command q)
       ]
     ]

@@ -2,7 +2,7 @@
 -- planes.
 -- This project's own.
 -- Words: makes_at, checks_at, IsMade, IsFaultless, IsFitMade, IsFitFaultless, IsFirstDifference.
-use Rattle.std.specs.Prelude.{◌≡◌, ◌≢◌, ℕ, ◌<◌, List, length, take, slice_get}
+use Rattle.std.specs.Prelude.{◌≡◌, ◌≢◌, ℕ, ◌+◌, ◌*◌, ◌^◌, ◌<◌, ◌≤◌, List, length, take, slice_get}
 use Rattle.mesh_defs.specs.HeightField.{HeightField}
 use Rattle.mesh_defs.specs.BoundingBox.{CameraAt}
 use Rattle.mesh_defs.specs.BestMesh.{IsBestMesh}
@@ -11,6 +11,7 @@ use Rattle.certificate_laws.specs.Certificate.{IsSound}
 use Rattle.cert_text.specs.Certificate.{Certificate}
 use Rattle.fit_certificate_laws.specs.Certificate.{FitCertificate}
 use Rattle.fit_certificate_laws.specs.Certificate as fits
+use Rattle.fit_certificate_laws.specs.Making.{HasNoneBehind}
 use Rattle.word_laws.specs.Words.{Making, Checking, FitMaking, FitChecking}
 use Rattle.run_laws.specs.Fit.{goal_of}
 
@@ -34,10 +35,13 @@ pub record IsMade (m : Making) (grid : HeightField) (cert : Certificate) : Type 
 abbrev pub IsFaultless : Checking → HeightField → Certificate → Type 0
 IsFaultless c grid cert = IsSound grid.n c.budget (priority_in (checks_at c grid cert.camera)) cert.leaves cert.reasons
 
--- A certificate of a fitted mesh that may be made: a sound one for what the words say.
-abbrev pub IsFitMade : FitMaking → HeightField → FitCertificate → Type 0
-IsFitMade m grid cert =
-    (triangles : List ℕ) × fits.IsFitSound grid.n grid.heights (goal_of grid.n m.target) cert triangles
+-- A certificate of a fitted mesh that may be made: a sound one for what the words say, for an error without reasons
+-- behind the mesh, and with no more reasons than triangles that may be split, 2 to 2 ^ (2n + 1) - 1.
+pub record IsFitMade (m : FitMaking) (grid : HeightField) (cert : FitCertificate) : Type 0 where
+  pub triangles : List ℕ
+  pub sound : fits.IsFitSound grid.n grid.heights (goal_of grid.n m.target) cert triangles
+  pub behind : HasNoneBehind (goal_of grid.n m.target) cert.beyond
+  pub few : length cert.needed + length cert.beyond + 2 ≤ 2 ^ (2 * grid.n + 1)
 
 -- no part of it fails: it is a sound one of these triangles
 abbrev pub IsFitFaultless : FitChecking → HeightField → FitCertificate → List ℕ → Type 0

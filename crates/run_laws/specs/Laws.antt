@@ -2,10 +2,10 @@
 -- Words: WalksGoOn, PicturesGoOn, FramesExistFrom, FramesExist, RunsAreUnique, SetsStayClosed, LevelsAreInRange,
 -- BudgetsAreTwo, AreStates, KeepsStates, OutcomesAreUnique, OutcomesExist, AcceptedIsDone, EnginesAreUnique,
 -- PicturesAreCertified, HeadlineFollows, CertifiedFollows, FitCertifiedFollows, TolerancesAreExact, FitsAreBest,
--- FittedFollows, MadeIsAccepted, FitIsReadBack, TurnsAreCounted.
+-- FittedFollows, MadeIsAccepted, FitMadeIsAccepted, FitIsReadBack, TurnsAreCounted.
 use Rattle.std.specs.Prelude.{◌≡◌, ⊤, ℕ, ◌*◌, ◌^◌, ◌≤◌, ◌↔◌, Bool, IsTrue, IsSome, is_some, List, [], ◌∷◌, ◌++◌, All}
 use Rattle.std.specs.Prelude.{Option, Some, Ok}
-use Rattle.mesh_defs.specs.HeightField.{HeightField}
+use Rattle.mesh_defs.specs.HeightField.{HeightField, IsHeightField}
 use Rattle.mesh_defs.specs.State.{State, priority_in, text_in}
 use Rattle.mesh_defs.specs.ClosedSet.{IsClosed, among}
 use Rattle.mesh_defs.specs.GridSet.{IsGridSet}
@@ -32,15 +32,16 @@ use Rattle.fit_cert_text.specs.FitCertText.{fit_cert_text}
 use Rattle.fit_cert_text.specs.Laws.{IsFitCertificateOf}
 use Rattle.run_laws.specs.CertFile.{fit_cert_in}
 use Rattle.word_laws.specs.Words.{Show, Scripted, Making, Checking, Target, Fitting, FitChecking, Frames, Make, Check}
-use Rattle.word_laws.specs.Words.{Fit, CheckFit, OnGrid, prefix_of, command_of}
-use Rattle.run_laws.specs.Certify.{makes_at, IsMade}
+use Rattle.word_laws.specs.Words.{FitMaking, Fit, MakeFit, CheckFit, OnGrid, prefix_of, command_of}
+use Rattle.run_laws.specs.Certify.{makes_at, IsMade, IsFitMade}
 use Rattle.run_laws.specs.Act.{Told}
 use Rattle.run_laws.specs.Picture.{Picture, ArePictures, IsCertified, last_members}
 use Rattle.run_laws.specs.Turns.{left_turns, right_turns}
 use Rattle.run_laws.specs.Outcome.{Outcome, IsOutcome, MakesNoCertificate}
-use Rattle.run_laws.specs.Promise.{Seen, EndsRight, LeavesAtReadFault, LeavesAtNoMemory, IsAcceptedCheck, IsAccepted}
+use Rattle.run_laws.specs.Promise.{Seen, EndsRight, LeavesAtReadFault, LeavesAtNoMemory, IsAcceptedCheck}
+use Rattle.run_laws.specs.Promise.{IsAcceptedFitCheck, IsAccepted}
 use Rattle.run_laws.specs.Headline.{IsRunOf, KeepsGoodMeshes, IsCertifiedMesh, IsCertifiedFit, KeepsFitMesh}
-use Rattle.run_laws.specs.Fit.{tolerance_of, IsFitFor, IsBestFit}
+use Rattle.run_laws.specs.Fit.{tolerance_of, IsFitFor, IsFitted, IsBestFit, fit_text}
 
 -- a walk over whole lines goes on with what follows them
 abbrev pub WalksGoOn : Type 0
@@ -195,3 +196,14 @@ MadeIsAccepted =
     c.budget ≡ m.budget → c.spacing ≡ m.spacing
     → bytes_of files c.certificate ≡ cert_text cert → bytes_of files c.mesh ≡ text_in (makes_at m grid) cert.leaves →
     IsAcceptedCheck c grid files
+
+-- What `certify make-fit` writes for a grid `certify check-fit` accepts over it, for the same error or budget and with
+-- the mesh that `fit` writes for it, at any spacing.
+abbrev pub FitMadeIsAccepted : Type 0
+FitMadeIsAccepted =
+    (words : List (List ℕ)) (name : List ℕ) (m : FitMaking) (grid : HeightField) (cert : FitCertificate)
+    (c : FitChecking) (files : List NamedFile) (triangles : List ℕ)
+    → command_of words ≡ Some (OnGrid name (MakeFit m)) → IsHeightField grid → IsFitMade m grid cert →
+    c.target ≡ m.target → IsFitted m.target grid triangles
+    → bytes_of files c.certificate ≡ fit_cert_text cert → bytes_of files c.mesh ≡ fit_text c.spacing grid triangles →
+    IsAcceptedFitCheck c grid files

@@ -9,7 +9,7 @@ ghost use Rattle.run_laws.specs.Laws.{WalksGoOn, PicturesGoOn, FramesExistFrom, 
 ghost use Rattle.run_laws.specs.Laws.{LevelsAreInRange, BudgetsAreTwo, OutcomesAreUnique, OutcomesExist};
 ghost use Rattle.run_laws.specs.Laws.{AcceptedIsDone, EnginesAreUnique, PicturesAreCertified, HeadlineFollows};
 ghost use Rattle.run_laws.specs.Laws.{CertifiedFollows, FitCertifiedFollows, TolerancesAreExact, FitsAreBest};
-ghost use Rattle.run_laws.specs.Laws.{FittedFollows, MadeIsAccepted, FitIsReadBack, TurnsAreCounted};
+ghost use Rattle.run_laws.specs.Laws.{FittedFollows, MadeIsAccepted, FitMadeIsAccepted, FitIsReadBack, TurnsAreCounted};
 
 use cert_text::text_laws;
 use closure_laws::{frame_laws, member_laws};
@@ -70,10 +70,12 @@ pub fn fitting_laws()
     grids_and_texts();
 }
 
-/// What `certify make` writes for a grid `certify check` accepts, with the mesh that it is of; and the text of a
-/// certificate of a fitted mesh is read back as it.
+/// What `certify make` writes for a grid `certify check` accepts, with the mesh that it is of, and what
+/// `certify make-fit` writes `certify check-fit`, with the mesh that `fit` writes; and the text of a certificate of a
+/// fitted mesh is read back as it.
 pub fn certify_laws()
     ensures accepted { MadeIsAccepted }
+    ensures fit_accepted { FitMadeIsAccepted }
     ensures fit_read_back { FitIsReadBack }
 {
     text_laws();

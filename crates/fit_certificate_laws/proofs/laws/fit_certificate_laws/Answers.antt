@@ -1,5 +1,6 @@
 -- Each clause is a lemma.
-use Rattle.fit_certificate_laws.proofs.SoundLemmas.{sound-least, sound-error, sound-budget, sound-order}
+use Rattle.fit_certificate_laws.proofs.SoundLemmas.{sound-least, sound-error, sound-budget, sound-order, sound-few}
+use Rattle.fit_certificate_laws.proofs.SoundLemmas.{sound-low}
 use Rattle.fit_certificate_laws.proofs.VerdictLemmas.{sound-certified}
 use Rattle.fit_certificate_laws.proofs.DecisionLemmas.{verdict_found, verdict_one}
 use Rattle.fit_certificate_laws.proofs.FoundLemmas.{sound_found}
@@ -28,4 +29,11 @@ pub returns-clause-one_verdict : goal.returns-clause-one_verdict
 returns-clause-one_verdict c = verdict_one
 
 pub returns-clause-some : goal.returns-clause-some
-returns-clause-some c = sound_found
+returns-clause-some c n heights target possible =
+    let found = sound_found n heights target possible in (found.0, found.1, found.2)
+
+pub returns-clause-few : goal.returns-clause-few
+returns-clause-few c = sound-few
+
+pub returns-clause-tolerance : goal.returns-clause-tolerance
+returns-clause-tolerance c = sound-low

@@ -5,6 +5,7 @@ use Rattle.closure_laws.proofs.ClosureLemmas.{nothing_closed}
 use Rattle.least_laws.specs.Sweep.{is_flagged}
 use Rattle.fit_laws.proofs.FitLemmas.{closed-same}
 use Rattle.fit_certificate_laws.specs.Certificate.{FitCertificate, LeadsToFit, IsFitSound}
+use Rattle.fit_certificate_laws.specs.Making.{HasNoneBehind}
 use Rattle.fit_certificate_laws.proofs.LeadLemmas.{leads-closed, leads-same}
 use Rattle.fit_certificate_laws.proofs.MakeLemmas.{made-sound}
 use Rattle.fit_certify.proofs.making.cert_of.Goals as goal
@@ -47,4 +48,6 @@ returns c =
             c.args.target c.requires.best
             c.in_ok-beyond.ensures.below),
       );
+      behind = subst (λ (x : FitCertificate). HasNoneBehind c.args.target x.beyond) (sym c.new.ensures)
+          c.in_ok-beyond.ensures.none;
     }

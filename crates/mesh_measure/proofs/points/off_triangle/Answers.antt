@@ -1,8 +1,9 @@
 -- The rows of the rectangle have all held points, and the greatest gap gives the error.
 use Rattle.std.proofs.Common.{◌∙◌, ℕ, ◌*◌, ◌^◌, ◌≤◌, ap, arith, pow_mono}
 use Rattle.tiling_laws.proofs.DescentLemmas.{IsAddress-level}
+use Rattle.deviation_laws.proofs.ListLemmas.{offs_in-most}
 use Rattle.mesh_measure.proofs.AreaLemmas.{product, area-some}
-use Rattle.mesh_measure.proofs.ErrorLemmas.{bounds-in_grid, error-le, error-most}
+use Rattle.mesh_measure.proofs.ErrorLemmas.{bounds-in_grid, error-most}
 use Rattle.mesh_measure.proofs.points.off_triangle.Goals as goal
 
 pub most_until-most-requires-clause-right_in_grid : goal.most_until-most-requires-clause-right_in_grid
@@ -45,7 +46,7 @@ overflow_cast-result c =
     let low : 2 ≤ c.args.t = omega arith in
     let valid = c.n.ensures.valid in
     let is = returns c in
-    let le = error-le n c.args.grid.now.heights c.args.grid.now.maxval c.args.t
+    let le = offs_in-most n c.args.grid.now.heights c.args.grid.now.maxval c.args.t
     (IsAddress-level n c.args.t low c.requires.level) valid.bounded in
     let side : 2 ^ n ≤ 2 ^ 11 = pow_mono valid.n_high in
     let top : 2 ^ n * c.args.grid.now.maxval ≤ 2048 * 65535 =
