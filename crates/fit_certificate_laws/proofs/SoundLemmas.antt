@@ -1,6 +1,6 @@
 -- A sound certificate proves its mesh the best for its target, and how great it is at most.
-use Rattle.std.proofs.Common.{◌≡◌, ℕ, ◌+◌, ◌-◌, ◌*◌, ◌^◌, ◌<◌, ◌≤◌, Bool, false, List, [], ◌∷◌, All, length, length-append}
-use Rattle.std.proofs.Common.{sym, ◌∙◌, ap, subst, arith, ⊎_elim, pow-add}
+use Rattle.std.proofs.Common.{◌≡◌, ℕ, ◌+◌, ◌-◌, ◌*◌, ◌^◌, ◌<◌, ◌≤◌, Bool, false, List, [], ◌∷◌, All, length}
+use Rattle.std.proofs.Common.{length-append, sym, ◌∙◌, ap, subst, arith, ⊎_elim, pow-add}
 use Rattle.std.proofs.lemmas.Bool.{cases_lt}
 use Rattle.mesh_defs.specs.BoundingBox.{point}
 use Rattle.mesh_defs.specs.ClosedSet.{IsClosed, leaves_of, leaves_under}

@@ -1,21 +1,19 @@
 -- The error of a triangle: how great it is by its gaps, and whether it is above a tolerance.
-use Rattle.std.proofs.Common.{◌≡◌, ℕ, ◌+◌, ◌*◌, ◌/◌, ◌^◌, ◌<◌, ◌≤◌, ◌↔◌, inl, inr, true, List, All, length, get_or, sym}
+use Rattle.std.proofs.Common.{◌≡◌, ℕ, ◌*◌, ◌/◌, ◌^◌, ◌<◌, ◌≤◌, ◌↔◌, inl, inr, true, List, sym}
 use Rattle.std.proofs.Common.{◌∙◌, ap, subst, arith, ⊎_elim, mul-le-mul_left}
 use Rattle.std.proofs.Math.Nat.{le-div_iff_mul-le, le_of_mul-le-mul_left}
 use Rattle.std.proofs.lemmas.Bool.{cases_lt}
-use Rattle.std.proofs.lemmas.List.{get_or_past}
 use Rattle.std.proofs.lemmas.Nat.{pow_pos}
 use Rattle.mesh_defs.specs.declared.point.Point.{Point}
 use Rattle.mesh_defs.specs.declared.point.Corners.{Corners}
-use Rattle.mesh_defs.specs.HeightField.{place_of}
 use Rattle.mesh_defs.specs.Triangle.{IsAddress, corners_of}
 use Rattle.mesh_defs.specs.Thickness.{height_of}
 use Rattle.mesh_defs.specs.BoundingBox.{points_of, is_in_closed, holds_point, greatest}
 use Rattle.mesh_defs.proofs.PointLemmas.{greatest-le}
 use Rattle.bintree_laws.specs.Corners.{IsWithin}
 use Rattle.bintree_laws.proofs.CornerLemmas.{IsWithin-corners_of}
-use Rattle.deviation_laws.specs.PlaneHeight.{doubled_area, area_of, weighted, plane_height, off_plane, offs_in}
-use Rattle.deviation_laws.proofs.PlaneLemmas.{area_of-some, plane_height-exact, IsMean-held}
+use Rattle.deviation_laws.specs.PlaneHeight.{area_of, off_plane, offs_in}
+use Rattle.deviation_laws.proofs.PlaneLemmas.{area_of-some}
 use Rattle.mesh_measure.specs.declared.shape.Bounds.{Bounds}
 use Rattle.mesh_measure.specs.Facet.{AreBounds}
 use Rattle.mesh_measure.specs.Most.{gap_of, IsMost, IsMostUntil, IsMostReached, IsInBounds}
