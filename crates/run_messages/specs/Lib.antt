@@ -1,2 +1,4 @@
 pub mod Form
 pub mod Opened
+pub mod Prefix
+pub mod Watching

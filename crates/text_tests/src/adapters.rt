@@ -6,6 +6,7 @@ ghost use Rattle.roam_edge.specs.declared.mesh_sink.TheConstants.{GREATEST_NUMBE
 use crate::calls::{put_lines, put_mesh, read_front};
 use crate::flaky_files::FlakyFiles;
 use roam_edge::{Failed, FileMeshes, FileShelf, StdSink};
+use run_messages::{Note, NotedFiles, Step};
 use std::alloc::Global;
 use std::cell::Cell;
 use std::io::Write;
@@ -189,6 +190,41 @@ fn a_failed_read_or_open_is_told_and_not_tried_again(rt: HostRuntime) -> Result<
             want,
             "{fails} {name}"
         );
+    }
+    Ok(())
+}
+
+/// What a note of files tells: how many were opened, and the call that failed last.
+type Told = (u64, Option<(Step, io::ErrorKind)>);
+
+/// What a note tells.
+fn told_by(note: &Note) -> Told {
+    match note.failure() {
+        Some(failure) => (note.opened(), Some((failure.step, failure.error.kind()))),
+        None => (note.opened(), None),
+    }
+}
+
+/// The same through files with a note: what the read answers, how many calls were made, and what the note tells.
+fn read_noted(alloc: Global, fails: u64) -> Result<(Result<usize, Failed>, u64, Told), Fail> {
+    let files = flaky(alloc, fails, "grid")?;
+    let note = Note::new();
+    let mut buf = [0u8; 8];
+    let read = read_through(&NotedFiles::new(&files, &note), "grid", &mut buf);
+    Ok((read, files.calls.get(), told_by(&note)))
+}
+
+#[test]
+fn noted_files_open_once_where_the_first_open_fails(rt: HostRuntime) -> Result<(), Fail> {
+    let open = Some((Step::Open, io::ErrorKind::Other));
+    let read = Some((Step::Read, io::ErrorKind::Other));
+    let cases = [
+        (1, (Err(Failed), 1, (1, open))),
+        (2, (Err(Failed), 2, (1, read))),
+        (3, (Ok(3), 2, (1, None))),
+    ];
+    for (fails, want) in cases {
+        assert_eq!(rt; read_noted(rt.alloc(), fails)?, want, "{fails}");
     }
     Ok(())
 }
