@@ -1,6 +1,9 @@
 //! The program at a console: real files, standard output for the report, and what standard error says.
 
-ghost use Rattle.std.specs.Prelude.{◌≡◌, drop};
+ghost use Rattle.std.specs.Prelude.{◌≡◌, ◌≢◌, ◌↔◌, None, drop, map, string_bytes};
+ghost use Rattle.std.specs.Process.{exit_status};
+ghost use Rattle.word_laws.specs.Words.{command_of};
+ghost use Rattle.run_console.specs.Ending.{IsExit};
 
 use crate::explanation::{Topic, topic_after};
 use crate::runs::Runs;
@@ -9,7 +12,7 @@ use roam_edge::{FileMeshes, FileShelf, StdSink};
 use run_laws::Status;
 use run_messages::{
     GridHint, MeshFault, Note, Noted, NotedFiles, ReadFault, ReportFault, WatchedShelf,
-    WatchedSink, grid_hint, opened_file, word_fault,
+    WatchedSink, grid_hint, mesh_prefix, opened_file, word_fault,
 };
 use std::env::Env;
 use std::fmt::Display;
@@ -32,11 +35,14 @@ struct Notes {
 /// Carries the words of the command line out by this run, over real files and standard output, and answers its status
 /// as the exit status. What the report does not say stands on standard error.
 ///
-/// Where the system cannot give the words the exit status is 8, or that of `NoMemory` where memory is the cause.
-pub fn carry_out<R: Env + Files + Print + Eprint + AllocGlobal>(
+/// Where the system cannot give the words the exit status is 8, or that of `NoMemory` where memory is the cause. No
+/// clause can speak of what the system gives, so which words are carried out is not said.
+pub fn carry_out<R: Env + Files + Print + Eprint + AllocGlobal, P: Runs>(
     rt: &R,
-    program: &impl Runs,
-) -> ExitCode {
+    program: &P,
+) -> ExitCode
+    ensures exit { IsExit (P.ran program.now) (exit_status result) }
+{
     let all = match all_words(rt) {
         Ok(all) => all,
         Err(error) => return without_words(rt, error.kind()),
@@ -61,12 +67,15 @@ fn behind_name(all: &[String]) -> &[String]
 }
 
 /// Carries the words out over real files, and tells on standard error what the report does not.
-fn run<R: Files + Print + Eprint + AllocGlobal>(
+fn run<R: Files + Print + Eprint + AllocGlobal, P: Runs>(
     rt: &R,
-    program: &impl Runs,
+    program: &P,
     words: &[String],
     notes: &Notes,
-) -> Status {
+) -> Status
+    ensures ran { P.ran program.now (map string_bytes words.now) result }
+    ensures usage { (result ≡ Status.Usage) ↔ (command_of (map string_bytes words.now) ≡ None) }
+{
     let read_files = NotedFiles::new(rt, &notes.reading);
     let mesh_files = NotedFiles::new(rt, &notes.meshes);
     let mut shelf = WatchedShelf::new(FileShelf::new(&read_files));
@@ -142,18 +151,9 @@ fn say_file(rt: &impl Eprint, words: &[String], opens: u64, note: &Note) {
     );
 }
 
-/// The prefix of the words of a command that writes meshes.
-fn prefix_in(words: &[String]) -> Option<&str> {
-    match words {
-        [word, _, prefix, ..] if word.as_str() == "fit" => Some(prefix.as_str()),
-        [_, _, _, prefix, ..] => Some(prefix.as_str()),
-        _ => None,
-    }
-}
-
 /// Says whether a mesh or the report could not be written.
 fn say_output(rt: &impl Eprint, words: &[String], notes: &Notes) {
-    match (notes.meshes.failure(), prefix_in(words)) {
+    match (notes.meshes.failure(), mesh_prefix(words)) {
         (Some(failure), Some(prefix)) => say(
             rt,
             MeshFault {
@@ -177,7 +177,10 @@ fn all_words(rt: &(impl Env + AllocGlobal)) -> io::Result<Vec<String>> {
 }
 
 /// Ends a program that cannot have its words.
-fn without_words(rt: &impl Eprint, kind: ErrorKind) -> ExitCode {
+fn without_words(rt: &impl Eprint, kind: ErrorKind) -> ExitCode
+    ensures memory { kind ≡ ErrorKind.OutOfMemory → exit_status result ≡ 1 }
+    ensures system { kind ≢ ErrorKind.OutOfMemory → exit_status result ≡ 8 }
+{
     if kind == ErrorKind::OutOfMemory {
         say(rt, "out of memory");
         return ExitCode::from(Status::NoMemory.number());
