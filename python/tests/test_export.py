@@ -81,7 +81,7 @@ def test_a_quantized_glb_loses_nothing(tmp_path):
 
 
 def test_a_texture_is_in_the_glb(mesh, tmp_path):
-    mesh.save(str(tmp_path / "a.glb"), texture=PNG)
+    mesh.save(tmp_path / "a.glb", texture=PNG)
     data = (tmp_path / "a.glb").read_bytes()
     it = read_glb(data)
     assert it["head"]["images"][0]["mimeType"] == "image/png" and PNG in data and "uv" in it
@@ -177,6 +177,7 @@ def test_a_base_is_where_it_is_said(mesh, tmp_path):
     ("a.ply", {"uv": True}, "uv, texture and quantize are for .glb alone"),
     ("a.glb", {"texture": PNG, "base": 0}, "base and size make a solid"),
     ("a.glb", {"quantize": True, "size": 9}, "base and size make a solid"),
+    ("a.glb", {"texture": b"GIF89a"}, "texture is no PNG and no JPEG"),
     ("a.glb", {"crs": "EPSG:99"}, "crs is 'EPSG:99', and PROJ knows no such system"),
     ("a.glb", {"crs": "globe"}, "the mesh was not made with globe=True"),
     ("a.glb", {"crs": "globe", "size": 9}, "crs globe is no system for base, size and origin"),

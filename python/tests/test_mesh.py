@@ -245,3 +245,14 @@ def test_a_plot_has_the_triangles():
     axes = mesh.plot(cmap="gray")
     assert len(axes.collections[0]._triangulation.triangles) == len(mesh.triangles)
     assert "triangles" in repr(mesh) and "20 x 30 points" in repr(mesh)
+
+
+def test_each_public_name_has_an_example():
+    def public(it):
+        return [value for name, value in vars(it).items() if not name.startswith("_") and callable(value)]
+    named = [getattr(calfrewin, name) for name in calfrewin.__all__]
+    named = [it for it in named if callable(it) and not (isinstance(it, type) and issubclass(it, (tuple, Exception)))]
+    assert len(named) >= 6
+    from calfrewin import export, raster
+    for it in [*named, *public(calfrewin.Engine), *public(calfrewin.Mesh), export.save, raster.open_raster]:
+        assert ">>>" in it.__doc__, it

@@ -170,6 +170,9 @@ def test_units_scales_and_holes(tmp_path):
         opened(write_tif(tmp_path / "c.tif", heights, unit="furlong"))
     raster = opened(write_tif(tmp_path / "d.tif", heights, crs="EPSG:2263+6360"))
     assert raster.factor == pytest.approx(0.3048006)
+    # Its heights are metres then, and so is the system that goes with them to the globe.
+    from pyproj import CRS
+    assert [axis.unit_name for axis in CRS(raster.crs).axis_info] == ["US survey foot", "US survey foot", "metre"]
     assert opened(tmp_path / "b.tif", nodata=200).nodata == 200
 
 

@@ -1,11 +1,15 @@
 """Names of types that several modules use."""
 from __future__ import annotations
 
+import os
+from typing import Union
+
 import numpy as np
 import numpy.typing as npt
 
 Floats = npt.NDArray[np.float64]
 Numbers = npt.NDArray[np.uint32]
 Flags = npt.NDArray[np.bool_]
+Path = Union[str, "os.PathLike[str]"]
 #: (a, b, c, d, e, f), from column and row of a point: x = a column + b row + c, y = d column + e row + f
 Transform = tuple[float, float, float, float, float, float]

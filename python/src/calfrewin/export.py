@@ -2,13 +2,14 @@
 from __future__ import annotations
 
 import json
+import os
 import pathlib
 from typing import Any, NamedTuple, Optional
 
 import numpy as np
 
 from . import glb as gltf
-from ._types import Floats, Numbers
+from ._types import Floats, Numbers, Path
 from .files import whole_file, write_bytes
 from .mesh import Mesh
 from .normals import Normals, ground_normals, normals_of
@@ -30,7 +31,7 @@ class Places(NamedTuple):
     frame: Optional[Floats]  #: 4 x 4, from these to EPSG:4978, where they are about a place of the globe
 
 
-def kind_of(path: str) -> str:
+def kind_of(path: Path) -> str:
     """The ending of a name, which is that of a format.
 
     >>> kind_of("my.GLB")
@@ -38,11 +39,11 @@ def kind_of(path: str) -> str:
     """
     kind = pathlib.PurePath(path).suffix.lower()
     if kind not in KINDS:
-        raise ValueError(f"path is {path!r}, and has to end in one of {' '.join(KINDS)}")
+        raise ValueError(f"path is {os.fspath(path)!r}, and has to end in one of {' '.join(KINDS)}")
     return kind
 
 
-def save(mesh: Mesh, path: str, *, crs: Optional[str] = None, origin: Optional[tuple[float, float, float]] = None,
+def save(mesh: Mesh, path: Path, *, crs: Optional[str] = None, origin: Optional[tuple[float, float, float]] = None,
          normals: bool = True, uv: bool = False, texture: Optional[bytes] = None, quantize: bool = False,
          base: Optional[float] = None, size: Optional[float] = None, exaggerate: float = 1.0) -> dict[str, Any]:
     """Writes the mesh, and PATH.json beside it with the origin, the coordinate system and the error; what that says comes
@@ -63,8 +64,20 @@ def save(mesh: Mesh, path: str, *, crs: Optional[str] = None, origin: Optional[t
         size: makes a solid whose longer side is so many millimetres; without `base` its floor is 2 mm below the lowest
             point.
         exaggerate: heights are multiplied by it.
+
+    Raises:
+        ValueError: options that do not go together, a system that PROJ does not know, a base above the ground.
+        OSError: the file cannot be written; an old one is as it was.
+
+    >>> import tempfile
+    >>> from calfrewin import fit
+    >>> mesh = fit([[0, 0, 0], [0, 9, 0], [0, 0, 0]], error=0, cell=30)
+    >>> with tempfile.TemporaryDirectory() as folder:
+    ...     told = save(mesh, folder + "/print.stl", size=100)
+    >>> told["triangles"], round(told["millimetres_to_a_metre"], 3)
+    (16, 1.667)
     """
-    kind = kind_of(path)
+    path, kind = os.fspath(path), kind_of(path)
     is_solid = base is not None or size is not None
     if kind != ".glb" and (uv or texture or quantize):
         raise ValueError(f"path is {path!r}, and uv, texture and quantize are for .glb alone")

@@ -108,13 +108,20 @@ def _from_edges(heights: Floats, is_there: Flags) -> Floats:
     if is_there.all():
         return heights
     rows, columns = heights.shape
-    pads = (0, rows % 2), (0, columns % 2)
-    sums, counts = (np.pad(found, pads).reshape((rows + 1) // 2, 2, (columns + 1) // 2, 2).sum((1, 3))
-                    for found in (np.where(is_there, heights, 0.0), is_there.astype(np.float64)))
+    sums, counts = (_halved(found) for found in (np.where(is_there, heights, 0.0), is_there.astype(np.float64)))
     means = _from_edges(sums / np.maximum(counts, 1), counts > 0)
     for axis, length in ((0, rows), (1, columns)):
         means = _twice(means, axis).take(np.arange(length), axis)
     return np.where(is_there, heights, means)
+
+
+def _halved(values: Floats) -> Floats:
+    """The sums of 2 x 2 points each; beyond an odd end there are none."""
+    for _ in range(2):
+        found = values[::2].copy()
+        found[:len(values) // 2] += values[1::2]
+        values = found.T
+    return values
 
 
 def _twice(means: Floats, axis: int) -> Floats:

@@ -14,7 +14,7 @@ from typing import Any, NamedTuple, Optional
 import numpy as np
 import numpy.typing as npt
 
-from ._types import Flags, Floats, Numbers, Transform
+from ._types import Flags, Floats, Numbers, Path, Transform
 from .clip import Clip, GridMesh, grid_mesh
 from .engine import MOST_BUDGET, MOST_SPACING, MOST_TOLERANCE, MOST_TRIANGLES, Engine, Fit, whole
 from .heights import UNITS, Rounded, filled, padded, rounded, side_of
@@ -89,7 +89,7 @@ class Mesh:
         triangles = self.triangles[:, ::-1] if is_turned else self.triangles
         return replace(self, transform=transform, crs=crs, triangles=triangles)
 
-    def save(self, path: str, **options: Any) -> dict[str, Any]:
+    def save(self, path: Path, **options: Any) -> dict[str, Any]:
         """Writes .glb, .ply, .stl, .obj, .vtk, .vtu, .off or .npz: calfrewin.export.save has the options.
 
         >>> import tempfile

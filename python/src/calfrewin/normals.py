@@ -44,28 +44,23 @@ def ground_normals(mesh: Mesh, crs: Optional[str] = None, exaggerate: float = 1.
     if mesh.grid is None:
         raise ValueError("the mesh was not made by fit or view, so it has no ground")
     right, down = (rise * np.float32(exaggerate) for rise in _rises(mesh, mesh.grid))
-    up, by_right, by_down = _steps(mesh, crs)
-    found = np.empty((len(right), 3), np.float32)
-    for axis in range(3):
-        found[:, axis] = up[axis] + right * by_right[axis] + down * by_down[axis]
-    found /= np.sqrt(np.einsum("ij,ij->i", found, found))[:, None]
-    return found
+    level, by_right, by_down = (part.astype(np.float32) for part in _steps(mesh, crs))
+    found = [level[axis] + right * by_right[axis] + down * by_down[axis] for axis in range(3)]
+    length = np.sqrt(found[0] * found[0] + found[1] * found[1] + found[2] * found[2])
+    return np.stack([part / length for part in found], axis=1)
 
 
 def _rises(mesh: Mesh, grid: Grid) -> tuple[npt.NDArray[np.float32], npt.NDArray[np.float32]]:
     """How much the ground rises by a step along columns and along rows at each vertex: central differences."""
     rows, columns = mesh.shape
-    row, column = (np.rint(values).astype(np.int32) for values in (mesh.row, mesh.column))
-    found = []
-    for low_row, high_row, low_column, high_column in (
-            (row, row, np.maximum(column - 1, 0), np.minimum(column + 1, columns - 1)),
-            (np.maximum(row - 1, 0), np.minimum(row + 1, rows - 1), column, column)):
-        rise = grid.numbers[high_row, high_column].astype(np.float32)
-        rise -= grid.numbers[low_row, low_column]
-        rise /= high_row - low_row + high_column - low_column
-        rise *= np.float32(grid.unit)
-        found.append(rise)
-    return found[0], found[1]
+    place = np.rint(mesh.row).astype(np.intp) * columns + np.rint(mesh.column).astype(np.intp)
+    ground = grid.numbers[:rows, :columns] * np.float32(grid.unit)
+    by_column = np.empty_like(ground)
+    by_row = np.empty_like(ground)
+    for rise, heights in ((by_column.T, ground.T), (by_row, ground)):
+        rise[1:-1] = (heights[2:] - heights[:-2]) / 2
+        rise[0], rise[-1] = heights[1] - heights[0], heights[-1] - heights[-2]
+    return by_column.reshape(-1)[place], by_row.reshape(-1)[place]
 
 
 def _steps(mesh: Mesh, crs: Optional[str]) -> tuple[Floats, Floats, Floats]:

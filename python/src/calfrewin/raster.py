@@ -6,6 +6,7 @@ another one. `transform` is that of points: the middle of the first cell is colu
 from __future__ import annotations
 
 import math
+import os
 import threading
 import warnings
 from dataclasses import dataclass, replace
@@ -15,7 +16,7 @@ import numpy as np
 import numpy.typing as npt
 
 from . import formats, systems
-from ._types import Floats, Transform
+from ._types import Floats, Path, Transform
 from .formats import Unreadable
 from .heights import filled
 from .mesh import Array, Mesh, mesh_of, view_of
@@ -142,7 +143,7 @@ def _opened(path: str) -> Any:
         return rasterio.open(path)
 
 
-def open_raster(path: str, *, band: int = 1, nodata: Optional[float] = None, spacing: Optional[float] = None,
+def open_raster(path: Path, *, band: int = 1, nodata: Optional[float] = None, spacing: Optional[float] = None,
                 crs: Optional[str] = None, vertical: Optional[str] = None, encoding: Optional[str] = None) -> Raster:
     """What a file holds, without reading its heights.
 
@@ -157,7 +158,16 @@ def open_raster(path: str, *, band: int = 1, nodata: Optional[float] = None, spa
 
     Raises:
         Unreadable: the file is none that can be read, and what mends it.
+
+    >>> import tempfile
+    >>> with tempfile.TemporaryDirectory() as folder:
+    ...     np.save(folder + "/a.npy", np.zeros((40, 50)))
+    ...     raster = open_raster(folder + "/a.npy", spacing=30)
+    ...     found = fit_raster(raster, error=1, window=(10, 0, 30, 50))
+    >>> raster.shape, found.mesh.shape, found.every, len(found.mesh.triangles) < 9
+    ((40, 50), (30, 50), 1, True)
     """
+    path = os.fspath(path)
     if encoding is not None and encoding not in formats.ENCODINGS:
         raise ValueError(f"encoding is {encoding!r}, and has to be one of {', '.join(formats.ENCODINGS)}")
     form = formats.form_of(path)
@@ -178,7 +188,7 @@ def open_raster(path: str, *, band: int = 1, nodata: Optional[float] = None, spa
     if nodata is not None:
         found = replace(found, nodata=nodata)
     if crs is not None:
-        found = replace(found, crs=crs)
+        found = replace(found, crs=systems.in_metres(crs))
     if vertical is not None:
         found = replace(found, crs=systems.with_heights(found.crs, vertical))
     return found
@@ -203,6 +213,8 @@ def _by_gdal(path: str, band: int, crs: Optional[str], encoding: Optional[str]) 
     if unit not in METRES and unit not in FEET:
         raise Unreadable(f"{path} says that its heights are in {unit!r}, which is not known here")
     factor = FEET.get(unit, 1.0) if unit not in METRES else systems.metres_of_height(crs or wkt)
+    if wkt is not None:
+        wkt = systems.in_metres(wkt)  # as the heights are
     transform: Transform = (0.0,) * 6 if a.is_identity else (
         a.a, a.b, a.c + (a.a + a.b) / 2, a.d, a.e, a.f + (a.d + a.e) / 2)
     return Raster(path, "gdal", band, (rows, columns), transform, wkt, None if encoding else nodata,

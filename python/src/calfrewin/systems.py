@@ -54,6 +54,26 @@ def metres_of_height(crs: Optional[str]) -> float:
     return float(vertical.axis_info[0].unit_conversion_factor) if vertical is not None else 1.0
 
 
+def in_metres(crs: str) -> str:
+    """The same system with its heights in metres, where it has some in another unit.
+
+    >>> metres_of_height(in_metres("EPSG:2263+6360"))
+    1.0
+    """
+    if metres_of_height(crs) == 1:
+        return crs
+    from pyproj import CRS
+    found = crs_of(crs).to_json_dict()
+    for part in found["components"]:
+        for axis in part["coordinate_system"]["axis"] if part["type"] == "VerticalCRS" else ():
+            axis["unit"] = "metre"
+        if part["type"] == "VerticalCRS":
+            part.pop("id", None)
+            part["name"] += ", in metres"
+    found.pop("id", None)
+    return str(CRS.from_json_dict(found).to_wkt())
+
+
 def with_heights(crs: Optional[str], vertical: str) -> str:
     """A system with heights of its own: over the geoid of `vertical`, as EPSG:5773 (EGM96) or EPSG:3855 (EGM2008)."""
     from pyproj.crs.crs import CompoundCRS
