@@ -1,0 +1,9 @@
+pub mod BorderLemmas
+pub mod BitLemmas
+pub mod SplitLemmas
+pub mod MarkLemmas
+pub mod PlaceLemmas
+pub mod ShapeLemmas
+pub mod AskedLemmas
+pub mod GeometryLemmas
+pub mod RoundsLemmas
