@@ -13,7 +13,7 @@ use Rattle.bintree_laws.specs.Corners.{HasEvenBase}
 use Rattle.bintree_laws.proofs.LatticeLemmas.{HasEvenBase-corners_of, same_point}
 use Rattle.bintree_laws.proofs.CornerLemmas.{corners_of-left, corners_of-right}
 use Rattle.bintree_laws.proofs.WeightLemmas.{IsMean}
-use Rattle.tiling_laws.proofs.WayLemmas.{Way, east, north_east, north, north_west, west, south_west, south, south_east}
+use Rattle.tiling_laws.proofs.WayLemmas.{Way, east, north, west, south}
 use Rattle.tiling_laws.proofs.TurnLemmas.{IsTurned, IsAxis}
 use Rattle.tiling_laws.proofs.DescentLemmas.{IsDown, IsDown-left, IsDown-right, IsSplittable-down, finest_of}
 

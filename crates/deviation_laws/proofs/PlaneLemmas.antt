@@ -1,6 +1,7 @@
 -- Plane heights are exact, and the areas across from its corners make a held point the mean of the corners.
 use Rattle.std.proofs.Common.{◌≡◌, ℕ, ◌+◌, ◌-◌, ◌*◌, ◌/◌, ◌^◌, ◌<◌, ◌≤◌, true, ◌&&◌, List, refl, sym, ◌∙◌, ap, arith}
-use Rattle.std.proofs.Common.{inl, inr, All, length, get_or, ⊎_elim, mul-le-mul_left, pow_pos, pow-add}
+use Rattle.std.proofs.Common.{inl, inr, All, map, length, get_or, ⊎_elim, mul-le-mul_left, pow_pos, pow-add}
+use Rattle.std.specs.List.{filter}
 use Rattle.std.proofs.Math.Nat.{mul-sub, le_of_mul-le-mul_left}
 use Rattle.std.proofs.lemmas.Bool.{and_parts, cases_lt, leb-true}
 use Rattle.std.proofs.lemmas.List.{get_or_past}
@@ -10,7 +11,11 @@ use Rattle.mesh_defs.specs.declared.point.Corners.{Corners}
 use Rattle.mesh_defs.specs.HeightField.{place_of}
 use Rattle.mesh_defs.specs.Triangle.{level_of, IsAddress, corners_of, IsCorner}
 use Rattle.mesh_defs.specs.Thickness.{height_of, apart, thickness_under, thickness_of}
-use Rattle.mesh_defs.specs.BoundingBox.{point, is_left_or_on, is_in_closed, holds_point}
+use Rattle.mesh_defs.specs.BoundingBox.{point, points_of, is_left_or_on, is_in_closed, holds_point, greatest}
+use Rattle.mesh_defs.proofs.PointLemmas.{IsPointIn-points_of, le-greatest}
+use Rattle.bintree_laws.specs.Areas.{IsInRectangle}
+use Rattle.bintree_laws.specs.Corners.{IsWithin}
+use Rattle.bintree_laws.proofs.CornerLemmas.{IsWithin-corners_of}
 use Rattle.bintree_laws.proofs.LevelLemmas.{level-le}
 use Rattle.bintree_laws.proofs.LatticeLemmas.{multiple, scaled, lattice, halved, halved-half, step_of, step_of-power}
 use Rattle.bintree_laws.proofs.LatticeLemmas.{corners_of-lattice}
@@ -18,6 +23,7 @@ use Rattle.bintree_laws.proofs.MateLemmas.{cancel}
 use Rattle.tiling_laws.proofs.DescentLemmas.{IsDown-address}
 use Rattle.deviation_laws.specs.PlaneHeight.{doubled_area, area_of, weighted, plane_height, off_plane}
 use Rattle.bintree_laws.proofs.WeightLemmas.{HasArea, HasArea-corners_of, IsLeftBy, IsMean, IsMean-across}
+use Rattle.bintree_laws.proofs.WeightLemmas.{IsInRectangle-mean}
 use Rattle.deviation_laws.proofs.DescentLemmas.{mean-le}
 
 -- ---- areas
@@ -105,6 +111,27 @@ IsMean-held n a r address held =
     IsMean-across c r (area_of c) (doubled_area r c.v0 c.v1) (doubled_area r c.v1 c.apex)
     (doubled_area r c.apex c.v0) area
     (difference r c.v0 c.v1 rest.0) (difference r c.v1 c.apex rest.1) (difference r c.apex c.v0 legs.0)
+
+-- so it lies in the bounding rectangle
+pub IsInRectangle-held : (n a : ℕ) (r : Point) → IsAddress n a → holds_point n a r ≡ true →
+    IsInRectangle (corners_of n a) r
+IsInRectangle-held n a r address held =
+    IsInRectangle-mean (area_of (corners_of n a)) (corners_of n a) r _ _ _ (area_of-some n a address)
+    (IsMean-held n a r address held)
+
+-- and in the grid
+pub in_grid-held : (n a : ℕ) (r : Point) → IsAddress n a → holds_point n a r ≡ true → (r.x ≤ 2 ^ n) × (r.y ≤ 2 ^ n)
+in_grid-held n a r address held =
+    let w : IsWithin (2 ^ n) (corners_of n a) = IsWithin-corners_of n a in
+    let box = IsInRectangle-held n a r address held in
+    (let k = box.right in omega arith, let k = box.top in omega arith)
+
+-- the value at a held point is among those of the triangle
+pub held-le : (f : Point → ℕ) (n a : ℕ) (r : Point) → IsAddress n a → holds_point n a r ≡ true →
+    f r ≤ greatest (map f (filter (holds_point n a) (points_of n)))
+held-le f n a r address held =
+    let inside = in_grid-held n a r address held in
+    le-greatest f (holds_point n a) r held (points_of n) (IsPointIn-points_of n r inside.0 inside.1)
 
 -- ---- the bound
 

@@ -3,6 +3,7 @@ pub mod ForceLemmas
 pub mod GrownLemmas
 pub mod HeapLemmas
 pub mod KeptLemmas
+pub mod LimitLemmas
 pub mod LogLemmas
 pub mod PendingLemmas
 pub mod SettleLemmas

@@ -1,5 +1,6 @@
 pub mod Grown
 pub mod Kept
+pub mod Limit
 pub mod Log
 pub mod Found
 pub mod Waiting

@@ -1,12 +1,12 @@
 //! The error of a triangle, asked of the grid.
 
-ghost use Rattle.std.specs.Prelude.{◌≡◌, ◌*◌, ◌<◌, ◌≤◌, ◌↔◌, All, IsTrue, max};
+ghost use Rattle.std.specs.Prelude.{◌≡◌, ◌*◌, ◌≤◌, All, max};
 ghost use Rattle.mesh_defs.specs.Triangle.{level_of};
 ghost use Rattle.mesh_defs.specs.Priority.{worst_of};
 ghost use Rattle.fit_laws.specs.Error.{error_of};
 
 use bintree_addr::Tri;
-use mesh_measure::{exceeds, off_triangle};
+use mesh_measure::off_triangle;
 use pgm_grid::Grid;
 
 /// The error of the triangle, in units of height, times 2^n.
@@ -15,14 +15,6 @@ pub fn error(grid: &Grid, t: Tri) -> u32
     ensures { result ≡ error_of grid.now.n grid.now.heights t }
 {
     off_triangle(grid, t)
-}
-
-/// Whether it is above the tolerance.
-pub fn is_worse(grid: &Grid, t: Tri, tolerance: u32) -> bool
-    requires level { level_of t ≤ 2 * grid.now.n }
-    ensures { IsTrue result ↔ (tolerance < error_of grid.now.n grid.now.heights t) }
-{
-    exceeds(grid, t, tolerance)
 }
 
 /// The greatest error of a triangle of the list.

@@ -15,9 +15,11 @@ ghost use Rattle.fit_laws.specs.Error.{error_of};
 ghost use Rattle.fit_laws.specs.Budget.{IsBudgetMesh};
 ghost use Rattle.required_laws.specs.Required.{IsLeastMeshWith};
 ghost use Rattle.fit_mesh.specs.Found.{IsFound};
+ghost use Rattle.fit_mesh.specs.Limit.{tolerance_of, error_within, IsComplete};
 
 use crate::error::worst_error;
 use crate::grow::grow;
+use crate::limit::Limit;
 use crate::settle::settle;
 use address_flags::{end, list_leaves};
 use bintree_addr::Tri;
@@ -56,7 +58,7 @@ fn find(
     if budget < end(grid.n()) {
         grow(grid, tolerance, budget as usize, heap, flags, room);
     } else {
-        settle(grid, tolerance, &[], flags, room);
+        settle(grid, Limit::Common(tolerance), &[], flags, room);
     }
 }
 
@@ -97,21 +99,23 @@ pub fn find_mesh(
     list_mesh(grid, flags, room, numbers)
 }
 
-/// The same for a tolerance alone, with what is required to be split.
-pub fn find_mesh_with(
+/// The same within a limit, whatever triangles that takes, with what is required to be split.
+pub fn find_mesh_within(
     grid: &Grid,
-    tolerance: u32,
+    limit: Limit,
     required: &[Tri],
     flags: &mut [bool],
     room: &mut [Tri],
     numbers: &mut VertexTable,
 ) -> Counts
     requires splittable { All (λ a. IsSplittable grid.now.n a) required.now }
+    requires complete { IsComplete grid.now.n limit }
     requires flags { length flags.old ≡ 2 ^ (2 * grid.now.n + 1) }
     requires room { length room.old ≡ 2 ^ (2 * grid.now.n + 1) }
     requires numbers { length numbers.old ≡ side_of grid.now.n * side_of grid.now.n }
-    ensures least { let e = error_of grid.now.n grid.now.heights in
-        IsLeastMeshWith grid.now.n tolerance e (among required.now) (take result.triangles room.new) }
+    ensures least { let e = error_within grid.now.n grid.now.heights limit.entry in
+        IsLeastMeshWith grid.now.n (tolerance_of limit.entry) e (among required.now)
+        (take result.triangles room.new) }
     ensures order { leaves_of grid.now.n (ancestors_of (take result.triangles room.new))
         ≡ take result.triangles room.new }
     ensures deviation { result.deviation
@@ -122,7 +126,7 @@ pub fn find_mesh_with(
     ensures places { length numbers.new ≡ length numbers.old }
     ensures listed { result.triangles ≤ length room.new }
 {
-    settle(grid, tolerance, required, flags, room);
+    settle(grid, limit, required, flags, room);
     list_mesh(grid, flags, room, numbers)
 }
 

@@ -2,6 +2,7 @@
 
 ghost use Rattle.std.specs.Prelude.{◌≡◌, ◌+◌, ◌*◌, ◌^◌, ◌<◌, ◌≤◌, ◌↔◌, ◌∷◌, [], All, IsTrue, IfOk};
 ghost use Rattle.std.specs.Prelude.{length};
+ghost use Rattle.mesh_defs.specs.HeightField.{side_of};
 ghost use Rattle.mesh_defs.specs.Triangle.{IsSplittable};
 ghost use Rattle.mesh_defs.specs.Tiling.{IsConforming};
 ghost use Rattle.mesh_defs.specs.ClosedSet.{leaves_of, among};
@@ -14,8 +15,11 @@ ghost use Rattle.obj_write.specs.Numbers.{numbers_of};
 ghost use Rattle.fit_laws.specs.Error.{error_of};
 ghost use Rattle.fit_laws.specs.Budget.{IsBudgetMesh};
 ghost use Rattle.required_laws.specs.Required.{IsLeastMeshWith};
+ghost use Rattle.tolerance_laws.specs.Excess.{excess_of};
+ghost use Rattle.fit_mesh.specs.Limit.{tolerance_of, error_within, IsComplete};
 
-use crate::find::{find_mesh, find_mesh_with};
+use crate::find::{find_mesh, find_mesh_within};
+use crate::limit::Limit;
 use address_flags::{end, list_leaves};
 use bintree_addr::Tri;
 use closure_laws::base_mesh;
@@ -177,9 +181,58 @@ impl Fit {
         ensures triangles { result.triangles ≡ length self.new.leaves }
         ensures vertices { result.vertices ≡ length (vertices_of grid.now.n self.new.leaves) }
     {
-        let counts = find_mesh_with(
+        self.keep_within(grid, Limit::Common(tolerance), required)
+    }
+
+    /// The mesh of the fewest triangles within the tolerances of the grid points, in which these triangles are split,
+    /// becomes the mesh: at no point that a triangle holds is the surface farther from its plane than the point's own
+    /// tolerance. Takes no memory.
+    ///
+    /// Tolerances are by grid point, in row order as heights are, in units of height, times 2^n. One of `u32::MAX` is
+    /// met by every height, so such a point does not count: where there are no data, at sea, or outside an area. With
+    /// one tolerance for all points it is the mesh of `frame_with` (`tolerance_laws`). The deviation of the note is
+    /// over all grid points, those that do not count too.
+    /// Cost (not proved): that of `frame_with`, but a product more for each grid point of a triangle that is asked.
+    pub fn frame_within(&mut self, grid: &Grid, tolerances: &[u32], required: &[Tri]) -> FitNote
+        requires grid { grid.now.n ≡ self.old.n }
+        requires complete { length tolerances.now ≡ side_of grid.now.n * side_of grid.now.n }
+        requires splittable { All (λ a. IsSplittable grid.now.n a) required.now }
+        ensures n { self.new.n ≡ self.old.n }
+        ensures budget { self.new.budget ≡ self.old.budget }
+
+        // Conforming, no point off by more than its tolerance, and all that is required is split; each such list
+        // splits all that is split here, has at least as many triangles, and each of them lies in one of these.
+        ensures least { let e = excess_of grid.now.n grid.now.heights tolerances.now in
+            IsLeastMeshWith grid.now.n 0 e (among required.now) self.new.leaves }
+
+        // Depth first: the list is that of the leaves of what was split.
+        ensures order { leaves_of grid.now.n (ancestors_of self.new.leaves) ≡ self.new.leaves }
+        ensures deviation { result.deviation
+            ≡ deviation_of grid.now.n grid.now.heights self.new.leaves }
+        ensures triangles { result.triangles ≡ length self.new.leaves }
+        ensures vertices { result.vertices ≡ length (vertices_of grid.now.n self.new.leaves) }
+    {
+        self.keep_within(grid, Limit::Own(tolerances), required)
+    }
+
+    /// The mesh within a limit becomes the mesh.
+    fn keep_within(&mut self, grid: &Grid, limit: Limit, required: &[Tri]) -> FitNote
+        requires grid { grid.now.n ≡ self.old.n }
+        requires complete { IsComplete grid.now.n limit }
+        requires splittable { All (λ a. IsSplittable grid.now.n a) required.now }
+        ensures n { self.new.n ≡ self.old.n }
+        ensures budget { self.new.budget ≡ self.old.budget }
+        ensures least { let e = error_within grid.now.n grid.now.heights limit.entry in
+            IsLeastMeshWith grid.now.n (tolerance_of limit.entry) e (among required.now) self.new.leaves }
+        ensures order { leaves_of grid.now.n (ancestors_of self.new.leaves) ≡ self.new.leaves }
+        ensures deviation { result.deviation
+            ≡ deviation_of grid.now.n grid.now.heights self.new.leaves }
+        ensures triangles { result.triangles ≡ length self.new.leaves }
+        ensures vertices { result.vertices ≡ length (vertices_of grid.now.n self.new.leaves) }
+    {
+        let counts = find_mesh_within(
             grid,
-            tolerance,
+            limit,
             required,
             &mut self.flags,
             &mut self.room,

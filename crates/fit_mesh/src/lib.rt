@@ -14,6 +14,7 @@ mod fit;
 mod force;
 mod grow;
 mod leaves;
+mod limit;
 mod settle;
 
 pub use error::worst_error;

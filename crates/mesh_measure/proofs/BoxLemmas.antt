@@ -1,25 +1,16 @@
 -- A held point lies in the rectangle around the corners, so a loop over its rows meets all held points.
-use Rattle.std.proofs.Common.{◌≡◌, ℕ, ◌^◌, ◌≤◌, true, List, sym, subst, arith, ⊎_elim}
+use Rattle.std.proofs.Common.{◌≡◌, ℕ, ◌≤◌, true, List, sym, subst, arith, ⊎_elim}
 use Rattle.mesh_defs.specs.declared.point.Point.{Point}
 use Rattle.mesh_defs.specs.declared.point.Corners.{Corners}
 use Rattle.mesh_defs.specs.Triangle.{IsAddress, corners_of}
 use Rattle.mesh_defs.specs.BoundingBox.{points_of, is_in_closed, holds_point, greatest}
 use Rattle.bintree_laws.specs.Areas.{IsInRectangle}
-use Rattle.bintree_laws.specs.Corners.{IsWithin}
-use Rattle.bintree_laws.proofs.CornerLemmas.{IsWithin-corners_of}
-use Rattle.bintree_laws.proofs.WeightLemmas.{IsInRectangle-mean}
-use Rattle.mesh_defs.proofs.PointLemmas.{IsPointIn-points_of, greatest-le, le-greatest}
-use Rattle.deviation_laws.specs.PlaneHeight.{area_of, off_plane, offs_in}
+use Rattle.mesh_defs.proofs.PointLemmas.{greatest-le}
+use Rattle.deviation_laws.specs.PlaneHeight.{off_plane, offs_in}
 use Rattle.mesh_measure.specs.declared.shape.Bounds.{Bounds}
 use Rattle.mesh_measure.specs.Facet.{AreBounds}
 use Rattle.mesh_measure.specs.Most.{IsMost, IsInBounds}
-use Rattle.deviation_laws.proofs.PlaneLemmas.{area_of-some, IsMean-held}
-
--- a held point lies in the bounding rectangle
-IsInRectangle-held : (n a : ℕ) (r : Point) → IsAddress n a → holds_point n a r ≡ true → IsInRectangle (corners_of n a) r
-IsInRectangle-held n a r address held =
-    IsInRectangle-mean (area_of (corners_of n a)) (corners_of n a) r _ _ _ (area_of-some n a address)
-    (IsMean-held n a r address held)
+use Rattle.deviation_laws.proofs.PlaneLemmas.{IsInRectangle-held, held-le}
 
 -- a held point lies within the bounds of the corners
 pub IsInBounds-held : (n a : ℕ) (c : Corners) (bounds : Bounds) (r : Point) → IsAddress n a →
@@ -36,21 +27,6 @@ IsInBounds-held n a c bounds r address is b held =
       high = let k = box.top in let e = b.high in omega arith;
     }
 
--- and in the grid
-in_grid-held : (n a : ℕ) (r : Point) → IsAddress n a → holds_point n a r ≡ true → (r.x ≤ 2 ^ n) × (r.y ≤ 2 ^ n)
-in_grid-held n a r address held =
-    let w : IsWithin (2 ^ n) (corners_of n a) = IsWithin-corners_of n a in
-    let box = IsInRectangle-held n a r address held in
-    (let k = box.right in omega arith, let k = box.top in omega arith)
-
--- the value at a held point is among those of the triangle
-pub held-le : (n : ℕ) (heights : List ℕ) (a : ℕ) (r : Point) → IsAddress n a → holds_point n a r ≡ true →
-    off_plane n heights a r ≤ greatest (offs_in n heights a)
-held-le n heights a r address held =
-    let inside = in_grid-held n a r address held in
-    le-greatest (off_plane n heights a) (holds_point n a) r held (points_of n)
-    (IsPointIn-points_of n r inside.0 inside.1)
-
 -- so the greatest value within the bounds is that over all held points
 pub greatest-most : (n : ℕ) (heights : List ℕ) (a : ℕ) (c : Corners) (bounds : Bounds) (most : ℕ) →
     IsAddress n a → c ≡ corners_of n a →
@@ -65,6 +41,6 @@ greatest-most n heights a c bounds most address is b h =
     (λ e. omega arith)
     (λ (s : (r : Point) × IsInBounds c bounds r × (f r ≡ most)).
     subst (λ k. k ≤ greatest (offs_in n heights a)) s.2
-    (held-le n heights a s.0 address (subst (λ d. is_in_closed d s.0 ≡ true) is s.1.held)))
+    (held-le f n a s.0 address (subst (λ d. is_in_closed d s.0 ≡ true) is s.1.held)))
     h.reached in
     omega arith

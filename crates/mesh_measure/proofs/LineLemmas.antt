@@ -10,7 +10,7 @@ use Rattle.mesh_measure.specs.declared.areas.Across.{Across}
 use Rattle.mesh_measure.specs.declared.areas.Areas.{Areas}
 use Rattle.mesh_measure.specs.declared.line.Line.{Line}
 use Rattle.mesh_measure.specs.Areas.{AreSumsAcross, AreAcross}
-use Rattle.mesh_measure.specs.Line.{IsRowLineOf}
+use Rattle.mesh_measure.specs.Line.{high_on, low_on, IsRowLineOf, IsLineFrom}
 
 -- one edge: its area times a height, by both sums
 edge-part : (p q : Point) (y x height z : ℕ) (s : Across) → AreSumsAcross (point 0 y) p q s → height ≡ z →
@@ -41,6 +41,16 @@ line-weights c f y apex v0 v1 s line one two three a high low rise fall x held =
     let r = edge-part c.apex c.v0 y x v1 (f c.v1) s.v1 a.v1 three sides.0 in
     let up : x * line.rise ≡ x * (c.v0.y * apex + c.v1.y * v0 + c.apex.y * v1) = ap (λ k. x * k) rise in
     let down : x * line.fall ≡ x * (c.v1.y * apex + c.apex.y * v0 + c.v0.y * v1) = ap (λ k. x * k) fall in
+    omega arith
+
+-- the line from a column on
+pub line-shifted : (c : Corners) (f : Point → ℕ) (y x : ℕ) (line from : Line) → IsRowLineOf c f y line →
+    from.high ≡ high_on line x → from.low ≡ low_on line x → from.rise ≡ line.rise → from.fall ≡ line.fall →
+    IsLineFrom c f y x from
+line-shifted c f y x line from lined high low rise fall k inside =
+    let weights = lined (x + k) inside in
+    let rises : k * from.rise ≡ k * line.rise = ap (λ z. k * z) rise in
+    let falls : k * from.fall ≡ k * line.fall = ap (λ z. k * z) fall in
     omega arith
 
 -- a sum some columns on is small

@@ -1,6 +1,6 @@
 -- The greatest value over more and more points, and over all of a triangle.
 use Rattle.std.proofs.Common.{◌≡◌, ℕ, ◌+◌, ◌-◌, ◌*◌, ◌<◌, ◌≤◌, ◌⊎◌, ◌↔◌, inl, inr, true, max, List, length, slice_index}
-use Rattle.std.proofs.Common.{refl, sym, ◌∙◌, ap, ap₂, subst, arith, ⊎_elim}
+use Rattle.std.proofs.Common.{refl, sym, ◌∙◌, ap₂, subst, arith, ⊎_elim}
 use Rattle.std.proofs.lemmas.Bool.{cases_lt}
 use Rattle.mesh_defs.specs.declared.point.Point.{Point}
 use Rattle.mesh_defs.specs.declared.point.Corners.{Corners}
@@ -10,8 +10,10 @@ use Rattle.mesh_measure.specs.declared.columns.Columns.{Columns}
 use Rattle.mesh_measure.specs.declared.line.Line.{Line}
 use Rattle.mesh_measure.specs.declared.shape.Bounds.{Bounds}
 use Rattle.mesh_measure.specs.Columns.{IsColumn, IsGreatestAlong}
-use Rattle.mesh_measure.specs.Line.{high_on, low_on, IsRowLineOf, gap_on}
-use Rattle.mesh_measure.specs.Most.{gap_of, IsMost, IsMostUntil, IsInRow, IsInBounds, IsInRows}
+use Rattle.mesh_measure.specs.Line.{IsLineFrom, gap_on, excess_on}
+use Rattle.mesh_measure.specs.declared.shape.HeldRow.{HeldRow}
+use Rattle.mesh_measure.specs.Row.{IsHeldRow}
+use Rattle.mesh_measure.specs.Most.{gap_of, gap_beyond, IsMost, IsMostUntil, IsInRow, IsInBounds, IsInRows}
 use Rattle.bintree_laws.proofs.LatticeLemmas.{same_point}
 
 -- ---- more points
@@ -40,66 +42,86 @@ IsMost-both P R Q f i j part left right h k = record {
 
 -- ---- rows
 
--- in a row: the columns that the triangle holds, and the line of its plane along them
-pub IsMost-row : (c : Corners) (f : Point →
-    ℕ) (y left right area : ℕ) (columns : Columns) (line from : Line) (heights : List ℕ) (most : ℕ) →
-    area ≡ area_of c → IsRowLineOf c f y line → columns.from ≤ columns.end →
+-- values along the columns of a row that the triangle holds
+pub IsMost-along : (c : Corners) (f : Point → ℕ) (y left right count : ℕ) (columns : Columns) (g : ℕ → ℕ) (most : ℕ) →
+    columns.from ≤ columns.end → count ≡ columns.end - columns.from →
     ((x : ℕ) → IsColumn columns x ↔ (((left ≤ x) × (x < right + 1)) × (is_in_closed c (point x y) ≡ true))) →
-    from.high ≡ high_on line columns.from → from.low ≡ low_on line columns.from →
-    from.rise ≡ line.rise → from.fall ≡ line.fall →
-    length heights ≡ columns.end - columns.from →
-    ((k : ℕ) → k < length heights → slice_index heights k ≡ f (point (columns.from + k) y)) →
-    IsGreatestAlong (length heights) (gap_on area from heights) most →
-    IsMost (IsInRow c y left (right + 1)) (gap_of c f) most
-IsMost-row c f y left right area columns line from heights most size lined ordered held high low
-    rise fall count there g =
-    record {
-      bound = λ r p.
-          let same : r ≡ point r.x y = same_point r.x r.y r.x y refl p.row in
-          let inside : is_in_closed c (point r.x y) ≡ true = subst (λ q. is_in_closed c q ≡ true) same p.held in
-          let column = (held r.x).1 ((p.from, p.before), inside) in
-          let k : ℕ = r.x - columns.from in
-          let at : columns.from + k ≡ r.x = omega arith in
-          let below : k < length heights = omega arith in
-          let most_at : gap_on area from heights k ≤ most = g.bound k below in
-          let value : gap_of c f (point r.x y) ≡ gap_on area from heights k = gap-on r.x k at below inside in
-          subst (λ q. gap_of c f q ≤ most) (sym same) (omega arith);
-      reached = ⊎_elim
-          (λ none. inl none)
-          (λ (s : (k : ℕ) × (k < length heights) × (gap_on area from heights k ≡ most)).
-          let x : ℕ = columns.from + s.0 in
-          let below : s.0 < length heights = s.1 in
-          let column = (held x).0 (omega arith, omega arith) in
-          inr (
-            point x y,
-            record { held = column.1; row = refl; from = column.0.0; before = column.0.1 },
-            gap-on x s.0 refl below column.1 ∙ s.2,
-          ))
-          g.reached;
-    }
-  where
-    gap-on : (x k : ℕ) → columns.from + k ≡ x → k < length heights → is_in_closed c (point x y) ≡ true →
-        gap_of c f (point x y) ≡ gap_on area from heights k
-    gap-on x k at below inside =
-        let height : slice_index heights k ≡ f (point x y) = there k below ∙ ap (λ z. f (point z y)) at in
-        let weights = lined x inside in
-        let up : x * line.rise ≡ (columns.from + k) * line.rise = ap (λ z. z * line.rise) (sym at) in
-        let down : x * line.fall ≡ (columns.from + k) * line.fall = ap (λ z. z * line.fall) (sym at) in
-        let rises : k * from.rise ≡ k * line.rise = ap (λ z. k * z) rise in
-        let falls : k * from.fall ≡ k * line.fall = ap (λ z. k * z) fall in
-        let surface : area * slice_index heights k ≡ area_of c * f (point x y) = ap₂ (λ i j. i * j) size height in
-        omega arith
+    ((k : ℕ) → k < count → is_in_closed c (point (columns.from + k) y) ≡ true → f (point (columns.from + k) y) ≡ g k) →
+    IsGreatestAlong count g most → IsMost (IsInRow c y left (right + 1)) f most
+IsMost-along c f y left right count columns g most ordered size held same_at greatest = record {
+  bound = λ r p.
+      let same : r ≡ point r.x y = same_point r.x r.y r.x y refl p.row in
+      let inside : is_in_closed c (point r.x y) ≡ true = subst (λ q. is_in_closed c q ≡ true) same p.held in
+      let column = (held r.x).1 ((p.from, p.before), inside) in
+      let k : ℕ = r.x - columns.from in
+      let at : columns.from + k ≡ r.x = omega arith in
+      let below : k < count = omega arith in
+      let most_at : g k ≤ most = greatest.bound k below in
+      let value : f (point (columns.from + k) y) ≡ g k =
+      same_at k below (subst (λ z. is_in_closed c (point z y) ≡ true) (sym at) inside) in
+      let here : f (point r.x y) ≡ g k = subst (λ z. f (point z y) ≡ g k) at value in
+      subst (λ q. f q ≤ most) (sym same) (omega arith);
+  reached = ⊎_elim
+      (λ none. inl none)
+      (λ (s : (k : ℕ) × (k < count) × (g k ≡ most)).
+      let x : ℕ = columns.from + s.0 in
+      let below : s.0 < count = s.1 in
+      let column = (held x).0 (omega arith, omega arith) in
+      inr (
+        point x y,
+        record { held = column.1; row = refl; from = column.0.0; before = column.0.1 },
+        same_at s.0 below column.1 ∙ s.2,
+      ))
+      greatest.reached;
+}
 
--- none where there is no column
-pub IsMost-row_none : (c : Corners) (f : Point → ℕ) (y left right : ℕ) (columns : Columns) →
-    columns.end ≤ columns.from →
-    ((x : ℕ) → IsColumn columns x ↔ (((left ≤ x) × (x < right + 1)) × (is_in_closed c (point x y) ≡ true))) →
-    IsMost (IsInRow c y left (right + 1)) (gap_of c f) 0
-IsMost-row_none c f y left right columns empty held =
-    IsMost-none (IsInRow c y left (right + 1)) (gap_of c f) (λ r p.
-    let same : r ≡ point r.x y = same_point r.x r.y r.x y refl p.row in
-    let column = (held r.x).1 ((p.from, p.before), subst (λ q. is_in_closed c q ≡ true) same p.held) in
-    omega arith)
+-- the gap at a held point, by the line
+pub gap-along : (c : Corners) (f : Point → ℕ) (y from area k : ℕ) (line : Line) (heights : List ℕ) →
+    area ≡ area_of c → IsLineFrom c f y from line → slice_index heights k ≡ f (point (from + k) y) →
+    is_in_closed c (point (from + k) y) ≡ true →
+    gap_of c f (point (from + k) y) ≡ gap_on area line heights k
+gap-along c f y from area k line heights size lined height inside =
+    let weights = lined k inside in
+    let surface : area * slice_index heights k ≡ area_of c * f (point (from + k) y) =
+    ap₂ (λ i j. i * j) size height in
+    omega arith
+
+-- so along a row the greatest gap
+pub IsMost-gaps : (c : Corners) (f : Point → ℕ) (y left right area : ℕ) (row : HeldRow) (heights : List ℕ) (most : ℕ) →
+    area ≡ area_of c → IsHeldRow c f y left right row → length heights ≡ row.columns.end - row.columns.from →
+    ((k : ℕ) → k < length heights → slice_index heights k ≡ f (point (row.columns.from + k) y)) →
+    IsGreatestAlong (length heights) (gap_on area row.line heights) most →
+    IsMost (IsInRow c y left (right + 1)) (gap_of c f) most
+IsMost-gaps c f y left right area row heights most size h count there greatest =
+    let ordered = h.ordered in
+    IsMost-along c (gap_of c f) y left right (length heights) row.columns (gap_on area row.line heights) most
+    (omega arith) count h.held
+    (λ k below inside. gap-along c f y row.columns.from area k row.line heights size h.lined (there k below) inside)
+    greatest
+
+-- and the greatest beyond the points' own tolerances
+pub IsMost-excesses : (c : Corners) (f t : Point → ℕ) (y left right area m side : ℕ) (row : HeldRow)
+    (heights tolerances : List ℕ) (most : ℕ) →
+    area ≡ area_of c → side ≡ m → IsHeldRow c f y left right row →
+    length heights ≡ row.columns.end - row.columns.from → length tolerances ≡ length heights →
+    ((k : ℕ) → k < length heights → slice_index heights k ≡ f (point (row.columns.from + k) y)) →
+    ((k : ℕ) → k < length tolerances → slice_index tolerances k ≡ t (point (row.columns.from + k) y)) →
+    IsGreatestAlong (length heights) (excess_on area side row.line heights tolerances) most →
+    IsMost (IsInRow c y left (right + 1)) (gap_beyond m c f t) most
+IsMost-excesses c f t y left right area m side row heights tolerances most size same h count as_many there allowed
+    greatest =
+    let ordered = h.ordered in
+    IsMost-along c (gap_beyond m c f t) y left right (length heights) row.columns
+    (excess_on area side row.line heights tolerances) most (omega arith) count h.held
+    (λ k below inside.
+    let p : Point = point (row.columns.from + k) y in
+    let gap : gap_of c f p ≡ gap_on area row.line heights k =
+    gap-along c f y row.columns.from area k row.line heights size h.lined (there k below) inside in
+    let scaled : m * gap_of c f p ≡ side * gap_on area row.line heights k = ap₂ (λ i j. i * j) (sym same) gap in
+    let tolerance : area_of c * t p ≡ area * slice_index tolerances k =
+    ap₂ (λ i j. i * j) (sym size) (sym (allowed k (omega arith))) in
+    ap₂ (λ i j. i - j) scaled tolerance)
+    greatest
 
 -- the columns that a triangle holds lie within those that were given
 pub columns-within : (c : Corners) (y left right : ℕ) (columns : Columns) → columns.from < columns.end →

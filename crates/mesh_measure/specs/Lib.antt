@@ -4,3 +4,4 @@ pub mod Columns
 pub mod Facet
 pub mod Line
 pub mod Most
+pub mod Row

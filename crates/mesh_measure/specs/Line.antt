@@ -1,6 +1,6 @@
 -- The plane of a triangle along a row.
--- Words: high_on, low_on, AreHeights, IsRowLineOf, gap_on.
-use Rattle.std.specs.Prelude.{◌≡◌, ℕ, ◌+◌, ◌*◌, List, slice_index, true}
+-- Words: high_on, low_on, AreHeights, IsRowLineOf, IsLineFrom, gap_on, excess_on.
+use Rattle.std.specs.Prelude.{◌≡◌, ℕ, ◌+◌, ◌-◌, ◌*◌, List, slice_index, true}
 use Rattle.mesh_defs.specs.declared.point.Point.{Point}
 use Rattle.mesh_defs.specs.declared.point.Corners.{Corners}
 use Rattle.mesh_defs.specs.Thickness.{apart}
@@ -27,6 +27,17 @@ abbrev pub IsRowLineOf : Corners → (Point → ℕ) → ℕ → Line → Type 0
 IsRowLineOf c f y line =
     (x : ℕ) → is_in_closed c (point x y) ≡ true → weighted c f (point x y) + low_on line x ≡ high_on line x
 
+-- the same, counted from a column on
+abbrev pub IsLineFrom : Corners → (Point → ℕ) → ℕ → ℕ → Line → Type 0
+IsLineFrom c f y from line =
+    (k : ℕ) → is_in_closed c (point (from + k) y) ≡ true →
+    weighted c f (point (from + k) y) + low_on line k ≡ high_on line k
+
 -- how far area times a height and the line are apart, so many columns on
 abbrev pub gap_on : ℕ → Line → List ℕ → ℕ → ℕ
 gap_on area line heights k = apart (area * slice_index heights k + low_on line k) (high_on line k)
+
+-- that, times the side, less area times a tolerance
+abbrev pub excess_on : ℕ → ℕ → Line → List ℕ → List ℕ → ℕ → ℕ
+excess_on area side line heights tolerances k =
+    side * gap_on area line heights k - area * slice_index tolerances k

@@ -1,6 +1,6 @@
 -- The greatest value over points, as a loop finds it.
--- Words: gap_of, IsMost, IsMostReached, IsMostUntil, IsInRow, IsInBounds, IsInRows.
-use Rattle.std.specs.Prelude.{◌≡◌, ℕ, ◌*◌, ◌<◌, ◌≤◌, ◌⊎◌, true}
+-- Words: gap_of, gap_beyond, IsMost, IsMostReached, IsMostUntil, IsInRow, IsInBounds, IsInRows.
+use Rattle.std.specs.Prelude.{◌≡◌, ℕ, ◌-◌, ◌*◌, ◌<◌, ◌≤◌, ◌⊎◌, true}
 use Rattle.mesh_defs.specs.declared.point.Point.{Point}
 use Rattle.mesh_defs.specs.declared.point.Corners.{Corners}
 use Rattle.mesh_defs.specs.Thickness.{apart}
@@ -11,6 +11,10 @@ use Rattle.deviation_laws.specs.PlaneHeight.{area_of, weighted}
 -- how far f at r is from the plane through its values at the corners, times twice the area
 abbrev pub gap_of : Corners → (Point → ℕ) → Point → ℕ
 gap_of c f r = apart (area_of c * f r) (weighted c f r)
+
+-- that, times m, less twice the area times the point's tolerance
+abbrev pub gap_beyond : ℕ → Corners → (Point → ℕ) → (Point → ℕ) → Point → ℕ
+gap_beyond m c f tolerance r = m * gap_of c f r - area_of c * tolerance r
 
 -- most is the greatest value of f over the points with P, or 0 where there are none
 pub record IsMost (P : Point → Type 0) (f : Point → ℕ) (most : ℕ) : Type 0 where

@@ -12,10 +12,12 @@ mod columns;
 mod facet;
 mod line;
 mod mesh;
+mod own;
 mod points;
 mod shape;
 
 pub use at_point::{off_point, point_above};
 pub use facet::plane_height;
 pub use mesh::{deviation, thickest};
+pub use own::exceeds_own;
 pub use points::{exceeds, off_triangle};

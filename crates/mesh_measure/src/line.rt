@@ -7,7 +7,7 @@ ghost use Rattle.mesh_defs.specs.BoundingBox.{point};
 ghost use Rattle.bintree_laws.specs.Corners.{IsWithin};
 ghost use Rattle.mesh_measure.specs.Areas.{AreAcross, AreSmall};
 ghost use Rattle.mesh_measure.specs.Columns.{IsGreatestAlong};
-ghost use Rattle.mesh_measure.specs.Line.{high_on, low_on, AreHeights, IsRowLineOf, gap_on};
+ghost use Rattle.mesh_measure.specs.Line.{high_on, low_on, AreHeights, IsRowLineOf, gap_on, excess_on};
 
 use crate::areas::Areas;
 use crate::shape::Facet;
@@ -83,6 +83,36 @@ pub(crate) fn greatest_gap(heights: &[u16], area: u64, line: Line) -> u64
     let mut most = 0;
     for h in heights {
         most = greater(most, (area * u64::from(*h) + low).abs_diff(high));
+        high += line.rise;
+        low += line.fall;
+    }
+    most
+}
+
+/// How far the heights are from the line at most, a column each, beyond their own tolerances: the side times the gap,
+/// less twice the area times the tolerance.
+pub(crate) fn greatest_excess(
+    heights: &[u16],
+    tolerances: &[u32],
+    area: u64,
+    side: u64,
+    line: Line,
+) -> u64
+    requires count { length tolerances.now ≡ length heights.now }
+    requires area { area ≤ 12582912 }
+    requires side { side ≤ 2048 }
+    requires high { high_on line (length heights.now) ≤ 4398046511104 }
+    requires low { low_on line (length heights.now) ≤ 4398046511104 }
+    ensures { IsGreatestAlong (length heights.now)
+        (excess_on area side line heights.now tolerances.now) result }
+{
+    let mut high = line.high;
+    let mut low = line.low;
+    let mut most = 0;
+    for (place, h) in heights.iter().enumerate() {
+        let gap = (area * u64::from(*h) + low).abs_diff(high);
+        let allowed = area * u64::from(tolerances[place]);
+        most = greater(most, (side * gap).saturating_sub(allowed));
         high += line.rise;
         low += line.fall;
     }

@@ -1,6 +1,8 @@
 //! How far the surface is from a triangle's plane, over all grid points of the triangle.
 
-ghost use Rattle.std.specs.Prelude.{◌≡◌, ◌+◌, ◌-◌, ◌*◌, ◌^◌, ◌<◌, ◌≤◌, ◌⊎◌, ◌↔◌, ℕ, IsTrue, length, slice_index};
+ghost use Rattle.std.specs.Prelude.{◌≡◌, ◌+◌, ◌-◌, ◌*◌, ◌^◌, ◌<◌, ◌≤◌, ◌⊎◌, ◌↔◌, ℕ, IsTrue, IfSome, IfNone, true};
+ghost use Rattle.std.specs.Prelude.{length, slice_index};
+ghost use Rattle.mesh_defs.specs.declared.point.Point.{Point};
 ghost use Rattle.mesh_defs.specs.Triangle.{level_of};
 ghost use Rattle.mesh_defs.specs.HeightField.{height_at};
 ghost use Rattle.mesh_defs.specs.Thickness.{height_of};
@@ -10,12 +12,13 @@ ghost use Rattle.bintree_laws.specs.Corners.{IsWithin};
 ghost use Rattle.mesh_measure.specs.Areas.{AreAcross, AreSmall};
 ghost use Rattle.mesh_measure.specs.Facet.{IsFacet};
 ghost use Rattle.mesh_measure.specs.Most.{gap_of, IsMost, IsMostUntil, IsInRow, IsInBounds, IsMostReached};
+ghost use Rattle.mesh_measure.specs.Row.{IsHeldRow};
 
 use crate::areas::Areas;
 use crate::columns::Columns;
 use crate::facet::{bounds_of, facet_of, side, weighted};
 use crate::line::{greater, greatest_gap, line_from, line_of};
-use crate::shape::{Bounds, Facet};
+use crate::shape::{Bounds, Facet, HeldRow};
 use bintree_addr::{Point, Tri};
 use pgm_grid::Grid;
 
@@ -52,7 +55,7 @@ fn middle_gap(grid: &Grid, facet: Facet) -> u64
 }
 
 /// The heights of these columns of a row.
-fn row_of(grid: &Grid, y: u32, columns: Columns) -> &[u16]
+pub(crate) fn row_of(grid: &Grid, y: u32, columns: Columns) -> &[u16]
     requires y_in_grid { y ≤ 2 ^ grid.now.n }
     requires ordered { columns.from ≤ columns.end }
     requires end_in_grid { columns.end ≤ 2 ^ grid.now.n + 1 }
@@ -65,6 +68,29 @@ fn row_of(grid: &Grid, y: u32, columns: Columns) -> &[u16]
     &grid.heights()[start + columns.from as usize..start + columns.end as usize]
 }
 
+/// What the triangle holds of a row, from column `left` to column `right`; none where that is nothing.
+pub(crate) fn held_row(grid: &Grid, facet: Facet, y: u32, left: u32, right: u32) -> Option<HeldRow>
+    requires y_in_grid { y ≤ 2 ^ grid.now.n }
+    requires right_in_grid { right ≤ 2 ^ grid.now.n }
+    requires facet { IsFacet grid.now.n grid.now.heights facet }
+    ensures none { IfNone result ((r : Point) → IsInRow facet.corners y left (right + 1) r → ⊥) }
+    ensures some { IfSome result
+        (IsHeldRow facet.corners (height_of grid.now.n grid.now.heights) y left right) }
+{
+    let _level = grid.n();
+    let areas = Areas::of(facet.corners, Point { x: 0, y });
+    let all = Columns {
+        from: left,
+        end: right + 1,
+    };
+    let columns = areas.held(facet.corners, all);
+    if columns.end <= columns.from {
+        return None;
+    }
+    let line = line_from(line_of(facet, areas), columns.from);
+    Some(HeldRow { columns, line })
+}
+
 /// The greatest gap in a row, from column `left` to column `right`.
 fn row_gap(grid: &Grid, facet: Facet, y: u32, left: u32, right: u32) -> u64
     requires y_in_grid { y ≤ 2 ^ grid.now.n }
@@ -74,17 +100,10 @@ fn row_gap(grid: &Grid, facet: Facet, y: u32, left: u32, right: u32) -> u64
         (gap_of facet.corners (height_of grid.now.n grid.now.heights)) result }
     ensures small { result ≤ 8796093022208 }
 {
-    let areas = Areas::of(facet.corners, Point { x: 0, y });
-    let all = Columns {
-        from: left,
-        end: right + 1,
-    };
-    let columns = areas.held(facet.corners, all);
-    if columns.end <= columns.from {
-        return 0;
+    match held_row(grid, facet, y, left, right) {
+        None => 0,
+        Some(row) => greatest_gap(row_of(grid, y, row.columns), facet.area, row.line),
     }
-    let line = line_from(line_of(facet, areas), columns.from);
-    greatest_gap(row_of(grid, y, columns), facet.area, line)
 }
 
 /// The greatest gap of the triangle, or the first one found that is above the limit.

@@ -1,5 +1,7 @@
-//! A triangle as it lies in space, and the rectangle around it.
+//! A triangle as it lies in space, the rectangle around it, and what it holds of a row.
 
+use crate::columns::Columns;
+use crate::line::Line;
 use bintree_addr::Corners;
 
 /// The corners of a triangle, the heights there, and twice its area.
@@ -19,4 +21,11 @@ pub(crate) struct Bounds {
     pub(crate) right: u32,
     pub(crate) low: u32,
     pub(crate) high: u32,
+}
+
+/// The columns of a row that a triangle holds, and its plane along them, from the first of them on.
+#[derive(Clone, Copy)]
+pub(crate) struct HeldRow {
+    pub(crate) columns: Columns,
+    pub(crate) line: Line,
 }

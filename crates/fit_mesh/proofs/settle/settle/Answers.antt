@@ -6,7 +6,7 @@ use Rattle.std.proofs.lemmas.List.{length-take-le, get_or-take, take_all}
 use Rattle.tiling_laws.proofs.DescentLemmas.{IsAddress-down, IsDown-2, IsDown-3}
 use Rattle.mesh_defs.specs.ClosedSet.{IsClosed, among}
 use Rattle.least_laws.specs.Sweep.{is_flagged}
-use Rattle.fit_laws.specs.Error.{error_of}
+use Rattle.fit_mesh.specs.Limit.{tolerance_of, error_within}
 use Rattle.fit_mesh.specs.Grown.{AreSettled}
 use Rattle.fit_mesh.proofs.LogLemmas.{extends-subset}
 use Rattle.fit_mesh.proofs.PendingLemmas.{listed-member}
@@ -33,7 +33,7 @@ ask-count-requires-clause-address c = let n : ℕ = c.args.grid.now.n in IsAddre
 pub loop-next-init : goal.loop-next-init
 loop-next-init c =
     let n : ℕ = c.args.grid.now.n in
-    let e : ℕ → ℕ = error_of n c.args.grid.now.heights in
+    let e : ℕ → ℕ = error_within n c.args.grid.now.heights c.args.limit in
     let forced = c.force_all-forced in
     record {
       flags = c.ask-count.ensures.flags ∙ c.ask-lower.ensures.flags ∙ forced.ensures.flags;
@@ -52,11 +52,11 @@ loop-next-init c =
           let same : a ≡ 2 = (let low = address.low in omega arith) in
           subst (λ z. is_flagged c.ask-count.new.flags z ≡ true) (sym same)
           (c.ask-count.ensures.more 2 (c.ask-lower.ensures.settled
-          (subst (λ z. c.args.tolerance < e z) same above))))
+          (subst (λ z. (tolerance_of c.args.limit) < e z) same above))))
           (λ second.
           let same : a ≡ 3 = omega arith in
           subst (λ z. is_flagged c.ask-count.new.flags z ≡ true) (sym same)
-          (c.ask-count.ensures.settled (subst (λ z. c.args.tolerance < e z) same above)))
+          (c.ask-count.ensures.settled (subst (λ z. (tolerance_of c.args.limit) < e z) same above)))
           (cases_lt a 3))
           (λ big. absurd (false≢true (parent big)))
           (cases_lt a 4);
@@ -99,7 +99,7 @@ loop-next-preserved c =
       splits = λ a is. extends-subset c.loop-next.flags c.ask_pair-count.new.flags log next i.grown.logged
           c.ask_pair-count.ensures.grown.logged c.ask_pair-count.ensures.kept a (i.splits a is);
       needed = c.ask_pair-count.ensures.needed (among c.args.required.now) i.needed;
-      asked = asked-next n (error_of n c.args.grid.now.heights) c.args.tolerance c.loop-next.flags
+      asked = asked-next n (error_within n c.args.grid.now.heights c.args.limit) (tolerance_of c.args.limit) c.loop-next.flags
           c.ask_pair-count.new.flags log next c.loop-next.next
           c.index-room-next.result i.grown.logged c.ask_pair-count.ensures.grown.logged c.ask_pair-count.ensures.kept
           (omega arith) at i.asked
@@ -114,7 +114,7 @@ returns-clause-fit c =
     let size = length-take-le c.loop-next.count c.loop-next.room i.count in
     let done = c.loop-next-test.false in
     let all : take c.loop-next.next log ≡ log = take_all c.loop-next.next log (omega arith) in
-    settled-end n (error_of n c.args.grid.now.heights) c.args.tolerance (among c.args.required.now) c.loop-next.flags
+    settled-end n (error_within n c.args.grid.now.heights c.args.limit) (tolerance_of c.args.limit) (among c.args.required.now) c.loop-next.flags
     log i.grown i.splits i.needed
-    (subst (λ (l : List ℕ). AreSettled n (error_of n c.args.grid.now.heights) c.args.tolerance
+    (subst (λ (l : List ℕ). AreSettled n (error_within n c.args.grid.now.heights c.args.limit) (tolerance_of c.args.limit)
     (is_flagged c.loop-next.flags) l) all i.asked)

@@ -3,12 +3,12 @@ use Rattle.std.proofs.Common.{◌≡◌, ap, sym, ◌∙◌, length, arith}
 use Rattle.std.proofs.lemmas.List.{with_items_is}
 use Rattle.fit_mesh.specs.Kept.{FitMesh}
 use Rattle.fit_mesh.proofs.KeptLemmas.{kept-next}
-use Rattle.fit_mesh.proofs.fit.Fit.frame_with.Goals as goal
+use Rattle.fit_mesh.proofs.fit.Fit.keep_within.Goals as goal
 
 pub invariant_of-self : goal.invariant_of-self
 invariant_of-self c =
     let n = c.self.inside.n in
-    let found = c.find_mesh_with-counts in
+    let found = c.find_mesh_within-counts in
     let grid : n ≡ c.args.grid.now.n = ap (λ (z : FitMesh). z.n) c.self.view_is ∙ sym c.requires.grid in
     let flags = with_items_is c.self.inside.flags found.new.flags (found.auto.flags ∙ c.deref_mut.ensures.len) in
     let room = with_items_is c.self.inside.room found.new.room (found.auto.room ∙ c.deref_mut-2.ensures.len) in

@@ -1,0 +1,31 @@
+//! By how much a mesh may be off, and whether a triangle is off by more.
+
+ghost use Rattle.std.specs.Prelude.{◌≡◌, ◌*◌, ◌<◌, ◌≤◌, ◌↔◌, IsTrue};
+ghost use Rattle.mesh_defs.specs.Triangle.{level_of};
+ghost use Rattle.fit_mesh.specs.Limit.{tolerance_of, error_within, IsComplete};
+
+use bintree_addr::Tri;
+use mesh_measure::{exceeds, exceeds_own};
+use pgm_grid::Grid;
+
+/// By how much a mesh may be off at a grid point, in units of height, times 2^n.
+#[derive(Clone, Copy)]
+pub(crate) enum Limit<'a> {
+    /// At each by so much.
+    Common(u32),
+    /// At each by its own tolerance, in row order.
+    Own(&'a [u32]),
+}
+
+/// Whether the triangle is off by more.
+pub(crate) fn is_over(grid: &Grid, t: Tri, limit: Limit) -> bool
+    requires level { level_of t ≤ 2 * grid.now.n }
+    requires complete { IsComplete grid.now.n limit }
+    ensures { IsTrue result
+        ↔ (tolerance_of limit.entry < error_within grid.now.n grid.now.heights limit.entry t) }
+{
+    match limit {
+        Limit::Common(tolerance) => exceeds(grid, t, tolerance),
+        Limit::Own(tolerances) => exceeds_own(grid, t, tolerances),
+    }
+}
