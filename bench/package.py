@@ -71,7 +71,7 @@ from calfrewin import _library as c
 engine = calfrewin.Engine([[0] * 3] * 3, 2)
 handle, note = ctypes.byref(engine._handle), c.FrameNote()
 def least(call): return min(timeit.repeat(call, number=100_000, repeat=5)) * 10
-checked, bare = least(lambda: engine.camera(1, 2, 3)), least(lambda: c.library.roam_camera(handle, 1, 2, 3))
+checked, bare = least(lambda: engine.camera(1, 2, 3)), least(lambda: c.calls["camera"](handle, 1, 2, 3))
 print(f"`Engine.camera` {checked:.2f} us, of which ctypes {bare:.2f} us")
 """
     return subprocess.run([sys.executable, "-c", text], env=os.environ | PACKAGE, stdout=subprocess.PIPE, text=True, check=True).stdout

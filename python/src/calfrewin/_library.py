@@ -6,8 +6,9 @@ import os
 import pathlib
 import platform
 from ctypes import POINTER, c_char_p, c_int32, c_int64, c_size_t, c_uint16, c_uint32, c_uint64, c_void_p
+from typing import Any
 
-__all__ = ["ChangesNote", "DeviationNote", "FitNote", "FrameNote", "Handle", "Plane", "StateNote", "library", "path"]
+__all__ = ["ChangesNote", "DeviationNote", "FitNote", "FrameNote", "Handle", "Plane", "StateNote", "calls", "path"]
 
 
 class Handle(ctypes.Structure):
@@ -97,19 +98,22 @@ def _found() -> str:
     return next((str(place) for place in PLACES if place.exists()), "libroam.so.1")
 
 
-def _load(found: str) -> ctypes.CDLL:
+def _load(found: str) -> dict[str, Any]:
+    """The calls by their names, without roam_."""
     _wants_v2()
     try:
         loaded = ctypes.CDLL(found)
     except OSError as why:
         raise ImportError(f"{why}: build the library with lib/build, or name it in CALFREWIN_LIBRARY") from None
+    calls = {}
     for name, types in CALLS.items():
         call = getattr(loaded, "roam_" + name, None)
         if call is None:
             raise ImportError(f"{found} has no roam_{name}: it is older than this package; lib/build makes it anew")
         call.argtypes, call.restype = types, None if name == "changes" else c_int32
-    return loaded
+        calls[name] = call
+    return calls
 
 
 path = _found()
-library = _load(path)
+calls = _load(path)

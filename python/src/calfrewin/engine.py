@@ -78,6 +78,8 @@ def whole(name: str, value: Any, low: int, high: int) -> int:
     Traceback (most recent call last):
     ValueError: budget is 1, and has to be from 2 to 1048576
     """
+    if type(value) is int and low <= value <= high:
+        return value  # what most calls are, before anything slower
     try:
         number = operator.index(value)
     except TypeError:
@@ -89,7 +91,7 @@ def whole(name: str, value: Any, low: int, high: int) -> int:
 
 def _coordinate(name: str, value: Union[Whole, SupportsFloat]) -> int:
     """A coordinate of a place: floats are rounded to the nearest whole unit."""
-    if isinstance(value, (float, np.floating)) and math.isfinite(value):
+    if isinstance(value, (float, np.floating)) and math.isfinite(value):  # float64 is a float, too
         value = round(float(value))
     return whole(name, value, -MOST_COORDINATE, MOST_COORDINATE)
 
@@ -142,6 +144,7 @@ class Engine:
 
     def __init__(self, heights: npt.ArrayLike, budget: Whole, spacing: Whole = 1) -> None:
         self._handle, self._lock = c.Handle(), threading.Lock()
+        self._reference = byref(self._handle)
         most = whole("budget", budget, 2, MOST_TRIANGLES)
         step = whole("spacing", spacing, 1, MOST_SPACING)
         grid = _whole_heights(heights)
@@ -154,7 +157,7 @@ class Engine:
         if not self._lock.acquire(blocking=False):
             raise RuntimeError("another thread is using this engine: give each its own, or share a lock")
         try:
-            answer = getattr(c.library, "roam_" + name)(byref(self._handle), *words)
+            answer = c.calls[name](self._reference, *words)
         finally:
             self._lock.release()
         if answer == 0:
@@ -178,7 +181,7 @@ class Engine:
         if not self._lock.acquire(blocking=False):
             raise RuntimeError("another thread is using this engine, so it cannot be closed")
         try:
-            c.library.roam_close(byref(self._handle))
+            c.calls["close"](self._reference)
         finally:
             self._lock.release()
 
@@ -190,7 +193,7 @@ class Engine:
         self.close()
 
     # What it calls is bound here: as the interpreter ends, the names of modules go.
-    def __del__(self, close: Any = c.library.roam_close, reference: Any = byref) -> None:
+    def __del__(self, close: Any = c.calls["close"], reference: Any = byref) -> None:
         if hasattr(self, "_handle"):  # not where the arguments were too few
             close(reference(self._handle))
 
@@ -209,7 +212,7 @@ class Engine:
         Traceback (most recent call last):
         ValueError: y is 2147483648, and has to be from -1073741824 to 1073741824
         """
-        self._call("camera", *(_coordinate(name, value) for name, value in zip("xyz", (x, y, z))))
+        self._call("camera", _coordinate("x", x), _coordinate("y", y), _coordinate("z", z))
 
     def add_plane(self, a: Whole, b: Whole, c: Whole, d: Whole) -> None:
         """Adds a view plane, whose inside is where a x + b y + c z + d >= 0, six at most. What is outside has priority 0.
@@ -444,5 +447,5 @@ def changes(before: Numbers, after: Numbers) -> Changes:
     gone, come = (np.empty(max(1, found.size), np.uint32) for found in (before, after))
     note = c.ChangesNote()
     lists = [word for found in (before, after, gone, come) for word in (found.ctypes.data, found.size)]
-    c.library.roam_changes(*lists, byref(note))
+    c.calls["changes"](*lists, byref(note))
     return Changes(gone[:note.gone], come[:note.come])
