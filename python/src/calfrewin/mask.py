@@ -70,14 +70,17 @@ def moved(polygons: Any, crs: Optional[str], to: Optional[str]) -> Any:
 def clip_to(polygons: Any, transform: Transform, shape: tuple[int, int]) -> Clip:
     """What cuts a mesh over an array along polygons that are in its coordinates."""
     from shapely.affinity import affine_transform
-    from shapely.geometry import box
+    from shapely.geometry import MultiPolygon, box
     a, b, c, d, e, f = transform
     inverse = np.linalg.inv(np.array([[a, b], [d, e]]))
     shift = -inverse @ (c, f)
     places = affine_transform(polygons, [*inverse.reshape(-1), *shift])
     within = places.intersection(box(0, 0, shape[1] - 1, shape[0] - 1))
-    if within.is_empty or within.area == 0:
+    # Where a polygon only touches the array, an intersection has lines and points, too.
+    parts = [part for part in getattr(within, "geoms", [within]) if part.geom_type == "Polygon" and part.area > 0]
+    if not parts:
         raise ValueError("mask: no polygon lies over the heights that were read")
+    within = MultiPolygon(parts)
     return lambda mesh: _clipped(mesh, within, shape)
 
 
@@ -97,9 +100,7 @@ def _clipped(mesh: GridMesh, polygons: Any, shape: tuple[int, int]) -> GridMesh:
 
 def _edges(polygons: Any) -> list[tuple[Floats, Floats]]:
     """The edges of all rings, from corner to corner."""
-    parts = getattr(polygons, "geoms", [polygons])
-    rings = [np.asarray(ring.coords) for part in parts if part.geom_type == "Polygon"
-             for ring in (part.exterior, *part.interiors)]
+    rings = [np.asarray(ring.coords) for part in polygons.geoms for ring in (part.exterior, *part.interiors)]
     return [(one, two) for ring in rings for one, two in zip(ring[:-1], ring[1:]) if (one != two).any()]
 
 
