@@ -1,6 +1,6 @@
 -- Each clause is a lemma.
 use Rattle.tolerance_laws.proofs.ExcessLemmas.{excess-finest, excess-within, excess-common}
-use Rattle.std.proofs.Common.{◌≤◌, arith}
+use Rattle.std.proofs.Common.{arith}
 use Rattle.deviation_laws.proofs.PlaneLemmas.{off_plane-most}
 use Rattle.tolerance_laws.proofs.laws.tolerance_laws.Goals as goal
 
