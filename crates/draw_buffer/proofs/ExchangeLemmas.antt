@@ -80,7 +80,7 @@ module _ (n : ℕ) (places : PlaceState) (vertices : VertexState) (corners : Lis
       omega (arith, whole.used v)
 
   -- a triangle comes, and waits
-  pub whole-admit : (after : VertexState) (x : Waiting) (s' : ℕ) → s ≤ s' → x.tri < places.end
+  pub whole-admit : (after : VertexState) (x : Waiting) (s' : ℕ) → s' ≡ s → x.tri < places.end
       → AreTaken vertices after (grid_indices n x.tri) x.corners
       → times places.triangles x.tri + times (addresses_of waiting) x.tri ≡ 0 →
       IsWholeBuffer n places after corners (waiting ++ x ∷ []) r s' w
@@ -157,8 +157,8 @@ module _ (n : ℕ) (places : PlaceState) (vertices : VertexState) (corners : Lis
         (whole.ready k d (let long = next-long in omega arith))
 
     -- it takes the place of another, whose numbers have a use less
-    pub whole-put : (after : PlaceState) (less : VertexState) (at s' w' : ℕ) (x : Indices) → s ≤ s' →
-        w ≤ w' → at < length places.triangles
+    pub whole-put : (after : PlaceState) (less : VertexState) (at s' w' : ℕ) (x : Indices) → s' ≡ s →
+        w' ≡ w → at < length places.triangles
         → after ≡ record places { triangles = set places.triangles at next.tri } → x ≡ get_or corners at x
         → less ≡ record vertices { uses = less.uses }
         → ((v : ℕ) → get_or less.uses v 0 + corner_uses x v ≡ get_or vertices.uses v 0) →
@@ -193,7 +193,7 @@ module _ (n : ℕ) (places : PlaceState) (vertices : VertexState) (corners : Lis
         })
 
     -- it comes behind the last
-    pub whole-push : (after : PlaceState) (xs : List Indices) (r' s' w' : ℕ) → r ≤ r' → s ≤ s' → w ≤ w'
+    pub whole-push : (after : PlaceState) (xs : List Indices) (r' s' w' : ℕ) → r' ≡ r → s' ≡ s → w' ≡ w
         → length places.triangles < places.most
         → after ≡ record places { triangles = places.triangles ++ next.tri ∷ [] } → xs ≡ corners ++ next.corners ∷ []
         → IsWholeBuffer n after vertices xs rest r' s' w'
@@ -220,7 +220,7 @@ module _ (n : ℕ) (places : PlaceState) (vertices : VertexState) (corners : Lis
   -- a triangle goes, and the last closes the gap
   pub whole-close : (after : PlaceState) (less : VertexState) (xs : List Indices) (x : Indices) (at r' s' w' : ℕ)
       (none : List Waiting) → none ≡ [] → waiting ≡ []
-      → r ≤ r' → s ≤ s' → w ≤ w' → at < length places.triangles →
+      → r' ≡ r → s' ≡ s → w' ≡ w → at < length places.triangles →
       after ≡ record places { triangles = swap_remove places.triangles at 0 }
       → xs ≡ swap_remove corners at x → x ≡ get_or corners at x → less ≡ record vertices { uses = less.uses }
       → ((v : ℕ) → get_or less.uses v 0 + corner_uses x v ≡ get_or vertices.uses v 0) →

@@ -35,7 +35,7 @@ module _ (ps us ns free : List ℕ) (most r1 r2 r3 r4 : ℕ) (sound : AreSound p
   }
 
   -- the last use ends
-  pub sound-leave : (v : ℕ) (more : List ℕ) (s3 : ℕ) → 0 < get_or us v 0 → more ≡ free ++ v ∷ [] → r3 ≤ s3
+  pub sound-leave : (v : ℕ) (more : List ℕ) (s3 : ℕ) → 0 < get_or us v 0 → more ≡ free ++ v ∷ [] → s3 ≡ r3
       → AreSound ps (set us v 0) ns more most r1 r2 s3 r4
   sound-leave v more s3 used is_more l3 = rw is_more (record {
     numbered = IsNumbered-fewer ps us (set us v 0) ns sound.numbered (still-used v 0 used);
@@ -52,7 +52,7 @@ module _ (ps us ns free : List ℕ) (most r1 r2 r3 r4 : ℕ) (sound : AreSound p
   -- a free number is given to a point that has none
   pub sound-give : (rest : List ℕ) (v p s3 s4 : ℕ) → free ≡ rest ++ v ∷ [] → p < length ns
       → ((w : ℕ) → 0 < get_or us w 0 → get_or ps w 0 ≢ p)
-      → r3 ≤ s3 → r4 ≤ s4 → AreSound (set ps v p) (set us v 1) (set ns p v) rest most r1 r2 s3 s4
+      → s3 ≡ r3 → s4 ≡ r4 → AreSound (set ps v p) (set us v 1) (set ns p v) rest most r1 r2 s3 s4
   sound-give rest v p s3 s4 split within away l3 l4 =
       let low = last-low us free rest v sound.vacant split in
       let long = sound.long in
@@ -77,8 +77,8 @@ module _ (ps us ns free : List ℕ) (most r1 r2 r3 r4 : ℕ) (sound : AreSound p
   -- and it is given
   pub sound-new : (qs vs none : List ℕ) (v p s1 s2 s3 s4 : ℕ) → free ≡ [] → none ≡ [] → sum us < most →
       v ≡ length ps → p < length ns
-      → ((w : ℕ) → 0 < get_or us w 0 → get_or ps w 0 ≢ p) → qs ≡ ps ++ p ∷ [] → vs ≡ us ++ 1 ∷ [] → r1 ≤ s1 →
-      r2 ≤ s2 → r3 ≤ s3 → r4 ≤ s4
+      → ((w : ℕ) → 0 < get_or us w 0 → get_or ps w 0 ≢ p) → qs ≡ ps ++ p ∷ [] → vs ≡ us ++ 1 ∷ [] → s1 ≡ r1 →
+      s2 ≡ r2 → s3 ≡ r3 → s4 ≡ r4
       → AreSound qs vs (set ns p v) none most s1 s2 s3 s4
   sound-new qs vs none v p s1 s2 s3 s4 is_free is_none room is_v within away is_qs is_vs l1 l2 l3 l4 =
       let long = sound.long in
@@ -178,7 +178,7 @@ taken-first before after p v unused first others total is_p points given end mos
 
 -- an empty table is sound if there is room for as many uses as there may be
 pub sound-none : (ps us ns free : List ℕ) (most r1 r2 r3 r4 : ℕ) → ps ≡ [] → us ≡ [] → free ≡ [] → most < 2 ^ 32
-    → most ≤ r1 → most ≤ r2 → most ≤ r3 → most ≤ r4
+    → r1 ≡ most → r2 ≡ most → r3 ≡ most → r4 ≡ most
     → AreSound ps us ns free most r1 r2 r3 r4
 sound-none ps us ns free most r1 r2 r3 r4 is_ps is_us is_free small l1 l2 l3 l4 = rw (is_ps, is_us, is_free) (record {
   numbered = λ v some. absurd (omega arith);

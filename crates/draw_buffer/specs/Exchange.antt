@@ -52,9 +52,9 @@ pub record IsWholeBuffer (n : ℕ) (places : PlaceState) (vertices : VertexState
   pub total : sum vertices.uses ≡ 3 * (length corners + length waiting)
   pub once : (a : ℕ) → times places.triangles a + times (addresses_of waiting) a ≤ 1
   pub few : length places.triangles ≤ places.most
-  pub corner_space : places.most ≤ corner_room
-  pub waiting_space : places.most ≤ waiting_room
-  pub written_space : places.most ≤ written_room
+  pub corner_space : corner_room ≡ places.most
+  pub waiting_space : waiting_room ≡ places.most
+  pub written_space : written_room ≡ places.most
 
 -- what is not told to be written is as before
 pub record KeepsUntold (before after : ExchangeState) : Type 0 where

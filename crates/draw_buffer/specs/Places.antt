@@ -14,9 +14,9 @@ IsPlaceOfEach triangles places =
     (k : ℕ) → k < length triangles →
     (slice_index triangles k < length places) × (slice_index places (slice_index triangles k) ≡ k)
 
--- triangles and places agree, and there is room for the greatest number of triangles
+-- triangles and places agree, and there is room for just the greatest number of triangles
 pub record AreSoundPlaces (triangles places : List ℕ) (most capacity : ℕ) : Type 0 where
   pub linked : IsPlaceOfEach triangles places
   pub few : length triangles ≤ most
-  pub room : most ≤ capacity
+  pub room : capacity ≡ most
   pub small : most < 2 ^ 32

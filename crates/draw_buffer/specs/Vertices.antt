@@ -39,10 +39,10 @@ pub record AreSound (points uses numbers free : List ℕ)
   pub long : length points ≡ length uses
   pub few : length points ≤ most
   pub small : most < 2 ^ 32
-  pub point_space : most ≤ point_room
-  pub use_space : most ≤ use_room
-  pub free_space : most ≤ free_room
-  pub given_space : most ≤ given_room
+  pub point_space : point_room ≡ most
+  pub use_space : use_room ≡ most
+  pub free_space : free_room ≡ most
+  pub given_space : given_room ≡ most
 
 -- v has the point, and a use more; what is in use keeps its point, and so does each number that is not told to be given
 -- out

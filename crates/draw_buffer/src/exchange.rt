@@ -192,10 +192,7 @@ impl Exchange {
     {
         let places = grid_indices(self.n, t);
         let corners = take_three(&mut self.vertices, places);
-        match self.waiting.push(Waiting { tri: t, corners }) {
-            Ok(()) => {}
-            Err(_) => unreachable!(),
-        }
+        self.waiting.push_reserved(Waiting { tri: t, corners });
     }
 
     /// A triangle goes, and one that waits takes its place; where none waits, the last closes the gap.
@@ -256,10 +253,7 @@ impl Exchange {
         };
         note(&mut self.written, self.places.len());
         self.places.push(next.tri);
-        match self.corners.push(next.corners) {
-            Ok(()) => {}
-            Err(_) => unreachable!(),
-        }
+        self.corners.push_reserved(next.corners);
     }
 }
 

@@ -110,10 +110,7 @@ impl PlaceTable {
         ensures { self.new ≡ record self.old { triangles = self.old.triangles ++ t ∷ [] } }
     {
         self.places[t.number() as usize] = self.triangles.len() as u32;
-        match self.triangles.push(t) {
-            Ok(()) => {}
-            Err(_) => unreachable!(),
-        }
+        self.triangles.push_reserved(t);
     }
 
     /// Takes out the triangle at a place, and closes the gap by the last.

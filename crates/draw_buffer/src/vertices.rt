@@ -145,10 +145,7 @@ impl VertexTable {
 pub fn note(numbers: &mut Vec<u32>, number: u32)
     requires { length numbers.old.items < vec_capacity numbers.old }
     ensures items { numbers.new.items ≡ numbers.old.items ++ number ∷ [] }
-    ensures capacity { vec_capacity numbers.old ≤ vec_capacity numbers.new }
+    ensures capacity { vec_capacity numbers.new ≡ vec_capacity numbers.old }
 {
-    match numbers.push(number) {
-        Ok(()) => {}
-        Err(_) => unreachable!(),
-    }
+    numbers.push_reserved(number);
 }

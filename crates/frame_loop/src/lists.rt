@@ -1,11 +1,12 @@
 //! What an engine lists of its mesh.
 
-ghost use Rattle.std.specs.Prelude.{◌≡◌, ◌*◌, ◌≤◌, [], IfOk, length, slice_index};
+ghost use Rattle.std.specs.Prelude.{◌≡◌, ◌*◌, ◌/◌, ◌≤◌, [], IfOk, length, slice_index};
 ghost use Rattle.mesh_defs.specs.HeightField.{side_of};
 ghost use Rattle.mesh_defs.specs.ClosedSet.{leaves_of};
 ghost use Rattle.mesh_defs.specs.declared.level.TheConstants.{GREATEST_LEVEL};
 ghost use Rattle.edge_laws.specs.Slots.{split_set};
 ghost use Rattle.triangle_pool.specs.declared.pool.TheConstants.{MOST_LEAVES};
+ghost use Rattle.frame_loop.specs.declared.lists.TheConstants.{MENDED_SHARE};
 
 use bintree_addr::Point;
 use leaf_list::LeafList;
@@ -48,6 +49,7 @@ impl Lists {
         ensures come { IfOk result (λ l. l.list.come ≡ []) }
         ensures most { IfOk result (λ l. l.list.most ≡ room) }
         ensures numbers { IfOk result (λ l. length l.numbers ≡ side_of n * side_of n) }
+        ensures changes { IfOk result (λ l. length l.vertex_changes.items ≡ room / MENDED_SHARE) }
     {
         Ok(Lists {
             list: LeafList::new(alloc, pool, room)?,

@@ -25,14 +25,14 @@ pub struct ChangeLog {
 }
 
 impl Model for ChangeLog {
-    ghost use Rattle.std.specs.Prelude.{◌≤◌, None, Some, cond, vec_capacity};
+    ghost use Rattle.std.specs.Prelude.{◌≡◌, None, Some, cond, vec_capacity};
     ghost use Rattle.deferred_loop.specs.Log.{Log};
 
     ghost Value = { Log };
 
     ghost view = { λ l. record { changed = cond l.is_lost None (Some l.changed.items); room = l.room } };
 
-    ghost invariant = { λ l. l.room ≤ vec_capacity l.changed };
+    ghost invariant = { λ l. vec_capacity l.changed ≡ l.room };
 }
 
 impl ChangeLog {
@@ -79,10 +79,7 @@ impl ChangeLog {
             self.is_lost = true;
             return;
         }
-        match self.changed.push(t) {
-            Ok(()) => {}
-            Err(_) => unreachable!(),
-        }
+        self.changed.push_reserved(t);
     }
 
     /// Lists the parent of a triangle.

@@ -67,7 +67,7 @@ module _ {K : Type 0} {cmp : K → K → Ordering} (o : IsTotalOrder cmp) where
       keys_of-unique xs ps (replicate n None) (λ i d h. absurd (omega arith)) (length-replicate n None ∙ sym f)
       (λ i d h. absurd (omega arith)) (λ k h u. get_or-replicate n k None None (omega arith))
 
-  pub IsSound-new : (xs : List (Entry K)) (ps : List ℕ) (n capacity : ℕ) → xs ≡ [] → length ps ≡ n → n ≤ capacity →
+  pub IsSound-new : (xs : List (Entry K)) (ps : List ℕ) (n capacity : ℕ) → xs ≡ [] → length ps ≡ n → capacity ≡ n →
       n < 2 ^ 32 → IsSoundHeap cmp xs ps capacity
   IsSound-new xs ps n capacity e f room few =
       let none : length xs ≡ 0 = ap length e in
@@ -244,7 +244,7 @@ module _ {K : Type 0} {cmp : K → K → Ordering} (o : IsTotalOrder cmp) where
           ap (λ zs. keys_of zs ps) rest
           ∙ keys_of-pop xs ps sound.linked m s long (λ d. ap (λ j. slot_at xs j d) at_m ∙ own_slot d)
 
-      pub IsSound-last : (c : ℕ) → capacity ≤ c → m ≤ at → IsSoundHeap cmp es ps c
+      pub IsSound-last : (c : ℕ) → c ≡ capacity → m ≤ at → IsSoundHeap cmp es ps c
       IsSound-last c more h = record {
         linked = rw rest (HasPlaces-take xs ps sound.linked m (omega arith));
         order = rw rest (IsHeap-take xs m (omega arith) sound.order);
@@ -272,7 +272,7 @@ module _ {K : Type 0} {cmp : K → K → Ordering} (o : IsTotalOrder cmp) where
       pub keys_of-placed : keys_of (with_items v ys).items (with_items w qs).items ≡ u
       keys_of-placed = rw (with_items_is v ys long, with_items_is w qs same) (placed ∙ held.keys)
 
-      pub IsSound-placed : (c : ℕ) → HasPlaces ys qs → IsHeap cmp ys → length ys ≡ length es → length qs ≤ c →
+      pub IsSound-placed : (c : ℕ) → HasPlaces ys qs → IsHeap cmp ys → length ys ≡ length es → c ≡ length qs →
           length qs < 2 ^ 32 → IsSoundHeap cmp (with_items v ys).items (with_items w qs).items c
       IsSound-placed c linked order n room few = rw (with_items_is v ys long, with_items_is w qs same) (record {
         linked = linked;

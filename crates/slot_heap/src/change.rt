@@ -24,10 +24,8 @@ pub fn add<K: Copy + Ord>(entries: &mut Vec<Entry<K>>, places: &mut Vec<u32>, en
         slice_set (keys_of entries.old.items places.old.items) entry.slot.0 (Some entry.key) }
 {
     let at = entries.len();
-    match entries.push(entry) {
-        Ok(()) => place(entries, places, at, entry),
-        Err(_) => unreachable!(),
-    }
+    entries.push_reserved(entry);
+    place(entries, places, at, entry);
 }
 
 /// Removes the entry of a slot, and answers its key.

@@ -22,7 +22,7 @@ pub record FreeState : Type 0 where
 pub record HasSpace (returned : List ℕ) (unused pairs capacity : ℕ) : Type 0 where
   pub below : length returned ≤ unused
   pub within : unused ≤ pairs
-  pub room : pairs ≤ capacity
+  pub room : capacity ≡ pairs
   pub few : pairs < 2 ^ 32
 
 -- k is given out: the pair that was given back last, and where there is none, the first that was never given out

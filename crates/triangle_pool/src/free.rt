@@ -75,9 +75,6 @@ impl FreePairs {
         ensures unused { self.new.unused ≡ self.old.unused }
         ensures pairs { self.new.pairs ≡ self.old.pairs }
     {
-        match self.returned.push(k) {
-            Ok(()) => {}
-            Err(_) => unreachable!(),
-        }
+        self.returned.push_reserved(k);
     }
 }

@@ -6,10 +6,9 @@ use Rattle.slot_heap.proofs.change.add.Given.{Over}
 use Rattle.slot_heap.proofs.change.add.Goals as goal
 use Rattle.slot_heap.proofs.change.add.Goals.{After-deref_mut}
 
-pub unreachable-requires : goal.unreachable-requires
-unreachable-requires g c =
+pub push_reserved-requires : goal.push_reserved-requires
+push_reserved-requires g c =
     let room = add_room g.met.K.Ord.total c.requires.sound c.args.entry c.requires.in_range c.requires.vacant in
-    let full = c.in-Err.ensures.full in
     omega (arith, room.1)
 
 pub place-requires-clause-few : goal.place-requires-clause-few
@@ -20,7 +19,7 @@ place-requires-clause-few g c =
       room.0,
       c.requires.sound.few,
       ap length c.deref_mut.ensures.value,
-      ap length c.in-Ok.ensures.items,
+      ap length c.push_reserved.ensures.items,
       length_push c.args.entries.now.items c.args.entry,
     )
 
@@ -30,11 +29,11 @@ held : (g : Over) (c : After-deref_mut g) →
     (set (keys_of c.args.entries.now.items c.args.places.now.items) c.args.entry.slot.0 (Some c.args.entry.key))
 held g c =
     IsHeld-add g.met.K.Ord.total c.requires.sound c.args.entry c.requires.in_range c.requires.vacant
-    c.deref_mut.result.now c.len-at.result (c.deref_mut.ensures.value ∙ c.in-Ok.ensures.items) (omega arith)
+    c.deref_mut.result.now c.len-at.result (c.deref_mut.ensures.value ∙ c.push_reserved.ensures.items) (omega arith)
 
 pub place-requires-clause-linked : goal.place-requires-clause-linked
 place-requires-clause-linked g c =
-    rw c.deref_mut-in-Ok.ensures.value (held g (goal.at.place-requires-clause-linked g c).After-deref_mut).linked
+    rw c.deref_mut-2.ensures.value (held g (goal.at.place-requires-clause-linked g c).After-deref_mut).linked
 
 pub place-requires-clause-order : goal.place-requires-clause-order
 place-requires-clause-order g c = (held g (goal.at.place-requires-clause-order g c).After-deref_mut).order
@@ -42,14 +41,14 @@ place-requires-clause-order g c = (held g (goal.at.place-requires-clause-order g
 pub returns : goal.returns
 returns g c =
     let held = held g (goal.at.returns g c).After-deref_mut in
-    let same = rw c.deref_mut-in-Ok.ensures.value at c.place.ensures.same in
-    let places = ap length c.deref_mut-in-Ok.ensures.value in record {
+    let same = rw c.deref_mut-2.ensures.value at c.place.ensures.same in
+    let places = ap length c.deref_mut-2.ensures.value in record {
       sound =
-          IsSound-placed g.met.K.Ord.total held c.push.new.self c.args.places.now c.place.new.entries c.place.new.places
-          (omega arith) (omega arith) same c.push.new.self.cap c.place.ensures.linked c.place.ensures.order
-          (omega arith) (omega (arith, c.requires.sound.room, c.in-Ok.ensures.capacity))
+          IsSound-placed g.met.K.Ord.total held c.push_reserved.new.self c.args.places.now c.place.new.entries
+          c.place.new.places (omega arith) (omega arith) same c.push_reserved.new.self.cap c.place.ensures.linked
+          c.place.ensures.order (omega arith) (omega (arith, c.requires.sound.room, c.push_reserved.ensures.capacity))
           (omega (arith, c.requires.sound.few));
       keys =
-          keys_of-placed g.met.K.Ord.total held c.push.new.self c.args.places.now c.place.new.entries c.place.new.places
-          (omega arith) (omega arith) same;
+          keys_of-placed g.met.K.Ord.total held c.push_reserved.new.self c.args.places.now c.place.new.entries
+          c.place.new.places (omega arith) (omega arith) same;
     }

@@ -18,6 +18,7 @@ invariant_of-self c =
     rw (triangles, waiting) c.requires.new in
     let taken = subst (λ p. AreTaken i.vertices c.take_three-corners.new.vertices p c.take_three-corners.result)
     c.grid_indices-places.ensures.value c.take_three-corners.ensures in
-    rw c.in-Ok.ensures.items (whole-admit i.n i.places i.vertices i.corners.items i.waiting.items _ _ _
+    rw c.push_reserved.ensures.items (whole-admit i.n i.places i.vertices i.corners.items i.waiting.items _ _ _
     c.self.invariant c.take_three-corners.new.vertices
-    (record { tri = c.args.t; corners = c.take_three-corners.result }) _ c.in-Ok.ensures.capacity low taken away)
+    (record { tri = c.args.t; corners = c.take_three-corners.result }) _ c.push_reserved.ensures.capacity
+    low taken away)

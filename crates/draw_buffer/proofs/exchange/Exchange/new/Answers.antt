@@ -47,7 +47,7 @@ invariant_of-result c =
                 c.in_ok-with_capacity-2.ensures.items,
           );
       few = omega (arith, ap length c.in_ok-new.ensures.triangles);
-      corner_space = (let room = c.in_ok-with_capacity.ensures.capacity in omega (arith, c.in_ok-new.ensures.most));
-      waiting_space = (let room = c.in_ok-with_capacity-2.ensures.capacity in omega (arith, c.in_ok-new.ensures.most));
-      written_space = (let room = c.in_ok-with_capacity-3.ensures.capacity in omega (arith, c.in_ok-new.ensures.most));
+      corner_space = (let room = c.in_ok-with_capacity.ensures.exact in omega (arith, c.in_ok-new.ensures.most));
+      waiting_space = (let room = c.in_ok-with_capacity-2.ensures.exact in omega (arith, c.in_ok-new.ensures.most));
+      written_space = (let room = c.in_ok-with_capacity-3.ensures.exact in omega (arith, c.in_ok-new.ensures.most));
     }

@@ -21,9 +21,9 @@ invariant_of-self c =
     let room : length i.places.triangles < i.places.most = rw (seen, most) c.requires.room in
     whole-push i.n i.places i.vertices i.corners.items i.waiting.items _ _ _ c.self.invariant c.pop.new.self.items
     c.in-Some.next c.in-Some.ensures.items
-    c.push.new.self c.push-2.new.self.items _ _ _ c.in-Ok.ensures.capacity (omega (arith, c.in-Some.ensures.capacity))
-    c.note.ensures.capacity
-    room c.push.ensures c.in-Ok.ensures.items
+    c.push.new.self c.push_reserved.new.self.items _ _ _ c.push_reserved.ensures.capacity
+    (omega (arith, c.in-Some.ensures.capacity)) c.note.ensures.capacity
+    room c.push.ensures c.push_reserved.ensures.items
 
 pub returns-clause-total : goal.returns-clause-total
 returns-clause-total c a =
@@ -42,4 +42,4 @@ returns-clause-told c =
     rw (← c.self.view_is) (told-push _ _ c.in-Some.next.tri c.in-Some.next.corners
     (whole-long i.n i.places i.vertices i.corners.items i.waiting.items _ _ _ c.self.invariant)
     (c.note.ensures.items ∙ ap (λ k. i.written.items ++ k ∷ []) c.len.ensures.value)
-    (ap (λ (p : PlaceState). p.triangles) c.push.ensures) c.in-Ok.ensures.items)
+    (ap (λ (p : PlaceState). p.triangles) c.push.ensures) c.push_reserved.ensures.items)

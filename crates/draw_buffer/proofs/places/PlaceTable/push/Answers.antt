@@ -17,9 +17,9 @@ invariant_of-self c =
     let some : length ts < c.self.inside.most = rw (seen, most) c.requires.room in
     let long = length_push ts c.args.t in
     let at : c.len.result ≡ length ts = c.len.ensures ∙ c.self.inside.triangles.ok.0 in
-    rw (c.in-Ok.ensures.items, c.number.ensures.value, at) (record {
+    rw (c.push_reserved.ensures.items, c.number.ensures.value, at) (record {
       linked = IsLinked-push ts ps c.self.invariant.linked c.args.t low away;
       few = omega arith;
-      room = (let room = c.self.invariant.room in let more = c.in-Ok.ensures.capacity in omega arith);
+      room = (let room = c.self.invariant.room in let more = c.push_reserved.ensures.capacity in omega arith);
       small = c.self.invariant.small;
     })

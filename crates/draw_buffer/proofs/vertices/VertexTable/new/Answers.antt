@@ -9,5 +9,5 @@ invariant_of-result c =
     c.in_ok-with_capacity-3.field-0.items
     c.args.most _ _ _ _ c.in_ok-with_capacity.ensures.items c.in_ok-with_capacity-2.ensures.items
     c.in_ok-with_capacity-3.ensures.items (omega arith)
-    c.in_ok-with_capacity.ensures.capacity c.in_ok-with_capacity-2.ensures.capacity
-    c.in_ok-with_capacity-3.ensures.capacity c.in_ok-with_capacity-4.ensures.capacity
+    c.in_ok-with_capacity.ensures.exact c.in_ok-with_capacity-2.ensures.exact
+    c.in_ok-with_capacity-3.ensures.exact c.in_ok-with_capacity-4.ensures.exact
