@@ -276,6 +276,29 @@ fn a_header_has_65536_bytes_at_most(rt: HostRuntime) -> Result<(), Fail> {
     Ok(())
 }
 
+/// What a reader answers to a plain header of nine bytes and blanks up to 2^28 bytes, the last ones in pieces of 2^20
+/// bytes, and to one byte more.
+fn answers_at_the_limit(
+    alloc: Global,
+) -> Result<(Result<(), PgmFault>, Result<(), PgmFault>), AllocError> {
+    let rest = many(alloc, b' ', (1 << 20) - 9)?;
+    let blanks = many(alloc, b' ', 1 << 20)?;
+    let mut reader = PgmReader::new(alloc);
+    let mut within = reader.feed(b"P2 3 3 9 ");
+    within = within.and(reader.feed(rest.as_slice()));
+    for _ in 0..255 {
+        within = within.and(reader.feed(blanks.as_slice()));
+    }
+    Ok((within, reader.feed(b" ")))
+}
+
+#[test]
+fn a_plain_file_has_2_to_the_28_bytes_at_most(rt: HostRuntime) -> Result<(), Fail> {
+    let want = (Ok(()), Err(PgmFault::TooLong));
+    assert_eq!(rt; answers_at_the_limit(rt.alloc())?, want);
+    Ok(())
+}
+
 /// Whether a refusal is told in these words.
 fn has_words(alloc: Global, fault: PgmFault, words: &str) -> Result<bool, AllocError> {
     Ok(format!(in alloc; "{fault}")?.as_str() == words)

@@ -60,6 +60,11 @@ pub(crate) fn hill_mesh() -> &'static [u8] {
     b"v 0 0 0\nv 2 0 0\nv 1 1 10\nv 0 2 0\nv 2 2 0\nf 3 1 2\nf 3 4 1\nf 3 5 4\nf 3 2 5\n"
 }
 
+/// The finest mesh that `corner_hill` needs: nine triangles.
+pub(crate) fn corner_mesh() -> &'static [u8] {
+    b"v 0 0 0\nv 1 0 10\nv 2 0 0\nv 4 0 0\nv 1 1 0\nv 0 2 0\nv 2 2 0\nv 0 4 0\nv 4 4 0\nf 5 3 7\nf 2 5 1\nf 2 3 5\nf 3 4 7\nf 6 7 8\nf 5 6 1\nf 5 7 6\nf 7 9 8\nf 7 4 9\n"
+}
+
 /// The words of a command that is accepted.
 pub(crate) const WORDS: [&str; 6] = ["mesh", "g", "s", "out", "2", "1"];
 
