@@ -18,13 +18,23 @@ sys.path.insert(0, str(TOP / "tools"))
 
 def pytest_addoption(parser: Any) -> None:
     parser.addoption("--program", default=str(TOP / "crates/roam_cli/out/roam_cli"), help="the built program")
+    parser.addoption("--archive", default=str(TOP / "crates/roam_c/out/libroam_c.a"), help="the built library")
+
+
+def built(request: Any, option: str, by: str) -> Path:
+    found = Path(request.config.getoption(option)).resolve()
+    assert found.is_file(), f"there is no {found}; run {by} first"
+    return found
 
 
 @pytest.fixture(scope="session")
 def program(request: Any) -> Path:
-    found = Path(request.config.getoption("--program")).resolve()
-    assert found.is_file(), f"there is no {found}; run './roam' first"
-    return found
+    return built(request, "--program", "./roam")
+
+
+@pytest.fixture(scope="session")
+def archive(request: Any) -> Path:
+    return built(request, "--archive", "lib/build")
 
 
 @pytest.fixture

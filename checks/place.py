@@ -71,7 +71,7 @@ class Place:
         self.before = self.files()
         given = [word if isinstance(word, bytes) else os.fsencode(str(word)) for word in (program or self.program, *words)]
         how = {"stdout": subprocess.PIPE, "env": {**os.environ, "LC_ALL": "C"}, **how}
-        ended = subprocess.run(given, cwd=self.folder, stdin=subprocess.DEVNULL, stderr=subprocess.PIPE, timeout=60,
+        ended = subprocess.run(given, cwd=self.folder, stdin=subprocess.DEVNULL, stderr=subprocess.PIPE, timeout=300,
                                check=False, **how)
         self.status, self.report, self.said = ended.returncode, ended.stdout or b"", os.fsdecode(ended.stderr or b"")
         return self

@@ -19,7 +19,7 @@ import pytest
 from conftest import TOP
 
 # Notes when a command begins and ends, with its crate; `run` makes a program that tells its folder and words. A crate
-# whose text is 'beside NAME' waits until NAME has begun, for at most ten seconds; 'after NAME' until it is refused, and
+# whose text is 'beside NAME' waits until NAME has begun, for at most a minute; 'after NAME' until it is refused, and
 # then half a second in which the launcher can see it; 'slow' keeps work, says which process it is, and sleeps; 'pause'
 # sleeps half a second; 'broken' is refused.
 TOOLCHAIN = r"""#!/usr/bin/env bash
@@ -29,8 +29,8 @@ read -r first other <src/text
 [ "$first" = pause ] && sleep 0.5
 [ "$first" = slow ] && mkdir -p out/incremental && : >out/incremental/proved && echo $$ >>"${0%/*}/slow" && exec sleep 60
 await() { # LINE FILE: until it stands there
-  for ((k = 0; k < 1000; k++)); do grep -qsx "$1" "$2" && break; sleep 0.01; done
-  [ $k -lt 1000 ] || exit 1
+  for ((k = 0; k < 6000; k++)); do grep -qsx "$1" "$2" && break; sleep 0.01; done
+  [ $k -lt 6000 ] || exit 1
 }
 [ "$first" = beside ] && await "lib $other" "$notes"
 [ "$first" = after ] && await "$other" "${0%/*}/refused" && sleep 0.5
@@ -110,7 +110,7 @@ class Repository:
         """One call by the link, from the caller's folder; the notes of the toolchain begin anew."""
         (self.bin / "commands").write_text("")
         return subprocess.run([str(self.bin / "roam"), *words], cwd=self.caller, env=self.environment(jobs, path),
-                              timeout=60, stdin=subprocess.DEVNULL, capture_output=True, text=True, check=False)
+                              timeout=300, stdin=subprocess.DEVNULL, capture_output=True, text=True, check=False)
 
     def begin(self, said: Path, jobs: int = 2) -> subprocess.Popen[bytes]:
         """A build on two processors, under way; what it says is in a file."""
@@ -140,8 +140,8 @@ class Repository:
 
 
 def until(holds: Callable[[], Any]) -> None:
-    """Waits until something holds, for at most ten seconds."""
-    for _ in range(1000):
+    """Waits until something holds, for at most a minute."""
+    for _ in range(6000):
         if holds():
             return
         time.sleep(0.01)
@@ -336,7 +336,7 @@ def test_limits(monkeypatch: pytest.MonkeyPatch, files: tuple[str, ...], process
 def test_launcher_proves_side_by_side(wide: Repository, tmp_path: Path) -> None:
     wide.edit("left", "beside right")
     wide.edit("right", "beside left")
-    assert wide.begin(tmp_path / "said").wait(60) == 3
+    assert wide.begin(tmp_path / "said").wait(300) == 3
     wide.check_order()
     assert (tmp_path / "said").read_text().endswith(" 0 left\n")
 
@@ -344,7 +344,7 @@ def test_launcher_proves_side_by_side(wide: Repository, tmp_path: Path) -> None:
 def test_launcher_lets_others_end_where_a_crate_is_refused(wide: Repository, tmp_path: Path) -> None:
     wide.edit("chain1", "after left")
     wide.edit("left", "broken")
-    assert wide.begin(tmp_path / "said").wait(60) == 125
+    assert wide.begin(tmp_path / "said").wait(300) == 125
     said = (tmp_path / "said").read_text()
     assert "the crate left is not proved" in said and "roam: chain1 is proved" in said
     assert sorted(wide.commands()) == ["lib chain1", "lib left"]
@@ -362,7 +362,7 @@ def begun(wide: Repository, said: Path) -> subprocess.Popen[bytes]:
 
 def ended_by(wide: Repository, launched: subprocess.Popen[bytes], number: signal.Signals) -> None:
     launched.send_signal(number)
-    assert launched.wait(20) == 128 + number
+    assert launched.wait(300) == 128 + number
     for it in wide.notes("slow"):
         with pytest.raises(ProcessLookupError):
             os.kill(int(it), 0)
@@ -395,14 +395,14 @@ def test_launcher_keeps_what_was_proved_when_it_is_ended(wide: Repository, tmp_p
     for name in ("left", "chain1"):
         wide.edit(name, "source")
     launched = wide.begin(tmp_path / "said")
-    assert launched.wait(20) == 3
+    assert launched.wait(300) == 3
 
 
 def test_launcher_ends_where_nobody_reads_what_it_says(chain: Repository) -> None:
     closed, end = os.pipe()
     os.close(closed)
     ended = subprocess.run([str(chain.bin / "roam"), "mesh"], cwd=chain.caller, env=chain.environment(1, None),
-                           timeout=60, stdout=subprocess.DEVNULL, stderr=end, check=False)
+                           timeout=300, stdout=subprocess.DEVNULL, stderr=end, check=False)
     os.close(end)
     assert ended.returncode == 128 + signal.SIGPIPE and not chain.commands()
     chain.check_left()
@@ -421,7 +421,7 @@ def test_launcher_builds_once_for_two_calls(wide: Repository, tmp_path: Path) ->
     until(lambda: "lib chain1" in wide.notes("commands"))
     second = wide.begin(tmp_path / "said2")
     until(lambda: (tmp_path / "said2").read_text())
-    assert first.wait(60) == 3 and second.wait(60) == 3
+    assert first.wait(300) == 3 and second.wait(300) == 3
     assert (tmp_path / "said2").read_text() == "roam: another call is proving and building; waiting for it\n"
     assert (tmp_path / "said").read_text().count("proving and building") == 1
 

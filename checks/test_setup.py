@@ -4,6 +4,7 @@ from __future__ import annotations
 import os
 import shutil
 import subprocess
+import sys
 from pathlib import Path
 
 import pytest
@@ -14,7 +15,7 @@ from conftest import CHECKS
 APT = """#!/bin/bash
 here=${0%/*}
 for word in "$@"; do case $word in update | install) task=$word ;; esac; done
-echo "$task ${!#}" >>"$here/notes"
+[ -z "$task" ] || echo "$task ${!#}" >>"$here/notes"
 if [ $task = update ] && [ -s "$here/fails" ]; then sed -i 1d "$here/fails"; echo 'a mirror is away'; exit 100; fi
 [ $task != install ] || [ -f "$here/refuses" ] || ln -s /bin/true "$here/assimp"
 """
@@ -26,25 +27,30 @@ def place(tmp_path: Path) -> Path:
     said = subprocess.run([CHECKS / "setup", "--look"], capture_output=True, text=True, check=False)
     assert said.returncode == 0, said.stderr
     for it in Path("/usr/bin").iterdir():
-        if it.name not in ("assimp", "sleep", "sudo", "apt-get"):
+        if it.name not in ("assimp", "id", "sudo", "apt-get"):
             (tmp_path / it.name).symlink_to(it)
-    for name in ("cargo", "convert"):
-        found = shutil.which(name)
-        if found and not (tmp_path / name).exists():
-            (tmp_path / name).symlink_to(found)
-    (tmp_path / "id").unlink()
-    for name, text in (("apt-get", APT), ("sleep", "#!/bin/sh\n"), ("id", "#!/bin/sh\necho 0\n")):
+    cargo = shutil.which("cargo")
+    if cargo and not (tmp_path / "cargo").exists():
+        (tmp_path / "cargo").symlink_to(cargo)
+    for name, text in (("apt-get", APT), ("id", "#!/bin/sh\necho 0\n")):
         (tmp_path / name).write_text(text)
         (tmp_path / name).chmod(0o755)
     return tmp_path
 
 
+# checks/setup without its pauses.
+WITHOUT_PAUSES = """import runpy, sys, time
+time.sleep = lambda _: None
+sys.argv = sys.argv[1:]
+runpy.run_path(sys.argv[0], run_name="__main__")"""
+
+
 def setup(place: Path, *words: str) -> subprocess.CompletedProcess[str]:
-    return subprocess.run([str(CHECKS / "setup"), *words], env={**os.environ, "PATH": str(place)}, capture_output=True,
-                          text=True, check=False)
+    return subprocess.run([sys.executable, "-c", WITHOUT_PAUSES, str(CHECKS / "setup"), *words], capture_output=True, text=True,
+                          env={**os.environ, "PATH": str(place)}, check=False)
 
 
-MISSING = "setup: missing: assimp \nsetup: on Debian: apt-get install assimp-utils \n"
+MISSING = "setup: missing: assimp\nsetup: on Debian: apt-get install assimp-utils\n"
 
 
 def test_setup_installs_what_is_missing(place: Path) -> None:

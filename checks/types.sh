@@ -1,5 +1,5 @@
 # shellcheck shell=bash disable=SC2154
-# Types of the package (python/) and of the launcher, and the style of these, of lib/build and of the tables of checks.
+# Types of the package (python/) and of tools/, and the style of these, of lib/build and of the tables of checks.
 # Sourced by checks/run.
 
 # clean NAME FOLDER WORDS..: ok where a tool finds nothing there.
@@ -11,6 +11,6 @@ clean() {
 cd -- "$top" || exit 1
 clean the_package_has_sound_types python mypy --cache-dir="$room/mypy"
 clean the_package_is_laid_out python flake8 src
-clean the_launcher_has_sound_types . mypy --strict --cache-dir="$room/mypy" tools/launcher.py
-clean the_launcher_and_the_tables_are_laid_out . flake8 --max-line-length 130 tools/launcher.py lib/build checks/conftest.py checks/test_*.py \
+clean the_tools_have_sound_types . mypy --strict --cache-dir="$room/mypy" tools/*.py
+clean the_tools_and_the_tables_are_laid_out . flake8 --max-line-length 130 tools lib/build checks/setup checks/conftest.py checks/test_*.py \
   checks/place.py checks/alike.py checks/random_runs.py checks/lines.py

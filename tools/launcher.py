@@ -456,34 +456,49 @@ def stop_by(number: int, _: Optional[FrameType]) -> None:
     raise Stopped(128 + number)
 
 
-def build(top: Path, crate: str, product: str) -> Path:
-    """The file of the crate's out/, built where that is due. Ends the process with a status where it cannot be."""
-    for it in (signal.SIGINT, signal.SIGTERM, signal.SIGHUP):
-        if signal.getsignal(it) != signal.SIG_IGN:
+@contextlib.contextmanager
+def stopped_by_signals() -> Iterator[None]:
+    """Within this a signal raises Stopped, and afterwards it does what it did before; one that is ignored stays so."""
+    before = {it: signal.getsignal(it) for it in (signal.SIGINT, signal.SIGTERM, signal.SIGHUP)}
+    for it, handler in before.items():
+        if handler != signal.SIG_IGN:
             signal.signal(it, stop_by)
     try:
-        crates = Crates(top, crate)
-        made = crates.folder(crate) / "out" / product
-        if crates.is_current(made):
-            return made
-        if shutil.which("rt") is None:
-            fail("the toolchain's command 'rt' is not on PATH, and the program has to be built with it", NO_TOOLCHAIN)
-        for name in {PROGRAM, *crates.order}:
-            (crates.folder(name) / "out").mkdir(parents=True, exist_ok=True)
-        with alone(crates.folder(PROGRAM) / "out") as has_waited:
-            if has_waited and crates.is_current(made):
-                return made
-            started = crates.folder(PROGRAM) / "out/started"
-            started.write_bytes(b"")
-            if not Build(crates, made).run():
-                sys.exit(NOT_PROVED)
-            # As old as the build's beginning, so that what was edited meanwhile is newer.
-            began = started.stat().st_mtime_ns
-            os.utime(made, ns=(began, began))
+        yield
+    finally:
+        for it, handler in before.items():
+            signal.signal(it, handler)
+
+
+def build(top: Path, crate: str, product: str) -> Path:
+    """The file of the crate's out/, built where that is due. Ends the process with a status where it cannot be."""
+    try:
+        with stopped_by_signals():
+            return built(Crates(top, crate), product)
     except Stopped as why:
         sys.exit(why.status)
     except OSError as fault:
         fail(str(fault), NOT_PROVED)
+
+
+def built(crates: Crates, product: str) -> Path:
+    made = crates.folder(crates.crate) / "out" / product
+    if crates.is_current(made):
+        return made
+    if shutil.which("rt") is None:
+        fail("the toolchain's command 'rt' is not on PATH, and the program has to be built with it", NO_TOOLCHAIN)
+    for name in {PROGRAM, *crates.order}:
+        (crates.folder(name) / "out").mkdir(parents=True, exist_ok=True)
+    with alone(crates.folder(PROGRAM) / "out") as has_waited:
+        if has_waited and crates.is_current(made):
+            return made
+        started = crates.folder(PROGRAM) / "out/started"
+        started.write_bytes(b"")
+        if not Build(crates, made).run():
+            sys.exit(NOT_PROVED)
+        # As old as the build's beginning, so that what was edited meanwhile is newer.
+        began = started.stat().st_mtime_ns
+        os.utime(made, ns=(began, began))
     return made
 
 
