@@ -12,8 +12,10 @@ import random
 import subprocess
 import sys
 import time
+from pathlib import Path
 
-GREEDY = os.path.join(os.path.dirname(os.path.abspath(__file__)), "greedy.py")
+import alike
+
 WHITE, DIGITS = b" \t\r\n", b"0123456789"
 SIDES = [2 ** k + 1 for k in range(1, 12)]
 
@@ -237,10 +239,8 @@ def wanted(folder, file, words):
         return 0, line.encode(), {}
     size = 2 if maxval > 255 else 1
     put(folder, "same", b"P5\n%d %d\n%d\n" % (side, side, maxval) + b"".join(h.to_bytes(size, "big") for h in samples))
-    status, report, said = run([sys.executable, GREEDY, "mesh", "same", "s", "want"] + words[4:], folder)
-    if said:
-        raise RuntimeError(said.decode())
-    return status, report, meshes(folder, "want")
+    status, report, _ = alike.plain(Path(folder), "mesh", "same", "s", "want", *words[4:])
+    return status, report.encode(), meshes(folder, "want")
 
 
 def found(program, folder, words):

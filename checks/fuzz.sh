@@ -14,7 +14,7 @@ if [ $# -lt 2 ] || [ ! -x "$program" ]; then
   exit 2
 fi
 folder=$(mktemp -d) || exit 1
-if python3 "$top/checks/fuzz.py" "$program" "$folder" "$1" "$2"; then
+if PYTHONDONTWRITEBYTECODE=1 "$("$top/checks/setup" --python)" "$top/checks/fuzz.py" "$program" "$folder" "$1" "$2"; then
   rm -rf -- "$folder"
 else
   echo "the files of the cases that differ are in $folder"
