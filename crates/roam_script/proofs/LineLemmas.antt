@@ -111,7 +111,8 @@ fields-come_first number range ranges field fields (Some v) is more =
     (λ within. come-later number range ranges field fields v is within (fields_fault (number + 1) ranges fields) more)
     (λ outside. IsOutside number range ranges field fields v is outside)
 
-fields-come : (number : ℕ) (ranges : List Range) (fields : List (List ℕ)) → length fields ≡ length ranges →
+-- so for as many fields as ranges
+pub fields-come : (number : ℕ) (ranges : List Range) (fields : List (List ℕ)) → length fields ≡ length ranges →
     FieldsCome number ranges fields (fields_fault number ranges fields)
 fields-come number [] [] count = NoneIsLeft
 fields-come number [] (field ∷ fields) count = absurd (omega arith)
@@ -450,13 +451,13 @@ settled limits bytes more long =
 -- Ranges
 
 -- the range of the field at this place
-abbrev range_at : List Range → ℕ → Range
+abbrev pub range_at : List Range → ℕ → Range
 range_at [] k = record { low = pos 0; high = pos 0 }
 range_at (range ∷ ranges) zero = range
 range_at (range ∷ ranges) (suc k) = range_at ranges k
 
 -- fields that pass have numbers in their ranges
-within-at : (ranges : List Range) (fields : List (List ℕ)) (k : ℕ) → AreWithin ranges fields → k < length ranges →
+pub within-at : (ranges : List Range) (fields : List (List ℕ)) (k : ℕ) → AreWithin ranges fields → k < length ranges →
     is_in_range (range_at ranges k) (number_of_field fields k) ≡ true
 within-at _ _ k NoneIsLeft below = absurd (omega arith)
 within-at _ _ zero (IsAndMore range ranges field fields v is within more) below =
@@ -473,7 +474,7 @@ around-size : (size : ℕ) (v : ℤ) → is_in_range (around (pos size)) v ≡ t
 around-size size v within = let ends = within-ends (around (pos size)) v within in omega (arith, ints, ends.0, ends.1)
 
 -- a number between two that are not below 0
-between-sizes : (low high : ℕ) (v : ℤ) → is_in_range (from_to (pos low) (pos high)) v ≡ true →
+pub between-sizes : (low high : ℕ) (v : ℤ) → is_in_range (from_to (pos low) (pos high)) v ≡ true →
     (low ≤ unsigned_abs v) × (unsigned_abs v ≤ high) × (v ≡ pos (unsigned_abs v))
 between-sizes low high v within =
     let ends = within-ends (from_to (pos low) (pos high)) v within in

@@ -9,6 +9,7 @@ ghost use Rattle.roam_script.specs.Laws.{CommandsAreWords};
 ghost use Rattle.roam_script.specs.declared.limits.TheConstants.{MOST_LINES, MOST_LINE_BYTES, MOST_FRAMES, MOST_PLANES};
 ghost use Rattle.roam_script.specs.declared.limits.TheConstants.{CAMERA_REACH, GREATEST_SLOPE, GREATEST_OFFSET};
 ghost use Rattle.roam_script.specs.declared.limits.TheConstants.{LEAST_BUDGET, GREATEST_RAISE};
+ghost use Rattle.roam_script.specs.PointText.{PointsAreInGrid, LatePointsAreTooMany, LongPointsAreTooLong};
 
 /// States what `line_in` answers: where each refusal comes, and which lines are accepted; and which fields are
 /// commands. It does nothing.
@@ -39,4 +40,12 @@ pub fn limit_laws()
     ensures greatest_offset { GREATEST_OFFSET ≡ pos (2 ^ 50) }
     ensures least_budget { LEAST_BUDGET ≡ 2 }
     ensures greatest_raise { GREATEST_RAISE ≡ pos 65535 }
+{}
+
+/// States of `point_in` where a line of a file of points is one too many or too long, and that each point is one of the
+/// grid. It does nothing.
+pub fn point_laws()
+    ensures in_grid { PointsAreInGrid }
+    ensures too_many_lines { LatePointsAreTooMany }
+    ensures line_too_long { LongPointsAreTooLong }
 {}

@@ -12,15 +12,17 @@ mod fields;
 mod laws;
 mod limits;
 mod line;
+mod point;
 mod reading;
 mod script_fault;
 
 pub use fields::{first_field, without_cr};
-pub use laws::{limit_laws, line_laws};
+pub use laws::{limit_laws, line_laws, point_laws};
 pub use limits::{
     CAMERA_REACH, GREATEST_OFFSET, GREATEST_RAISE, GREATEST_SLOPE, LEAST_BUDGET, Limits,
     MOST_FRAMES, MOST_LINE_BYTES, MOST_LINES, MOST_PLANES,
 };
 pub use line::Line;
+pub use point::{most_points, read_point};
 pub use reading::read_line;
 pub use script_fault::ScriptFault;

@@ -1,7 +1,8 @@
 //! Lines of a script for `roam_script`: of each kind, and each refusal in its place. All answers are worked by hand
 //! from the format.
 
-use roam_script::{Limits, Line, ScriptFault, first_field, read_line, without_cr};
+use bintree_addr::Point;
+use roam_script::{Limits, Line, ScriptFault, first_field, read_line, read_point, without_cr};
 use std::alloc::{AllocError, Global};
 use std::test::Fail;
 
@@ -339,4 +340,30 @@ fn one_carriage_return_is_dropped_at_the_end(rt: HostRuntime) {
     for (line, text) in cases {
         assert_eq!(rt; without_cr(line), text);
     }
+}
+
+#[test]
+fn lines_of_points_are_read(rt: HostRuntime) {
+    let cases: [(&[u8], u32, Result<Option<Point>, ScriptFault>); 12] = [
+        (b"4 1", 25, Ok(Some(Point { x: 4, y: 1 }))),
+        (b"\t0  00\r", 1, Ok(Some(Point { x: 0, y: 0 }))),
+        (b"", 1, Ok(None)),
+        (b" # 5", 1, Ok(None)),
+        (b"4 1", 26, Err(ScriptFault::TooManyLines)),
+        (b"", 26, Err(ScriptFault::TooManyLines)),
+        (b"4", 1, Err(ScriptFault::WrongFields)),
+        (b"4 1 0", 1, Err(ScriptFault::WrongFields)),
+        (b"5 x", 1, Err(ScriptFault::OutOfRange { field: 1 })),
+        (b"4 x", 1, Err(ScriptFault::BadNumber { field: 2 })),
+        (b"4 5", 1, Err(ScriptFault::OutOfRange { field: 2 })),
+        (b"-1 0", 1, Err(ScriptFault::OutOfRange { field: 1 })),
+    ];
+    for (bytes, line, want) in cases {
+        assert_eq!(rt; read_point(bytes, 2, line), want, "{bytes:?}");
+    }
+    assert_eq!(rt; read_point(&[b' '; 200], 2, 1), Ok(None));
+    assert_eq!(rt;
+        read_point(&[b' '; 201], 2, 1),
+        Err(ScriptFault::LineTooLong)
+    );
 }
