@@ -1,5 +1,6 @@
 #!/usr/bin/env python3
-"""The mesh of the fewest triangles for an error, and that of the least error for a budget, from the definitions.
+"""The mesh of the fewest triangles for an error, with points as vertices or without, and that of the least error for a budget, from
+the definitions.
 
 usage: checks/fitting.py [SEED]    compares the plain loop with all closed sets of small grids, of levels 1 and 2, and says how many
 
@@ -11,7 +12,7 @@ import random
 import sys
 from fractions import Fraction
 
-from frames import forced, leaves_of
+from frames import forced, leaves_of, vertices_of
 from strips import deviation
 from terrain import Terrain
 
@@ -31,10 +32,19 @@ class Errors:
         return max(self.of(a) for a in leaves_of(split))
 
 
-def marks(terrain, errors):
-    """The sets that are noted, each with its worst error: the first has no split, and the last no error."""
-    split, low = set(), None
-    leaves = [(-errors.of(a), a) for a in (2, 3)]
+def with_points(terrain, points):
+    """The least set whose mesh has these points as vertices: it splits what has one of them halfway along its base."""
+    split = set()
+    for a in terrain.splittable:
+        if terrain.base_midpoint(a) in points:
+            split |= forced(terrain, split, a)
+    return split
+
+
+def marks(terrain, errors, start=()):
+    """The sets that are noted, each with its worst error: the first is that of the start, and the last has no error."""
+    split, low = set(start), None
+    leaves = [(-errors.of(a), a) for a in leaves_of(split)]
     heapq.heapify(leaves)
     while True:
         while leaves[0][1] in split:
@@ -52,9 +62,9 @@ def marks(terrain, errors):
                 heapq.heappush(leaves, (-errors.of(child), child))
 
 
-def fit_error(terrain, errors, tolerance):
-    """The set of the fewest triangles with no error above the tolerance."""
-    return next(split for worst, split in marks(terrain, errors) if worst <= tolerance)
+def fit_error(terrain, errors, tolerance, points=()):
+    """The set of the fewest triangles with no error above the tolerance, of those whose meshes have these points as vertices."""
+    return next(split for worst, split in marks(terrain, errors, with_points(terrain, set(points))) if worst <= tolerance)
 
 
 def fit_budget(terrain, errors, budget):
@@ -103,6 +113,13 @@ def compare(n, seed):
         best = [split for count, split in within if count == fewest]
         assert len(best) == 1 and best[0] == fit_error(terrain, errors, tolerance), "another set has as few triangles for the error"
         assert all(best[0] <= split for _, split in within), "a set within the error lacks a split of the least one"
+    kept = [set(roll.sample(sorted(heights), roll.randint(1, 3))) for _ in range(6)]
+    for tolerance, points in zip(roll.choices(sorted({worst for worst, _, _ in meshes}), k=len(kept)), kept):
+        within = [(count, split) for worst, count, split in meshes
+                  if worst <= tolerance and points <= set(vertices_of(terrain, leaves_of(split)))]
+        fewest = min(count for count, _ in within)
+        best = [split for count, split in within if count == fewest]
+        assert best == [fit_error(terrain, errors, tolerance, points)], "another set with the points has as few triangles for the error"
     for budget in range(2, 2 * m * m + 2):
         worst, count = min((worst, count) for worst, count, _ in meshes if count <= budget)
         best = [split for other, size, split in meshes if other == worst and size == count]

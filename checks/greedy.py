@@ -5,7 +5,7 @@ usage: checks/greedy.py WORD ..    the words of the program
 
 Slow and plain: it looks at every triangle, every diamond and every point (terrain.py, frames.py, strips.py, fitting.py,
 certifying.py, fit_certifying.py).
-Exit statuses are those of the program: 2 where the words are no command, 4 where a line of a script is refused, 5 where a
+Exit statuses are those of the program: 2 where the words are no command, 4 where a line of a script or of points is refused, 5 where a
 file cannot be read, 6 where a mesh cannot be written, 7 where a certificate is rejected. Grids are raw PGM files
 without comments; no grid is refused. `certify make` and `certify make-fit` write a sound certificate, of which there are many."""
 import re
@@ -17,7 +17,7 @@ import fit_certifying
 import fitting
 import generated
 from frames import View, frame_of, least_split, leaves_of, mesh_text, run_of_steps, vertices_of
-from scripts import Refused, frames_of, is_signed
+from scripts import Refused, frames_of, is_signed, points_of
 from strips import deviation, strip_of, turns_of
 from terrain import Terrain, read_grid
 
@@ -144,12 +144,15 @@ def goal_words(kind, bound):
     return (thousandths(bound), None) if kind == "error" else (None, budget_word(bound))
 
 
-def fit(grid, prefix, kind, bound, spacing):
+def fit(grid, prefix, kind, bound, spacing, keep=None, points=None):
     prefix, (error, budget), spacing = prefix_word(prefix), goal_words(kind, bound), spacing_word(spacing)
+    if keep is not None and (keep != "keep" or budget is not None):
+        raise Usage
     terrain = Terrain(read_grid(grid), spacing, MOST_TRIANGLES)
+    kept = [] if points is None else points_of(read(points), terrain.m)
     errors = fitting.Errors(terrain)
     if budget is None:
-        split = fitting.fit_error(terrain, errors, Fraction(error * terrain.m, 1000))
+        split = fitting.fit_error(terrain, errors, Fraction(error * terrain.m, 1000), kept)
     else:
         split = fitting.fit_budget(terrain, errors, budget)
     leaves = leaves_of(split)
@@ -231,7 +234,7 @@ def try_(n, seed):
 
 # By its word: a command, and how many words may follow.
 COMMANDS = {"mesh": (mesh, [5]), "info": (info, [1]), "try": (try_, [2]), "least": (least, [5]), "strip": (strip, [5]),
-            "measure": (measure, [4]), "certify": (certify, [5, 6, 7]), "fit": (fit, [5])}
+            "measure": (measure, [4]), "certify": (certify, [5, 6, 7]), "fit": (fit, [5, 7])}
 
 
 def main(words):

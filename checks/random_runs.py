@@ -178,6 +178,34 @@ def fits(draw: Any, are_right: bool = False) -> Run:
     return Run({"g": ground.grid()}, ["fit", "g", "out", *goal, str(ground.spacing)])
 
 
+def point_lines(ground: Ground) -> list[str]:
+    """Lines of points: none, some or all of the grid, blank ones and comments among them; now and then one is refused."""
+    roll, side = ground.roll, ground.side
+    every = [(x, y) for y in range(side) for x in range(side)]
+    some = roll.draw(st.lists(st.sampled_from(every), max_size=roll.choice([0, 1, side, len(every)]), unique=True))
+    lines = [f"{roll.choice(['', ' '])}{x}{roll.choice([' ', chr(9)])}{y}{roll.choice(['', ' ', chr(13)])}" for x, y in some]
+    for _ in range(min(roll.randint(0, 3), len(every) - len(lines))):
+        lines.insert(roll.randint(0, len(lines)), roll.choice(["", " ", "# a comment", "0 0", f"00 {ground.m}"]))
+    if roll.happens(5):
+        lines.insert(roll.randint(0, len(lines)),
+                     roll.choice(["1", "1 2 3", "1 x", "x 1", "-1 0", f"0 {side}", f"{side} y", "1.0 2", "#" * 201, "1,2",
+                                  "\n" * len(every)]))
+    return lines
+
+
+@st.composite
+def keeps(draw: Any) -> Run:
+    """A run of `fit` that keeps points; now and then a line of them is refused, or the words are wrong."""
+    ground = Ground(Roll(draw))
+    roll = ground.roll
+    words = ["fit", "g", "out", "error", ground.error(), str(ground.spacing), "keep", "p"]
+    if roll.happens(10):
+        place, word = roll.choice([(3, "budget"), (6, "Keep"), (4, "5."), (5, "0"), (2, "")])
+        words[place] = word
+    points = "\n".join(point_lines(ground)) + roll.choice(["", "\n"])
+    return Run({"g": ground.grid(), "p": points.encode()}, words[:-1] if roll.happens(20) else words)
+
+
 @st.composite
 def frames(draw: Any) -> Run:
     """The words of `certify make`, and a script that makes the same frame."""

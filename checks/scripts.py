@@ -1,4 +1,4 @@
-"""The lines of a script: what they do to a terrain, and why they are refused."""
+"""The lines of a script: what they do to a terrain, and why they are refused; and those of a file of points."""
 import re
 
 
@@ -107,3 +107,26 @@ def frames_of(terrain, text):
             yield frames
         else:
             carry_out(terrain, command, values)
+
+
+def point_of(line, m):
+    """The point of a line of a file of points; None of a blank line."""
+    if len(line) > 200:
+        raise Refused("line too long")
+    fields = fields_of(line)
+    if not fields or fields[0].startswith(b"#"):
+        return None
+    return tuple(numbers(fields, [(0, m), (0, m)]))
+
+
+def points_of(text, m):
+    """The points of a file, of a grid of m steps a side."""
+    found = []
+    for number, line in enumerate(lines_of(text), 1):
+        try:
+            if number > (m + 1) ** 2:
+                raise Refused("too many lines")
+            found.append(point_of(line, m))
+        except Refused as why:
+            raise Refused(f"line {number} refused: {why}") from None
+    return [point for point in found if point is not None]

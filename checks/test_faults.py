@@ -201,6 +201,7 @@ def test_script_that_ends(place: Place, script: str, refusal: bytes) -> None:
     ("a_fit_certificate_that_cannot_be_read", "certify check-fit g o FILE error 1 1", "certificate"),
     ("a_fitted_mesh_that_cannot_be_read", "certify check-fit g FILE c error 0 1", "mesh"),
     ("a_script_that_cannot_be_read", "mesh g FILE out 2 1", "script"),
+    ("points_that_cannot_be_read", "fit g out error 1 1 keep FILE", "points"),
 )
 def test_read(place: Place, words: str, what: str) -> None:
     if subprocess.run(["head", "-c", "1", "/proc/self/mem"], capture_output=True, check=False).returncode == 0:

@@ -70,6 +70,7 @@ def refusing(tmp_path_factory: Any) -> Path:
     ("each_allocation_of_least_fails_in_turn", "least g s out 0 1"),
     ("each_allocation_of_fit_of_an_error_fails_in_turn", "fit g out error 0 1"),
     ("each_allocation_of_fit_of_a_budget_fails_in_turn", "fit g out budget 9 1"),
+    ("each_allocation_of_fit_that_keeps_points_fails_in_turn", "fit g out error 0 1 keep p"),
     ("each_allocation_of_certify_make_fails_in_turn", "certify make hill 0 0 0 4 1"),
     ("each_allocation_of_certify_check_fails_in_turn", "certify check hill o c 2 1"),
     ("each_allocation_of_certify_make_fit_fails_in_turn", "certify make-fit hill budget 2 1"),
@@ -83,6 +84,7 @@ def test_memory(place: Place, refusing: Path, words: str) -> None:
     place.write("o", flat_mesh(2))
     place.write("c", "camera 0 0 0\nleaf 2\nleaf 3\nwant 2\n")
     place.write("f", "tolerance 20\nmesh\noff 2 1 1\n")
+    place.write("p", "1 0\n2 2\n")
     for number in range(1, 1001):
         place.run(*words.split(), env={**os.environ, "REFUSE": str(number), "LD_PRELOAD": str(refusing)})
         if place.status == 0:

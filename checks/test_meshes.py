@@ -135,6 +135,13 @@ def test_random_runs_of_fit(program: Path, run: Run) -> None:
         them.check(*run.words)
 
 
+@given(run=runs.keeps())
+@random_runs()
+def test_random_runs_of_keep(program: Path, run: Run) -> None:
+    with both(program, run.files) as them:
+        them.check(*run.words)
+
+
 # A run of a script, and its runs again with the worst of its first frame as tolerance, and with one less.
 @given(run=runs.scripts("least"))
 @random_runs()

@@ -13,7 +13,8 @@ FIVE = "GRID SCRIPT PREFIX BUDGET SPACING"
 BUDGET = "a whole number from 2 to 1048576 is wanted"
 REACH = "a whole number from -1073741824 to 1073741824 is wanted"
 COMMANDS = "the commands are info, try, mesh, strip, least, measure, fit and certify"
-FIT = "fit wants 5 words behind it, {} were given: GRID PREFIX error E SPACING, or GRID PREFIX budget BUDGET SPACING"
+FIT = ("fit wants 5 or 7 words behind it, {} were given: GRID PREFIX error E SPACING, "
+       "GRID PREFIX error E SPACING keep POINTS, or GRID PREFIX budget BUDGET SPACING")
 FIT_MAKE = "certify make-fit wants 4 words behind it, {} given: GRID error E SPACING, or GRID budget BUDGET SPACING"
 ERROR = "a number from 0 to 65535.999 with at most three places behind a point is wanted"
 TASKS = "'make', 'check', 'make-fit' or 'check-fit'"
@@ -69,7 +70,15 @@ TASKS = "'make', 'check', 'make-fit' or 'check-fit'"
      "least g s out 1"),
     ("fit_without_a_number", FIT.format("2"), "fit g out"),
     ("fit_without_a_spacing", FIT.format("4"), "fit g out error 1"),
-    ("fit_with_one_word_more", FIT.format("6"), "fit g out error 1 1 1"),
+    ("fit_of_a_budget_with_one_word_more", FIT.format("6"), "fit g out budget 2 1 1"),
+    ("fit_of_an_error_with_one_word_more", "fit wants 'keep' and POINTS behind SPACING, or nothing, and not '1'",
+     "fit g out error 1 1 1"),
+    ("fit_with_another_word_for_keep", "fit wants 'keep' and POINTS behind SPACING, or nothing, and not 'Keep'",
+     "fit g out error 1 1 Keep p"),
+    ("fit_that_keeps_without_points", FIT.format("6"), "fit g out error 1 1 keep"),
+    ("fit_that_keeps_two_files", FIT.format("8"), "fit g out error 1 1 keep p q"),
+    ("fit_of_a_budget_that_keeps_points", FIT.format("7"), "fit g out budget 2 1 keep p"),
+    ("fit_that_keeps_with_a_wrong_error", f"E is '-1': {ERROR}", "fit g out error -1 1 keep p"),
     ("fit_with_another_word", "fit wants 'error' or 'budget' behind GRID PREFIX, and not 'errors'",
      "fit g out errors 1 1"),
     ("fit_with_an_empty_prefix", "PREFIX is '': 1 to 200 bytes are wanted", "fit g  error 1 1"),

@@ -86,11 +86,13 @@ fi
 # What a reader of the two main contracts has to know: how many clauses they have, and to how many words they unfold
 # (checks/words.py). Within the crates of the run, of Statement.antt and Moment.antt alone (the page of the contract), and of a frame
 # within the crates of the engine. A word of geometry or of a format counts once, by its name: docs/FORMATS.md and
-# docs/DEFINITIONS.md have them. Of run_laws these are the lines of the report, the text of a certificate, and turns.
+# docs/DEFINITIONS.md have them. Of run_laws these are the lines of the report, the text of a certificate and of points,
+# and turns. A fit that keeps points took 18 words: its words, its file in what stands after each status, and the best mesh of
+# those that have the points as vertices, once by what is split and once by vertices.
 runs=run_words,run_files,run_script,run_check,run_fit,run_fit_check,run_engine,roam_run
 for module in crates/run_laws/specs/*.antt; do
   module=$(basename "$module" .antt)
-  case $module in ReportText | CertFile | FitCertFile | Turns) ;; *) runs=$runs,run_laws.specs.$module ;; esac
+  case $module in ReportText | CertFile | PointFile | FitCertFile | Turns) ;; *) runs=$runs,run_laws.specs.$module ;; esac
 done
 engine=frame_loop,leaf_list,roam_mesh,deferred_loop,frame_steps,closure_laws,edge_laws,view_priority,triangle_pool,bintree_addr
 page=run_laws.specs.Statement,run_laws.specs.Moment
@@ -99,8 +101,8 @@ short() {
   said=$(python3 checks/words.py "$@") || tail -n 1 <<<"$said"
 }
 if has the_main_contracts_have_few_words python3; then
-  none roam_has_ten_clauses "$(short crates/roam_run/src/run.rt roam --ensures 10 --most 240 --within "$runs")"
-  none roam_has_a_page_of_words "$(short crates/roam_run/src/run.rt roam --most 60 --within "$page")"
+  none roam_has_ten_clauses "$(short crates/roam_run/src/run.rt roam --ensures 10 --most 260 --within "$runs")"
+  none roam_has_a_page_of_words "$(short crates/roam_run/src/run.rt roam --most 62 --within "$page")"
   none a_frame_has_few_words "$(short crates/frame_loop/src/frame.rt frame --ensures 8 --most 120 --within "$engine")"
 fi
 

@@ -21,7 +21,7 @@ use roam_edge::{MeshSink, Shelf, Sink};
 use run_check::run_check;
 use run_engine::{EngineFrames, run_make, sums_of, try_report};
 use run_files::{Lent, Outside, end_with_text, grid_or_end, run_info};
-use run_fit::run_fit;
+use run_fit::{run_fit, run_keep};
 use run_fit_check::{run_fit_check, run_fit_make};
 use run_laws::{Status, fitting_laws, run_laws, state_laws};
 use run_script::{run_least, run_script};
@@ -79,7 +79,8 @@ impl Run {
 ///   the script it writes the best mesh within the budget, and then a line of the report; `strip` does so with the
 ///   triangles in the order of their strip; `least` with the least mesh of a tolerance; `measure` writes a line alone,
 ///   on how far the best mesh is from the surface.
-/// - `fit` reads a grid, and writes its fitted mesh for an error or a budget, and a line.
+/// - `fit` reads a grid, and writes its fitted mesh for an error or a budget, and a line; with `keep` it reads points
+///   behind the grid, and the mesh has them as vertices.
 /// - `certify make` and `certify make-fit` read a grid, and write a certificate of its best mesh, or of its fitted one;
 ///   `certify check` and `certify check-fit` read one beside a mesh, and write whether the mesh is certified by it.
 /// - `info` reads a grid, and writes a line on it. `try` reads nothing: it makes a grid and a script from a level and
@@ -89,7 +90,7 @@ impl Run {
 /// two sinks is told, so `ends` shows it where the write of either fails. The first call that fails ends the run.
 /// Proved of this: each of shelf, meshes and report that had not failed before the run is not called again once a call
 /// of it has failed (`leaves`); and where contents are told, nothing is written after a write that failed (`ends`).
-/// A run that ends NoMemory has opened no script (`ends`), since all memory is taken before.
+/// A run that ends NoMemory has opened no script and no points (`ends`), since all memory is taken before.
 ///
 /// A shelf and sinks in memory tell what they hold, in ghost values, and the clauses speak of their bytes. Real files
 /// tell no contents. Over them `causes`, `untouched` and `leaves` hold, and what speaks of outcomes alone; of a command
@@ -235,6 +236,7 @@ fn run_command<O: Outside>(alloc: Global, command: &Command<'_>, outside: &mut O
         Command::Make(words) => Run::without_engine(run_make(alloc, words, outside)),
         Command::Check(words) => Run::without_engine(run_check(alloc, words, outside)),
         Command::Fit(words) => Run::without_engine(run_fit(alloc, words, outside)),
+        Command::Keep(words) => Run::without_engine(run_keep(alloc, words, outside)),
         Command::MakeFit(words) => Run::without_engine(run_fit_make(alloc, words, outside)),
         Command::CheckFit(words) => Run::without_engine(run_fit_check(alloc, words, outside)),
     }

@@ -6,7 +6,7 @@ ghost use Rattle.std.specs.Prelude.{◌≡◌};
 pub const VERSION: &str = "roam 1.0";
 
 /// The forms of the words, line by line.
-const USAGE: [&str; 20] = [
+const USAGE: [&str; 21] = [
     "usage: roam mesh GRID SCRIPT PREFIX BUDGET SPACING",
     "       roam strip GRID SCRIPT PREFIX BUDGET SPACING",
     "       roam least GRID SCRIPT PREFIX TOLERANCE SPACING",
@@ -18,10 +18,11 @@ const USAGE: [&str; 20] = [
     "       roam certify check-fit GRID OBJ CERT error E SPACING",
     "       roam certify check-fit GRID OBJ CERT budget BUDGET SPACING",
     "       roam fit GRID PREFIX error E SPACING",
+    "       roam fit GRID PREFIX error E SPACING keep POINTS",
     "       roam fit GRID PREFIX budget BUDGET SPACING",
     "       roam info GRID",
     "       roam try N SEED",
-    "GRID, SCRIPT, OBJ and CERT are names of files; PREFIX has 1 to 200 bytes. The others are whole numbers:",
+    "GRID, SCRIPT, OBJ, CERT and POINTS are names of files; PREFIX has 1 to 200 bytes. The others are whole numbers:",
     "BUDGET 2 to 1048576, TOLERANCE 0 to 999999999999, SPACING 1 to 1024, N 1 to 11, SEED 0 to 4294967295,",
     "X, Y and Z -1073741824 to 1073741824. E is a number of units of height from 0 to 65535.999, as 2.5.",
     "examples:",

@@ -1,3 +1,4 @@
 pub mod InfoLemmas
 pub mod ReadingLemmas
 pub mod CertStageLemmas
+mod PointStageLemmas

@@ -1,2 +1,3 @@
 pub mod CertStage
+pub mod PointStage
 pub mod GridStop

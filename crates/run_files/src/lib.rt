@@ -1,9 +1,9 @@
 //! The files that a command line names, and the lines of the report that tell of no frame.
 //!
 //! For the crates that carry a command out. An `Outside` is what a run calls: a shelf, a sink of meshes and a report
-//! (`Lent`). Grids and certificates are read from it, in pieces, to their end or their first refusal; a mesh with its
-//! line is written to it, and so is a text that ends a run. The whole command `info` is here. What makes a frame is a
-//! trait here (`FrameMaker`), and who makes one is not known.
+//! (`Lent`). Grids, certificates and points are read from it, in pieces, to their end or their first refusal; a mesh
+//! with its line is written to it, and so is a text that ends a run. The whole command `info` is here. What makes a
+//! frame is a trait here (`FrameMaker`), and who makes one is not known.
 
 #![tactic(auto)]
 
@@ -14,6 +14,7 @@ mod info;
 mod limits;
 mod maker;
 mod outside;
+mod points_file;
 mod report;
 mod show;
 mod text;
@@ -25,6 +26,7 @@ pub use info::run_info;
 pub use limits::limit_laws;
 pub use maker::FrameMaker;
 pub use outside::{Lent, Outside};
+pub use points_file::{PointStop, read_points};
 pub use report::{grid_report, line_report, push_placed};
 pub use show::show_mesh;
 pub use text::{TEXT_ROOM, Text};

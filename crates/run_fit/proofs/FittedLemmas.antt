@@ -1,5 +1,5 @@
 -- A frame is the mesh of its target; and that mesh, written or cut short, ends the command.
-use Rattle.std.proofs.Common.{◌≡◌, false, ℕ, ◌+◌, ◌-◌, ◌^◌, ◌<◌, ◌≤◌, List, [], ◌∷◌, length, None, Some, inl, inr, refl}
+use Rattle.std.proofs.Common.{◌≡◌, ℕ, ◌-◌, ◌^◌, ◌<◌, ◌≤◌, List, [], ◌∷◌, length, None, Some, inl, inr, refl}
 use Rattle.std.proofs.Common.{sym, ◌∙◌, ap, subst, arith, lit<}
 use Rattle.std.proofs.Math.Nat.{pow-le-pow_right}
 use Rattle.std.proofs.lemmas.Bool.{cases_lt}
@@ -106,27 +106,31 @@ framed-fitted f target grid seen tolerance budget low same wedges level toleranc
     }
 
 -- what is done with the mesh is what the outcome says
-acts-fitted : (w : Fitting) (f : Fitted) (target : Target) (grid : HeightField) → IsFittedTo f target grid →
-    fitted_acts w f ≡ fit_acts w grid f.fit.leaves
-acts-fitted w f target grid is =
+pub acts-fitted : (w : Fitting) (f : Fitted) (grid : HeightField) → f.wedges ≡ grid
+    → f.note.triangles ≡ length f.fit.leaves → f.note.vertices ≡ length (vertices_of grid.n f.fit.leaves)
+    → f.note.deviation ≡ deviation_of grid.n grid.heights f.fit.leaves
+    → fitted_acts w.prefix w.spacing f ≡ fit_acts w grid f.fit.leaves
+acts-fitted w f grid same_grid triangles_is vertices_is deviation_is =
     let leaves : List ℕ = f.fit.leaves in
     let acts : HeightField → ℕ → ℕ → ℕ → List Act = λ field triangles vertices deviation.
     WholeMesh w.prefix 1 (fit_text w.spacing field leaves)
     ∷ (ReportText (fit_numbers field.n triangles vertices deviation) ∷ []) in
-    ap (λ (field : HeightField). acts field f.note.triangles f.note.vertices f.note.deviation) is.same_grid
-    ∙ (ap (λ (k : ℕ). acts grid k f.note.vertices f.note.deviation) is.triangles
-    ∙ (ap (λ (k : ℕ). acts grid (length leaves) k f.note.deviation) is.vertices
-    ∙ ap (λ (k : ℕ). acts grid (length leaves) (length (vertices_of grid.n leaves)) k) is.deviation))
+    ap (λ (field : HeightField). acts field f.note.triangles f.note.vertices f.note.deviation) same_grid
+    ∙ (ap (λ (k : ℕ). acts grid k f.note.vertices f.note.deviation) triangles_is
+    ∙ (ap (λ (k : ℕ). acts grid (length leaves) k f.note.deviation) vertices_is
+    ∙ ap (λ (k : ℕ). acts grid (length leaves) (length (vertices_of grid.n leaves)) k) deviation_is))
 
 -- the mesh and its line end the command, written or cut short
 pub fitted-runs : (before middle now : Moment) (name : List ℕ) (w : Fitting) (grid : HeightField)
     (f : Fitted) (status : Status)
     → ReadsGrid before middle name grid → IsFittedTo f w.target grid
-    → EndsWith middle now (fitted_acts w f) Done status → Runs before now (Some (OnGrid name (Fit w))) status None
+    → EndsWith middle now (fitted_acts w.prefix w.spacing f) Done status
+    → Runs before now (Some (OnGrid name (Fit w))) status None
 fitted-runs before middle now name w grid f status read is ends =
-    job-runs before middle now name (Fit w) grid (fitted_acts w f) status read refl refl
+    job-runs before middle now name (Fit w) grid (fitted_acts w.prefix w.spacing f) status read refl refl
     (λ files. (
       f.fit.leaves,
       is.fitted,
-      ap (λ (acts : List Act). plain_outcome acts Done 1) (acts-fitted w f w.target grid is),
+      ap (λ (acts : List Act). plain_outcome acts Done 1)
+          (acts-fitted w f grid is.same_grid is.triangles is.vertices is.deviation),
     )) (λ text_alone. cc) ends

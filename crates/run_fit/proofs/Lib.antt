@@ -1,2 +1,3 @@
 pub mod FittedLemmas
+mod KeptLemmas
 pub mod TextLemmas

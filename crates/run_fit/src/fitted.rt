@@ -1,12 +1,15 @@
 //! A mesh that was fitted to a grid.
 
-ghost use Rattle.std.specs.Prelude.{◌≡◌, ◌*◌, ◌≤◌, IfOk};
+ghost use Rattle.std.specs.Prelude.{◌≡◌, ◌*◌, ◌^◌, ◌≤◌, [], All, IfOk, length, vec_capacity};
 ghost use Rattle.mesh_defs.specs.declared.level.TheConstants.{GREATEST_LEVEL};
+ghost use Rattle.bintree_laws.specs.Corners.{IsInSquare};
 ghost use Rattle.word_laws.specs.Words.{greatest_error};
 ghost use Rattle.run_laws.specs.Fit.{tolerance_of};
 ghost use Rattle.run_words.specs.FitView.{target_seen, IsTarget};
-ghost use Rattle.run_fit.specs.FittedSeen.{IsFittedTo, tolerance_for, budget_for};
+ghost use Rattle.run_fit.specs.FittedSeen.{IsFittedTo, IsKeptOn, tolerance_for, budget_for};
 
+use crate::required::list_required;
+use bintree_addr::{Point, Tri};
 use fit_mesh::{Fit, FitNote};
 use pgm_grid::Grid;
 use roam_edge::NoMemory;
@@ -35,6 +38,28 @@ impl Fitted {
         let note = fit.frame(wedges.grid(), tolerance_in(target, n));
         Ok(Fitted { wedges, fit, note })
     }
+}
+
+/// Fits a mesh that keeps points of the grid for an error of so many thousandths of a unit of height. Takes no memory.
+pub(crate) fn fit_kept(
+    wedges: Wedges,
+    mut fit: Fit,
+    points: &[Point],
+    mut required: Vec<Tri>,
+    thousandths: u32,
+) -> Fitted
+    requires level { fit.n ≡ wedges.n }
+    requires n_low { 1 ≤ wedges.n }
+    requires high { thousandths ≤ greatest_error }
+    requires inside { All (λ p. IsInSquare (2 ^ wedges.n) p) points.now }
+    requires empty { required.items ≡ [] }
+    requires room { length points.now ≤ vec_capacity required }
+    ensures { IsKeptOn result thousandths points.now wedges }
+{
+    let n = wedges.grid().n();
+    list_required(n, points, &mut required);
+    let note = fit.frame_with(wedges.grid(), tolerance(thousandths, n), &required);
+    Fitted { wedges, fit, note }
 }
 
 /// The most triangles that a mesh may have; for an error there is no bound.

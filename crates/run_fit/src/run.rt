@@ -4,6 +4,8 @@ ghost use Rattle.std.specs.Prelude.{◌≡◌, ◌^◌, ◌≤◌, None, Some, f
 ghost use Rattle.word_laws.specs.Words.{OnGrid, Fit};
 ghost use Rattle.run_laws.specs.Moment.{Does};
 ghost use Rattle.run_laws.specs.Leaving.{Runs};
+ghost use Rattle.wedgie_tree.specs.declared.wedges.TheConstants.{GREATEST_SPACING};
+ghost use Rattle.run_words.specs.ShowView.{IsPrefixLength};
 ghost use Rattle.run_words.specs.FitView.{fitting_seen, IsFitting};
 ghost use Rattle.run_fit.specs.FittedSeen.{fitted_acts};
 
@@ -32,7 +34,7 @@ pub fn run_fit<O: Outside>(alloc: Global, words: &FitWords<'_>, outside: &mut O)
 {
     match grid_or_end(alloc, words.grid, outside) {
         Ok(grid) => match Fitted::make(alloc, grid, words.target) {
-            Ok(fitted) => match show(&fitted, words, outside) {
+            Ok(fitted) => match show(&fitted, words.prefix, words.spacing, outside) {
                 Ok(()) => Status::Done,
                 Err(_) => Status::WriteFault,
             },
@@ -43,24 +45,31 @@ pub fn run_fit<O: Outside>(alloc: Global, words: &FitWords<'_>, outside: &mut O)
 }
 
 /// Writes the mesh, and then its line. The line comes only after the mesh was finished.
-fn show<O: Outside>(fitted: &Fitted, words: &FitWords<'_>, outside: &mut O) -> Result<(), Failed>
+pub(crate) fn show<O: Outside>(
+    fitted: &Fitted,
+    prefix: &str,
+    spacing: u32,
+    outside: &mut O,
+) -> Result<(), Failed>
     requires idle { (O.moment outside.old).under_way ≡ false }
-    requires accepted { IsFitting words.now }
+    requires shown { IsPrefixLength prefix.now }
+    requires spacing_low { 1 ≤ spacing }
+    requires spacing_high { spacing ≤ GREATEST_SPACING }
     requires level { fitted.now.fit.n ≡ fitted.now.wedges.n }
     ensures same { O.is_same outside.old outside.new }
     ensures does { Does (O.moment outside.old) (O.moment outside.new)
-        (fitted_acts (fitting_seen words.now) fitted.now) result }
+        (fitted_acts prefix.now spacing fitted.now) result }
 {
     let table = fitted.fit.numbers();
     let mesh = MeshView {
         wedges: &fitted.wedges,
         leaves: fitted.fit.leaves(),
         numbers: table.numbers(),
-        spacing: words.spacing,
+        spacing,
         planes: &Planes::none(),
     };
     let view = SparseView::by_table(mesh, table);
     let n = fitted.wedges.grid().n();
     let line = fit_report(n, &fitted.note);
-    show_mesh(&view, words.prefix, 1, line.as_slice(), outside)
+    show_mesh(&view, prefix, 1, line.as_slice(), outside)
 }

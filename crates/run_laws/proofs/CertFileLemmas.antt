@@ -50,7 +50,7 @@ lines_behind-append {S = S} step number said last (x ∷ xs) ys is =
     go (Some next) rest e = rest next e ∙ ap (λ (k : ℕ). lines_behind step k last ys) (omega arith)
 
 -- the lines of whole lines and of what follows them
-lines_of-whole : (whole more : List ℕ) → AreWhole whole → lines_of (whole ++ more) ≡ lines_of whole ++ lines_of more
+pub lines_of-whole : (whole more : List ℕ) → AreWhole whole → lines_of (whole ++ more) ≡ lines_of whole ++ lines_of more
 lines_of-whole whole more (inl none) =
     subst (λ (l : List ℕ). lines_of (l ++ more) ≡ lines_of l ++ lines_of more) (sym none) refl
 lines_of-whole whole more (inr (head, is)) =

@@ -1,52 +1,56 @@
--- The headline of a fit follows from what stands after each status.
+-- The headline of a fit follows from what stands after each status: whether it keeps points or not.
 use Rattle.std.proofs.lemmas.List.Elements.{All-nil, All-cons}
-use Rattle.std.proofs.Common.{◌≡◌, ◌≢◌, ℕ, true, false, IsTrue, List, [], ◌∷◌, ◌++◌, Option, Some, Result}
+use Rattle.std.proofs.Common.{◌≡◌, ◌≢◌, ℕ, true, false, IsTrue, List, [], ◌∷◌, ◌++◌, Option, Some, Result, Ok}
 use Rattle.std.proofs.Common.{inl, inr, refl, sym, ◌∙◌, ap, subst, append-nil, arith}
 use Rattle.std.specs.List.{All}
+use Rattle.mesh_defs.specs.declared.point.Point.{Point}
 use Rattle.mesh_defs.specs.HeightField.{HeightField}
 use Rattle.roam_edge.specs.MeshSink.{WrittenMesh}
 use Rattle.roam_edge.specs.Shelf.{NamedFile, bytes_of}
 use Rattle.pgm_grid.specs.declared.fault.PgmFault.{PgmFault}
 use Rattle.pgm_grid.specs.Laws.{TextsAreRead}
+use Rattle.roam_script.specs.PointText.{PointsAreInGrid}
 use Rattle.obj_write.specs.Written.{mesh_with}
 use Rattle.run_laws.specs.declared.status.Status.{Status}
 use Rattle.run_laws.specs.declared.status.Status.TheVariants.{Done, NoMemory, Usage, GridRefused, ScriptRefused}
 use Rattle.run_laws.specs.declared.status.Status.TheVariants.{ReadFault, WriteFault, Rejected}
-use Rattle.word_laws.specs.Words.{Fitting, Fit, Command, OnGrid, has_script, command_of}
-use Rattle.run_laws.specs.Fit.{fit_text}
+use Rattle.word_laws.specs.Words.{Fitting, Keeping, Job, Fit, Keep, Command, OnGrid, has_script, command_of}
+use Rattle.run_laws.specs.Walk.{Refusal}
+use Rattle.run_laws.specs.Fit.{IsFitFor, IsBestFit, IsKeptFor, IsFewestKeeping, fit_text}
+use Rattle.run_laws.specs.PointFile.{points_in}
 use Rattle.run_laws.specs.ReportText.{fit_line}
-use Rattle.run_laws.specs.Act.{Told, Stands, IsCutShort}
+use Rattle.run_laws.specs.Act.{Act, WholeMesh, ReportText, Told, Stands, IsCutShort}
 use Rattle.run_laws.specs.CutShort.{StandsInMesh}
-use Rattle.run_laws.specs.Outcome.{Outcome, IsJobOutcome, IsGridOutcome, IsOutcome}
+use Rattle.run_laws.specs.Outcome.{Outcome, IsJobOutcome, IsKeepOutcome, IsGridOutcome, IsOutcome}
 use Rattle.run_laws.specs.Promise.{Seen, is_complete, EndsRight, LeavesAtReadFault, LeavesAtNoMemory}
-use Rattle.run_laws.specs.Headline.{IsRunOf, IsFitMeshOf, KeepsFitMesh}
+use Rattle.run_laws.specs.Headline.{IsRunOf, IsOneMeshOf, KeepsOneMesh, KeepsFitMesh, KeepsKeptMesh}
 use Rattle.run_laws.proofs.BestLemmas.{same-command}
 use Rattle.run_laws.proofs.CutShortLemmas.{mesh_cut}
 use Rattle.run_laws.proofs.FitLemmas.{fit-best}
+use Rattle.run_laws.proofs.KeepLemmas.{kept-best}
+use Rattle.run_laws.proofs.PointFileLemmas.{points-in_grid}
 
--- a fit has no script
-no-script : (name : List ℕ) (f : Fitting) → IsTrue (has_script (OnGrid name (Fit f))) → ⊥
-no-script name f is = cc
+-- the acts of an outcome are a mesh that is right, and then its line
+abbrev IsOneMesh : List ℕ → ℕ → HeightField → (List ℕ → Type 0) → Outcome → Type 0
+IsOneMesh begin spacing grid is_fit end = (triangles : List ℕ) × is_fit triangles
+    × (end.acts ≡ WholeMesh begin 1 (fit_text spacing grid triangles) ∷ (ReportText (fit_line grid triangles) ∷ []))
 
-module _ (read_texts : TextsAreRead) (words : List (List ℕ)) (files : List NamedFile) (f : Fitting) (grid : HeightField)
-    (run : IsRunOf words files (Fit f) grid)
+-- Each outcome of these words is a mesh that is right, and its line. They name no script.
+module _ (words : List (List ℕ)) (files : List NamedFile) (name : List ℕ) (job : Job)
+    (is_command : command_of words ≡ Some (OnGrid name job)) (no_script : IsTrue (has_script (OnGrid name job)) → ⊥)
+    (begin : List ℕ) (spacing : ℕ) (grid : HeightField) (is_best is_fit : List ℕ → Type 0)
+    (best : (triangles : List ℕ) → is_fit triangles → is_best triangles)
+    (one_mesh : (end : Outcome) → IsOutcome (command_of words) files end → IsOneMesh begin spacing grid is_fit end)
     (before now : Told) (old new : Seen) (all : List WrittenMesh) (there : before.meshes ≡ Some all) where
   abbrev Keeps : Status → Type 0
-  Keeps status = KeepsFitMesh f grid before now all status
+  Keeps status = KeepsOneMesh begin spacing grid is_best is_fit before now all status
 
   -- a mesh that is right if it is finished
   abbrev Fits : WrittenMesh → Type 0
-  Fits mesh = mesh.finished ≡ true → IsFitMeshOf f grid mesh
+  Fits mesh = mesh.finished ≡ true → IsOneMeshOf begin spacing grid is_best is_fit mesh
 
   one-fits : (mesh : WrittenMesh) → Fits mesh → All Fits (mesh ∷ [])
   one-fits mesh fits = All-cons Fits mesh [] fits (All-nil Fits)
-
-  -- the outcome of the words is that of the fit
-  fit-outcome : (end : Outcome) → IsOutcome (command_of words) files end → IsJobOutcome (Fit f) grid files end
-  fit-outcome end is =
-      let P : Option Command → Type 0 = λ c. IsOutcome c files end in
-      let Q : Result HeightField PgmFault → Type 0 = λ r. IsGridOutcome (Fit f) r files end in
-      subst Q (read_texts grid (bytes_of files run.grid_name) run.valid run.file_text) (subst P run.is_command is)
 
   -- nothing was done
   nothing : (status : Status) → status ≢ Done → Stands before now [] → Keeps status
@@ -59,20 +63,24 @@ module _ (read_texts : TextsAreRead) (words : List (List ℕ)) (files : List Nam
   }
 
   -- all was done
-  whole : (status : Status) (end : Outcome) → IsJobOutcome (Fit f) grid files end →
+  whole : (status : Status) (end : Outcome) → IsOneMesh begin spacing grid is_fit end →
       Stands before now end.acts → Keeps status
   whole status end is stands =
       let triangles : List ℕ = is.0 in
-      let fit = fit-best f.target grid triangles is.1.fit in
-      let stood = subst (λ (o : Outcome). Stands before now o.acts) is.2 stands in
+      let stood = subst (λ (acts : List Act). Stands before now acts) is.2 stands in
       record {
-        added = mesh_with f.prefix 1 (fit_text f.spacing grid triangles) true ∷ [];
+        added = mesh_with begin 1 (fit_text spacing grid triangles) true ∷ [];
         behind = stood.meshes_grow all there;
         one = omega arith;
-        fits = one-fits _ (λ finished. record { triangles = triangles; best = fit; fit = is.1.fit; is_mesh = refl });
+        fits = one-fits _ (λ finished. record {
+          triangles = triangles;
+          best = best triangles is.1;
+          fit = is.1;
+          is_mesh = refl;
+        });
         done = λ e. (
           triangles,
-          fit,
+          best triangles is.1,
           refl,
           λ report told. stood.report_grows report told
               ∙ ap (λ (l : List ℕ). Some (report ++ l)) (append-nil (fit_line grid triangles)),
@@ -81,11 +89,11 @@ module _ (read_texts : TextsAreRead) (words : List (List ℕ)) (files : List Nam
 
   -- the mesh was cut short
   in-mesh : (status : Status) → status ≢ Done → (bytes : List ℕ) →
-      StandsInMesh before now [] f.prefix 1 bytes → Keeps status
+      StandsInMesh before now [] begin 1 bytes → Keeps status
   in-mesh status undone bytes part =
       let came = part.mesh all there in
       record {
-        added = mesh_with f.prefix 1 came.0 false ∷ [];
+        added = mesh_with begin 1 came.0 false ∷ [];
         behind = came.2;
         one = omega arith;
         fits = one-fits _ (λ e. cc);
@@ -93,13 +101,13 @@ module _ (read_texts : TextsAreRead) (words : List (List ℕ)) (files : List Nam
       }
 
   -- or its line
-  cut : (status : Status) → status ≢ Done → (end : Outcome) → IsJobOutcome (Fit f) grid files end →
+  cut : (status : Status) → status ≢ Done → (end : Outcome) → IsOneMesh begin spacing grid is_fit end →
       IsCutShort before now end.acts → Keeps status
   cut status undone end is short =
       let triangles : List ℕ = is.0 in
-      let bytes : List ℕ = fit_text f.spacing grid triangles in
-      let at = subst (λ (o : Outcome). IsCutShort before now o.acts) is.2 short in
-      elim (mesh_cut before now [] f.prefix 1 bytes
+      let bytes : List ℕ = fit_text spacing grid triangles in
+      let at = subst (λ (acts : List Act). IsCutShort before now acts) is.2 short in
+      elim (mesh_cut before now [] begin 1 bytes
       (fit_line grid triangles) at.done at.next at.owed at.in_order at.standing) [
         | inl none ↦ record {
           added = [];
@@ -110,44 +118,84 @@ module _ (read_texts : TextsAreRead) (words : List (List ℕ)) (files : List Nam
         }
         | inr (inl part) ↦ in-mesh status undone bytes part
         | inr (inr text) ↦ record {
-          added = mesh_with f.prefix 1 bytes true ∷ [];
+          added = mesh_with begin 1 bytes true ∷ [];
           behind = text.meshes all there;
           one = omega arith;
           fits = one-fits _ (λ finished. record {
             triangles = triangles;
-            best = fit-best f.target grid triangles is.1.fit;
-            fit = is.1.fit;
+            best = best triangles is.1;
+            fit = is.1;
             is_mesh = refl;
           });
           done = λ e. absurd (undone e);
         }
       ]
 
-  -- a read failed: that of the grid
+  -- a read failed: that of the grid, or of the points
   at-read-fault : (status : Status) → status ≢ Done → LeavesAtReadFault before now old new words → Keeps status
   at-read-fault status undone leaves =
-      let same = same-command leaves.command (OnGrid run.grid_name (Fit f)) (sym leaves.is_command ∙ run.is_command) in
+      let same = same-command leaves.command (OnGrid name job) (sym leaves.is_command ∙ is_command) in
       nothing status undone
       (leaves.leaves.before_script (λ is.
-      absurd (no-script run.grid_name f (subst (λ (c : Command). IsTrue (has_script c)) same is))))
+      absurd (no_script (subst (λ (c : Command). IsTrue (has_script c)) same is))))
 
   complete : (status : Status) → IsTrue (is_complete status) → status ≢ NoMemory → status ≢ ReadFault →
       EndsRight before now old new words files status → Keeps status
   complete status done m r ends =
       let e = ends.ends m r in
-      whole status e.0 (fit-outcome e.0 e.1) (e.2.complete done).0
+      whole status e.0 (one_mesh e.0 e.1) (e.2.complete done).0
 
   -- whatever the status, the mesh is a best one if it is finished
-  pub fit-keeps : (status : Status) → EndsRight before now old new words files status →
+  one-keeps : (status : Status) → EndsRight before now old new words files status →
       (status ≡ ReadFault → LeavesAtReadFault before now old new words)
       → (status ≡ NoMemory → LeavesAtNoMemory before now old new words) → Keeps status
-  fit-keeps Done ends read memory = complete Done refl (λ e. cc) (λ e. cc) ends
-  fit-keeps NoMemory ends read memory = nothing NoMemory (λ e. cc) (memory refl).leaves.stands
-  fit-keeps Usage ends read memory = complete Usage refl (λ e. cc) (λ e. cc) ends
-  fit-keeps GridRefused ends read memory = complete GridRefused refl (λ e. cc) (λ e. cc) ends
-  fit-keeps ScriptRefused ends read memory = complete ScriptRefused refl (λ e. cc) (λ e. cc) ends
-  fit-keeps Rejected ends read memory = complete Rejected refl (λ e. cc) (λ e. cc) ends
-  fit-keeps ReadFault ends read memory = at-read-fault ReadFault (λ e. cc) (read refl)
-  fit-keeps WriteFault ends read memory =
+  one-keeps Done ends read memory = complete Done refl (λ e. cc) (λ e. cc) ends
+  one-keeps NoMemory ends read memory = nothing NoMemory (λ e. cc) (memory refl).leaves.stands
+  one-keeps Usage ends read memory = complete Usage refl (λ e. cc) (λ e. cc) ends
+  one-keeps GridRefused ends read memory = complete GridRefused refl (λ e. cc) (λ e. cc) ends
+  one-keeps ScriptRefused ends read memory = complete ScriptRefused refl (λ e. cc) (λ e. cc) ends
+  one-keeps Rejected ends read memory = complete Rejected refl (λ e. cc) (λ e. cc) ends
+  one-keeps ReadFault ends read memory = at-read-fault ReadFault (λ e. cc) (read refl)
+  one-keeps WriteFault ends read memory =
       let e = ends.ends (λ f. cc) (λ f. cc) in
-      cut WriteFault (λ f. cc) e.0 (fit-outcome e.0 e.1) (e.2.cut_short refl)
+      cut WriteFault (λ f. cc) e.0 (one_mesh e.0 e.1) (e.2.cut_short refl)
+
+-- the outcome of words over an accepted grid is that of their job
+job-outcome : TextsAreRead → (words : List (List ℕ)) (files : List NamedFile) (job : Job) (grid : HeightField)
+    (run : IsRunOf words files job grid) (end : Outcome) → IsOutcome (command_of words) files end
+    → IsJobOutcome job grid files end
+job-outcome read_texts words files job grid run end is =
+    let P : Option Command → Type 0 = λ c. IsOutcome c files end in
+    let Q : Result HeightField PgmFault → Type 0 = λ r. IsGridOutcome job r files end in
+    subst Q (read_texts grid (bytes_of files run.grid_name) run.valid run.file_text) (subst P run.is_command is)
+
+-- whatever the status, the mesh of a fit is a best one if it is finished
+pub fit-keeps : TextsAreRead → (words : List (List ℕ)) (files : List NamedFile) (f : Fitting) (grid : HeightField)
+    (run : IsRunOf words files (Fit f) grid) (before now : Told) (old new : Seen) (all : List WrittenMesh)
+    (there : before.meshes ≡ Some all) (status : Status) → EndsRight before now old new words files status →
+    (status ≡ ReadFault → LeavesAtReadFault before now old new words)
+    → (status ≡ NoMemory → LeavesAtNoMemory before now old new words) → KeepsFitMesh f grid before now all status
+fit-keeps read_texts words files f grid run before now old new all there =
+    one-keeps words files run.grid_name (Fit f) run.is_command (λ e. cc) f.prefix f.spacing grid
+    (IsBestFit f.target grid) (IsFitFor f.target grid) (fit-best f.target grid)
+    (λ end is. (let of_job = job-outcome read_texts words files (Fit f) grid run end is in
+    (of_job.0, of_job.1.fit, ap (λ (o : Outcome). o.acts) of_job.2)))
+    before now old new all there
+
+-- and that of a fit that keeps points is one of the fewest triangles that has them
+pub kept-keeps : TextsAreRead → PointsAreInGrid → (words : List (List ℕ)) (files : List NamedFile) (k : Keeping)
+    (grid : HeightField) (points : List Point) (run : IsRunOf words files (Keep k) grid)
+    → points_in grid.n (bytes_of files k.points) ≡ Ok points
+    → (before now : Told) (old new : Seen) (all : List WrittenMesh)
+    (there : before.meshes ≡ Some all) (status : Status) → EndsRight before now old new words files status →
+    (status ≡ ReadFault → LeavesAtReadFault before now old new words)
+    → (status ≡ NoMemory → LeavesAtNoMemory before now old new words) →
+    KeepsKeptMesh k points grid before now all status
+kept-keeps read_texts in_grid words files k grid points run found before now old new all there =
+    one-keeps words files run.grid_name (Keep k) run.is_command (λ e. cc) k.prefix k.spacing grid
+    (IsFewestKeeping k.thousandths points grid) (IsKeptFor k.thousandths points grid)
+    (kept-best k.thousandths points grid (points-in_grid in_grid grid.n (bytes_of files k.points) points found))
+    (λ end is. (let P : Result (List Point) Refusal → Type 0 = λ r. IsKeepOutcome k grid r end in
+    let of_job = subst P found (job-outcome read_texts words files (Keep k) grid run end is) in
+    (of_job.0, of_job.1.fit, ap (λ (o : Outcome). o.acts) of_job.2)))
+    before now old new all there

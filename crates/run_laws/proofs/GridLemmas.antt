@@ -11,8 +11,8 @@ use Rattle.pgm_grid.specs.Progress.{grid_of}
 use Rattle.run_laws.specs.declared.status.Status.{Status}
 use Rattle.run_laws.specs.declared.status.Status.TheVariants as ends
 use Rattle.run_laws.specs.Walk.{Walk, start_walk}
-use Rattle.word_laws.specs.Words.{Show, Scripted, Job, Frames, Facts, Command, OnGrid, Make, Check, Fit, MakeFit}
-use Rattle.word_laws.specs.Words.{CheckFit, names_of}
+use Rattle.word_laws.specs.Words.{Show, Scripted, Job, Frames, Facts, Command, OnGrid, Make, Check, Fit, Keep}
+use Rattle.word_laws.specs.Words.{MakeFit, CheckFit, names_of}
 use Rattle.run_laws.specs.Picture.{Picture}
 use Rattle.run_laws.specs.Act.{Act, Told, Stands}
 use Rattle.run_laws.specs.Outcome.{Outcome, EngineEnd, shown_acts, IsGridOutcome}
@@ -94,6 +94,7 @@ one-open name Facts = omega arith
 one-open name (Make m) = omega arith
 one-open name (Check c) = omega arith
 one-open name (Fit f) = omega arith
+one-open name (Keep k) = omega arith
 one-open name (MakeFit m) = omega arith
 one-open name (CheckFit c) = omega arith
 

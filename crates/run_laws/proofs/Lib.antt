@@ -8,6 +8,9 @@ pub mod DifferenceLemmas
 pub mod CertifyLemmas
 pub mod CertFileLemmas
 pub mod FitLemmas
+pub mod VertexLemmas
+pub mod KeepLemmas
+pub mod PointFileLemmas
 pub mod FitCertifyLemmas
 pub mod OutcomeLemmas
 pub mod MadeLemmas
@@ -23,4 +26,5 @@ pub mod GridLemmas
 pub mod DoesLemmas
 pub mod StatementLemmas
 pub mod RunLemmas
+pub mod KeepRunLemmas
 mod GeneratedLemmas

@@ -9,6 +9,7 @@ use Rattle.std.proofs.lemmas.List.Elements.{All-from_recursion}
 use Rattle.std.proofs.lemmas.Bool.{leb-true}
 use Rattle.std.proofs.lemmas.Bool.Decides.{leb_tells}
 use Rattle.std.proofs.lemmas.Option.{none-some}
+use Rattle.mesh_defs.specs.declared.point.Point.{Point}
 use Rattle.mesh_defs.specs.HeightField.{HeightField}
 use Rattle.mesh_defs.specs.State.{State, start_state}
 use Rattle.roam_edge.specs.Shelf.{NamedFile, bytes_of}
@@ -21,29 +22,31 @@ use Rattle.mesh_defs.specs.BoundingBox.{CameraAt}
 use Rattle.cert_text.specs.Certificate.{Certificate}
 use Rattle.roam_gen.specs.Generated.{made_grid, made_lines}
 use Rattle.run_laws.specs.declared.status.Status.TheVariants.{Done, Usage, GridRefused}
-use Rattle.run_laws.specs.Walk.{Walk, start_walk}
+use Rattle.run_laws.specs.Walk.{Refusal, Walk, start_walk}
 use Rattle.word_laws.specs.Words.{Show, as_meshes, as_strips, as_least, as_measures, as_sums, is_of_engine, Scripted}
-use Rattle.word_laws.specs.Words.{Making, Target, AtError, InBudget, Job, Frames, Facts, Make, Check, Fit, MakeFit}
-use Rattle.word_laws.specs.Words.{CheckFit, fit_make_command, fit_check_command, Command, OnGrid, Generated}
+use Rattle.word_laws.specs.Words.{Making, Target, AtError, InBudget, Job, Frames, Facts, Make, Check, Fit, Keep}
+use Rattle.word_laws.specs.Words.{MakeFit, CheckFit, fit_make_command, fit_check_command, Command, OnGrid, Generated}
 use Rattle.word_laws.specs.Words.{greatest_level, greatest_seed, number_word, try_command, within, least_budget}
 use Rattle.word_laws.specs.Words.{greatest_budget, is_coordinate, budget_word, spacing_word, tolerance_word, is_prefix}
 use Rattle.word_laws.specs.Words.{in_reach, coordinate_word, camera_word, frames_command, least_command, meshes_command}
 use Rattle.word_laws.specs.Words.{make_command, check_command, greatest_error, error_word, target_word, fit_command}
-use Rattle.word_laws.specs.Words.{fit_words, command_of}
+use Rattle.word_laws.specs.Words.{fit_words, keep_command, keep_words, command_of}
 use Rattle.fit_certificate_laws.specs.Certificate.{FitCertificate}
 use Rattle.run_laws.specs.CertFile.{cert_in, fit_cert_in}
+use Rattle.run_laws.specs.PointFile.{points_in}
 use Rattle.run_laws.specs.Picture.{Picture, ArePictures, IsCertified}
 use Rattle.run_laws.specs.ReportText.{info_line, grid_refusal}
 use Rattle.run_laws.specs.Outcome.{Outcome, plain_outcome, text_outcome, stop_status, engine_end, engine_for}
 use Rattle.run_laws.specs.Outcome.{frames_outcome, script_walk, made_budget, made_spacing, made_walk}
 use Rattle.run_laws.specs.Outcome.{MakesNoCertificate, IsFramesOutcome, IsCheckOutcome, IsFitCheckOutcome, IsJobOutcome}
-use Rattle.run_laws.specs.Outcome.{IsGridOutcome, IsOutcome}
+use Rattle.run_laws.specs.Outcome.{IsKeepOutcome, IsGridOutcome, IsOutcome}
 use Rattle.run_laws.specs.Promise.{IsAcceptedJob, IsAccepted}
 use Rattle.run_laws.specs.Laws.{FramesExist, RunsAreUnique, LevelsAreInRange, AreStates, BudgetsAreTwo}
 use Rattle.run_laws.proofs.PictureLemmas.{FramesAreUnique, SetsAreLists, ArePictures-unique, pictures_of, no-members}
 use Rattle.run_laws.proofs.CertifyLemmas.{IsOneText, make-text, check-text, check-unique, check-exists, check-done}
 use Rattle.run_laws.proofs.CertifyLemmas.{CertificatesExist, make-exists}
 use Rattle.run_laws.proofs.FitLemmas.{IsTargetOfWords, fit-unique, fit-exists}
+use Rattle.run_laws.proofs.KeepLemmas.{keep-unique, keep-exists, keep-done, keep-plain}
 use Rattle.run_laws.proofs.FitCertifyLemmas.{fit_make-text, fit_check-text, fit_check-unique, fit_check-exists}
 use Rattle.run_laws.proofs.FitCertifyLemmas.{fit_check-done, fit_make-exists}
 use Rattle.run_laws.proofs.WalkLemmas.{walk_of-states, made-states, along-stop}
@@ -62,6 +65,9 @@ job-done (Check c) grid files end good is =
     let P : Result Certificate ℕ → Type 0 = λ r. IsCheckOutcome c grid r (bytes_of files c.mesh) end in
     check-done c grid good.0 (bytes_of files c.mesh) end good.2 good.3 (subst P good.1 is)
 job-done (Fit f) grid files end good is = status-of end _ is.2
+job-done (Keep k) grid files end good is =
+    let P : Result (List Point) Refusal → Type 0 = λ r. IsKeepOutcome k grid r end in
+    keep-done k grid good.0 end (subst P good.1 is)
 job-done (MakeFit m) grid files end good is = status-of end _ is.2
 job-done (CheckFit c) grid files end good is =
     let P : Result FitCertificate ℕ → Type 0 = λ r. IsFitCheckOutcome c grid r (bytes_of files c.mesh) end in
@@ -105,6 +111,8 @@ job-unique one lists runs (Make m) (Ok grid) files end other free f g = absurd f
 job-unique one lists runs (Check c) (Ok grid) files end other free f g =
     check-unique c grid (cert_in grid.n (bytes_of files c.certificate)) (bytes_of files c.mesh) end other f g
 job-unique one lists runs (Fit job) (Ok grid) files end other free f g = fit-unique job grid files end other f g
+job-unique one lists runs (Keep k) (Ok grid) files end other free f g =
+    keep-unique k grid (points_in grid.n (bytes_of files k.points)) end other f g
 job-unique one lists runs (MakeFit m) (Ok grid) files end other free f g = absurd free
 job-unique one lists runs (CheckFit c) (Ok grid) files end other free f g =
     fit_check-unique c grid (fit_cert_in grid.n (bytes_of files c.certificate)) (bytes_of files c.mesh) end other f g
@@ -113,6 +121,7 @@ job-unique one lists runs Facts (Err fault) files end other free f g = f ∙ sym
 job-unique one lists runs (Make m) (Err fault) files end other free f g = f ∙ sym g
 job-unique one lists runs (Check c) (Err fault) files end other free f g = f ∙ sym g
 job-unique one lists runs (Fit job) (Err fault) files end other free f g = f ∙ sym g
+job-unique one lists runs (Keep k) (Err fault) files end other free f g = f ∙ sym g
 job-unique one lists runs (MakeFit m) (Err fault) files end other free f g = f ∙ sym g
 job-unique one lists runs (CheckFit c) (Err fault) files end other free f g = f ∙ sym g
 
@@ -150,6 +159,8 @@ job-engine one lists runs (Check c) r files end other f g =
     engine-of end other (job-unique one lists runs (Check c) r files end other tt f g)
 job-engine one lists runs (Fit job) r files end other f g =
     engine-of end other (job-unique one lists runs (Fit job) r files end other tt f g)
+job-engine one lists runs (Keep k) r files end other f g =
+    engine-of end other (job-unique one lists runs (Keep k) r files end other tt f g)
 job-engine one lists runs (MakeFit m) (Ok grid) files end other f g = engine-of end _ f.2 ∙ sym (engine-of other _ g.2)
 job-engine one lists runs (MakeFit m) (Err fault) files end other f g = engine-of end other (f ∙ sym g)
 job-engine one lists runs (CheckFit c) r files end other f g =
@@ -234,6 +245,7 @@ HasBudget Facts = Unit {0}
 HasBudget (Make m) = IsWithinReach m
 HasBudget (Check c) = Unit {0}
 HasBudget (Fit f) = IsTargetOfWords f.target
+HasBudget (Keep k) = Unit {0}
 HasBudget (MakeFit m) = IsTargetOfWords m.target
 HasBudget (CheckFit c) = Unit {0}
 
@@ -384,6 +396,21 @@ fit_words-budget i j k l m command is =
     fit_command-budget i j target (spacing_word m) command (λ t found. target-said k l t found)
     (met (is_prefix j) (fit_command i j target (spacing_word m)) command is)
 
+keep_command-budget : (i j : List ℕ) (thousandths spacing : Option ℕ) (k : List ℕ) (command : Command) →
+    keep_command i j thousandths spacing k ≡ Some command → CommandHasBudget command
+keep_command-budget i j None spacing k command is = absurd (none-some command is)
+keep_command-budget i j (Some thousandths) None k command is = absurd (none-some command is)
+keep_command-budget i j (Some thousandths) (Some spacing) k command is =
+    let P : Option Command → Type 0 = λ c. IfSome c CommandHasBudget in
+    subst P is tt
+
+keep_words-budget : (i j k l m o p : List ℕ) (command : Command) → keep_words i j k l m o p ≡ Some command →
+    CommandHasBudget command
+keep_words-budget i j k l m o p command is =
+    keep_command-budget i j (error_word l) (spacing_word m) p command
+    (met (is_prefix j && (bytes_eq k (codes "error") && bytes_eq o (codes "keep")))
+    (keep_command i j (error_word l) (spacing_word m) p) command is)
+
 fit_make_command-budget : (i : List ℕ) (target : Option Target) (spacing : Option ℕ) (command : Command) →
     ((t : Target) → target ≡ Some t → IsTargetOfWords t)
     → fit_make_command i target spacing ≡ Some command → CommandHasBudget command
@@ -438,14 +465,19 @@ words-budget (word ∷ (i ∷ (j ∷ (k ∷ (l ∷ (m ∷ (o ∷ (p ∷ []))))))
     let target : Option Target = target_word m o in
     let checks : Bool = bytes_eq word (codes "certify") && bytes_eq i (codes "check-fit") in
     let checked : Option Command = fit_check_command j k l target (spacing_word p) in
+    let kept : Option Command = keep_words i j k l m o p in
+    let behind : Option Command = if bytes_eq word (codes "fit") then kept else None in
     elim (either (bytes_eq word (codes "certify") && bytes_eq i (codes "make"))
     (make_command j place (budget_word o) (spacing_word p))
-    (if checks then checked else None) command is) [
+    (if checks then checked else behind) command is) [
       | inl f ↦ make_command-budget j (coordinate_word k) (coordinate_word l) (coordinate_word m) (budget_word o)
           (spacing_word p) command
           (in_reach-near (signed_in k)) (in_reach-near (signed_in l)) (in_reach-near (signed_in m))
           (λ number found. within-range least_budget greatest_budget number (number_in 19 o) found) f
-      | inr f ↦ fit_check_command-budget j k l target (spacing_word p) command (met checks checked command f)
+      | inr f ↦ elim (either checks checked behind command f) [
+        | inl q ↦ fit_check_command-budget j k l target (spacing_word p) command q
+        | inr q ↦ keep_words-budget i j k l m o p command (met (bytes_eq word (codes "fit")) kept command q)
+      ]
     ]
 words-budget (word ∷ (i ∷ (j ∷ (k ∷ (l ∷ (m ∷ (o ∷ (p ∷ (more ∷ words))))))))) command is =
     absurd (none-some command is)
@@ -518,6 +550,8 @@ job-exists two frames made (Make m) (Ok grid) files low range = make-exists made
 job-exists two frames made (Check c) (Ok grid) files low range =
     check-exists c grid (cert_in grid.n (bytes_of files c.certificate)) (bytes_of files c.mesh)
 job-exists two frames made (Fit f) (Ok grid) files low range = fit-exists f grid files low
+job-exists two frames made (Keep k) (Ok grid) files low range =
+    keep-exists k grid (points_in grid.n (bytes_of files k.points))
 job-exists two frames made (MakeFit m) (Ok grid) files low range = fit_make-exists m grid files low
 job-exists two frames made (CheckFit c) (Ok grid) files low range =
     fit_check-exists c grid (fit_cert_in grid.n (bytes_of files c.certificate)) (bytes_of files c.mesh)
@@ -529,6 +563,8 @@ job-exists two frames made (Make m) (Err fault) files low range =
 job-exists two frames made (Check c) (Err fault) files low range =
     (text_outcome (grid_refusal fault) GridRefused 1, refl)
 job-exists two frames made (Fit f) (Err fault) files low range = (text_outcome (grid_refusal fault) GridRefused 1, refl)
+job-exists two frames made (Keep k) (Err fault) files low range =
+    (text_outcome (grid_refusal fault) GridRefused 1, refl)
 job-exists two frames made (MakeFit m) (Err fault) files low range =
     (text_outcome (grid_refusal fault) GridRefused 1, refl)
 job-exists two frames made (CheckFit c) (Err fault) files low range =
@@ -598,6 +634,9 @@ job-certified two one (Check c) (Ok grid) files end low some is =
 job-certified two one (Fit f) (Ok grid) files end low some is =
     let P : Outcome → Type 0 = λ o. AllByRecursion IsCertified o.pictures in
     subst P (sym is.2) tt
+job-certified two one (Keep k) (Ok grid) files end low some is =
+    let P : List Picture → Type 0 = λ ps. AllByRecursion IsCertified ps in
+    subst P (sym (keep-plain k grid (points_in grid.n (bytes_of files k.points)) end is)) tt
 job-certified two one (Frames s) (Err fault) files end low some is = text-certified end (refused-text fault end is)
 job-certified two one Facts (Err fault) files end low some is = text-certified end (refused-text fault end is)
 job-certified two one (MakeFit m) (Ok grid) files end low some is =
@@ -608,6 +647,7 @@ job-certified two one (CheckFit c) (Ok grid) files end low some is =
 job-certified two one (Make m) (Err fault) files end low some is = text-certified end (refused-text fault end is)
 job-certified two one (Check c) (Err fault) files end low some is = text-certified end (refused-text fault end is)
 job-certified two one (Fit f) (Err fault) files end low some is = text-certified end (refused-text fault end is)
+job-certified two one (Keep k) (Err fault) files end low some is = text-certified end (refused-text fault end is)
 job-certified two one (MakeFit m) (Err fault) files end low some is = text-certified end (refused-text fault end is)
 job-certified two one (CheckFit c) (Err fault) files end low some is = text-certified end (refused-text fault end is)
 

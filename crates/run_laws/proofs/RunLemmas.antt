@@ -9,7 +9,7 @@ use Rattle.run_laws.specs.declared.status.Status.{Status}
 use Rattle.run_laws.specs.declared.status.Status.TheVariants.{Done, NoMemory, Usage, GridRefused, ReadFault, WriteFault}
 use Rattle.run_laws.specs.declared.status.Status.TheVariants.{Rejected}
 use Rattle.word_laws.specs.Words.{Show, Scripted, Job, Command, OnGrid, is_check, is_of_engine, Frames, Facts, Make}
-use Rattle.word_laws.specs.Words.{Check, Fit, MakeFit, CheckFit, names_of, file_count}
+use Rattle.word_laws.specs.Words.{Check, Fit, Keep, MakeFit, CheckFit, names_of, file_count}
 use Rattle.mesh_defs.specs.HeightField.{HeightField}
 use Rattle.pgm_grid.specs.declared.fault.PgmFault.{PgmFault}
 use Rattle.pgm_grid.specs.Progress.{grid_of}
@@ -56,6 +56,7 @@ none-unended name Facts status is = refl
 none-unended name (Make m) status is = refl
 none-unended name (Check c) status is = refl
 none-unended name (Fit f) status is = refl
+none-unended name (Keep k) status is = refl
 none-unended name (MakeFit m) status is = refl
 none-unended name (CheckFit c) status is = refl
 
@@ -66,6 +67,7 @@ names-some name Facts = refl
 names-some name (Make m) = refl
 names-some name (Check c) = refl
 names-some name (Fit f) = refl
+names-some name (Keep k) = refl
 names-some name (MakeFit m) = refl
 names-some name (CheckFit c) = refl
 
@@ -83,6 +85,7 @@ most-named name Facts = omega arith
 most-named name (Make m) = omega arith
 most-named name (Check c) = omega arith
 most-named name (Fit f) = omega arith
+most-named name (Keep k) = omega arith
 most-named name (MakeFit m) = omega arith
 most-named name (CheckFit c) = omega arith
 

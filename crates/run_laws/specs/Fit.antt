@@ -1,16 +1,22 @@
 -- A mesh that is fitted to a height field, whatever it is seen from: the fewest triangles for an error, or the least
 -- error for a budget. This project's own form.
--- Words: tolerance_of, goal_of, IsFitFor, IsFitted, IsFewestFor, IsClosestFor, IsBestFit, fit_text.
-use Rattle.std.specs.Prelude.{◌≡◌, ℕ, ◌*◌, ◌^◌, ◌/◌, ◌≤◌, List, [], length}
+-- Words: tolerance_of, goal_of, IsFitFor, IsFitted, IsFewestFor, IsClosestFor, IsBestFit, is_centred, IsKeptFor,
+-- IsKept, IsFewestKeeping, fit_text.
+use Rattle.std.specs.Prelude.{◌≡◌, ℕ, ◌*◌, ◌^◌, ◌/◌, ◌≤◌, Bool, ◌&&◌, IsTrue, nat_le, nat_lt, List, [], length, All}
+use Rattle.std.specs.List.{list_any}
+use Rattle.mesh_defs.specs.declared.point.Point.{Point}
+use Rattle.mesh_defs.specs.Triangle.{level_of}
 use Rattle.mesh_defs.specs.HeightField.{HeightField}
 use Rattle.mesh_defs.specs.Tiling.{IsConforming}
 use Rattle.mesh_defs.specs.ClosedSet.{leaves_of}
-use Rattle.mesh_defs.specs.MeshText.{mesh_text}
+use Rattle.mesh_defs.specs.MeshText.{is_same_point, mesh_text}
 use Rattle.tiling_laws.specs.Ancestors.{ancestors_of}
 use Rattle.deviation_laws.specs.PlaneHeight.{deviation_of}
 use Rattle.least_laws.specs.Least.{IsLeastMesh}
 use Rattle.fit_laws.specs.Error.{error_of}
 use Rattle.fit_laws.specs.Budget.{IsBudgetMesh}
+use Rattle.vertex_laws.specs.Vertex.{is_mesh_vertex, centre_of}
+use Rattle.required_laws.specs.Required.{IsLeastMeshWith}
 use Rattle.fit_certificate_laws.specs.declared.reason.Target.{Target as Goal}
 use Rattle.fit_certificate_laws.specs.declared.reason.Target.TheVariants as goal
 use Rattle.word_laws.specs.Words.{Target, AtError, InBudget}
@@ -59,6 +65,34 @@ pub record IsClosestFor (budget : ℕ) (grid : HeightField) (triangles : List �
 abbrev pub IsBestFit : Target → HeightField → List ℕ → Type 0
 IsBestFit (AtError thousandths) grid triangles = IsFewestFor thousandths grid triangles
 IsBestFit (InBudget budget) grid triangles = IsClosestFor budget grid triangles
+
+-- the triangle may be split, and its centre, the midpoint of its base, is one of these points
+abbrev pub is_centred : ℕ → List Point → ℕ → Bool
+is_centred n points a = (nat_le 2 a && nat_lt (level_of a) (2 * n))
+    && list_any (is_same_point (centre_of n a)) points
+
+-- the list is a least mesh for the error of those in which all these triangles are split, so that it has the points
+abbrev pub IsKeptFor : ℕ → List Point → HeightField → List ℕ → Type 0
+IsKeptFor thousandths points grid triangles =
+    IsLeastMeshWith grid.n (tolerance_of grid.n thousandths) (error_of grid.n grid.heights) (is_centred grid.n points)
+    triangles
+
+-- and its triangles stand depth first: there is one such list
+pub record IsKept (thousandths : ℕ) (points : List Point) (grid : HeightField) (triangles : List ℕ) : Type 0 where
+  pub fit : IsKeptFor thousandths points grid triangles
+  pub in_order : leaves_of grid.n (ancestors_of triangles) ≡ triangles
+
+-- The list has the fewest triangles for an error of so many thousandths, of the lists that have these points as
+-- vertices: it is conforming, at no grid point the surface is farther off, each of the points is a corner of a
+-- triangle, and each such list has at least as many triangles.
+pub record IsFewestKeeping (thousandths : ℕ) (points : List Point) (grid : HeightField)
+    (triangles : List ℕ) : Type 0 where
+  pub conforming : IsConforming grid.n triangles
+  pub near : 1000 * deviation_of grid.n grid.heights triangles ≤ thousandths * 2 ^ grid.n
+  pub keeps : All (λ p. IsTrue (is_mesh_vertex grid.n triangles p)) points
+  pub fewest : (others : List ℕ) → IsConforming grid.n others →
+      1000 * deviation_of grid.n grid.heights others ≤ thousandths * 2 ^ grid.n →
+      All (λ p. IsTrue (is_mesh_vertex grid.n others p)) points → length triangles ≤ length others
 
 -- the text of the mesh of these triangles over a grid, with so many world units a grid step
 abbrev pub fit_text : ℕ → HeightField → List ℕ → List ℕ

@@ -1,9 +1,11 @@
 -- The headline: each frame's mesh is a best mesh within the budget in force, whatever the mesh before; or the least
--- mesh of a tolerance. A mesh that is fitted is a best one for its error or its budget.
+-- mesh of a tolerance. A mesh that is fitted is a best one for its error or its budget, and for the points that it
+-- keeps.
 -- Words: IsGoodMesh, IsGoodStrip, IsGoodOrder, IsGoodFrame, AreGoodFrames, IsRunOf, KeepsGoodMeshes,
--- IsCertifiedMesh, IsCertifiedFit, IsFitMeshOf, KeepsFitMesh.
+-- IsCertifiedMesh, IsCertifiedFit, IsOneMeshOf, KeepsOneMesh, KeepsFitMesh, KeepsKeptMesh.
 use Rattle.std.specs.Prelude.{◌≡◌, ⊤, ℕ, ◌+◌, ◌≤◌, Bool, true, IsTrue, List, [], ◌∷◌, ◌++◌, length, count_by, nat_eq}
 use Rattle.std.specs.Prelude.{All, Contains, Option, Some}
+use Rattle.mesh_defs.specs.declared.point.Point.{Point}
 use Rattle.mesh_defs.specs.HeightField.{HeightField, IsHeightField}
 use Rattle.mesh_defs.specs.BestMesh.{IsBestMesh}
 use Rattle.mesh_defs.specs.BoundingBox.{CameraAt}
@@ -21,10 +23,10 @@ use Rattle.strip_laws.specs.Strip.{strip_of, IsRing}
 use Rattle.least_laws.specs.Least.{IsLeastMesh}
 use Rattle.deviation_laws.specs.PlaneHeight.{deviation_of}
 use Rattle.word_laws.specs.Words.{Criterion, OfBudget, OfTolerance, TriangleOrder, DepthFirst, AlongStrip, Show}
-use Rattle.word_laws.specs.Words.{Scripted, Checking, Fitting, FitChecking, Job, OnGrid, prefix_of, command_of}
+use Rattle.word_laws.specs.Words.{Scripted, Checking, Fitting, Keeping, FitChecking, Job, OnGrid, prefix_of, command_of}
 use Rattle.run_laws.specs.ReportText.{certified_line, fit_line, certified_fit_line}
 use Rattle.run_laws.specs.Certify.{checks_at}
-use Rattle.run_laws.specs.Fit.{IsFitFor, IsBestFit, fit_text}
+use Rattle.run_laws.specs.Fit.{IsFitFor, IsBestFit, IsKeptFor, IsFewestKeeping, fit_text}
 use Rattle.run_laws.specs.Act.{Told}
 use Rattle.obj_write.specs.Written.{mesh_with, Grows}
 use Rattle.run_laws.specs.Outcome.{script_walk}
@@ -109,23 +111,35 @@ pub record IsCertifiedFit (c : FitChecking) (grid : HeightField) (mesh line : Li
   pub fit : IsFitFor c.target grid triangles
   pub told : line ≡ certified_fit_line grid.n (length triangles) (deviation_of grid.n grid.heights triangles)
 
--- The mesh has the number 1 and the prefix of the words, and its bytes are the text of a list that is a best one for
--- their error or their budget.
-pub record IsFitMeshOf (f : Fitting) (grid : HeightField) (mesh : WrittenMesh) : Type 0 where
+-- The mesh has the number 1 and this prefix, and its bytes are the text of a list that is a best one.
+pub record IsOneMeshOf (begin : List ℕ) (spacing : ℕ) (grid : HeightField) (is_best is_fit : List ℕ → Type 0)
+    (mesh : WrittenMesh) : Type 0 where
   pub triangles : List ℕ
-  pub best : IsBestFit f.target grid triangles
-  pub fit : IsFitFor f.target grid triangles
-  pub is_mesh : mesh ≡ mesh_with f.prefix 1 (fit_text f.spacing grid triangles) true
+  pub best : is_best triangles
+  pub fit : is_fit triangles
+  pub is_mesh : mesh ≡ mesh_with begin 1 (fit_text spacing grid triangles) true
 
--- The meshes that were there stay, and behind them came one at most, which is a best mesh for the error or the budget
--- if it is finished. Where the run is done it came, and the report got its line: how many triangles and vertices it
--- has, and how far the surface is from it.
-pub record KeepsFitMesh (f : Fitting) (grid : HeightField) (before now : Told) (all : List WrittenMesh)
-    (status : Status) : Type 0 where
+-- The meshes that were there stay, and behind them came one at most, which is a best one if it is finished. Where the
+-- run is done it came, and the report got its line: how many triangles and vertices it has, and how far the surface is
+-- from it.
+pub record KeepsOneMesh (begin : List ℕ) (spacing : ℕ) (grid : HeightField) (is_best is_fit : List ℕ → Type 0)
+    (before now : Told) (all : List WrittenMesh) (status : Status) : Type 0 where
   pub added : List WrittenMesh
   pub behind : now.meshes ≡ Some (all ++ added)
   pub one : length added ≤ 1
-  pub fits : All (λ (mesh : WrittenMesh). mesh.finished ≡ true → IsFitMeshOf f grid mesh) added
-  pub done : status ≡ Done → (triangles : List ℕ) × IsBestFit f.target grid triangles
-      × (added ≡ mesh_with f.prefix 1 (fit_text f.spacing grid triangles) true ∷ [])
+  pub fits : All (λ (mesh : WrittenMesh). mesh.finished ≡ true → IsOneMeshOf begin spacing grid is_best is_fit mesh)
+      added
+  pub done : status ≡ Done → (triangles : List ℕ) × is_best triangles
+      × (added ≡ mesh_with begin 1 (fit_text spacing grid triangles) true ∷ [])
       × Grows before.report now.report (fit_line grid triangles)
+
+-- so of the words: a best mesh for their error or their budget
+abbrev pub KeepsFitMesh : Fitting → HeightField → Told → Told → List WrittenMesh → Status → Type 0
+KeepsFitMesh f grid before now all status =
+    KeepsOneMesh f.prefix f.spacing grid (IsBestFit f.target grid) (IsFitFor f.target grid) before now all status
+
+-- and of words that keep these points: the fewest triangles for their error that have the points as vertices
+abbrev pub KeepsKeptMesh : Keeping → List Point → HeightField → Told → Told → List WrittenMesh → Status → Type 0
+KeepsKeptMesh k points grid before now all status =
+    KeepsOneMesh k.prefix k.spacing grid (IsFewestKeeping k.thousandths points grid)
+    (IsKeptFor k.thousandths points grid) before now all status

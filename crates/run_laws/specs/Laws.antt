@@ -2,10 +2,12 @@
 -- Words: WalksGoOn, PicturesGoOn, FramesExistFrom, FramesExist, RunsAreUnique, SetsStayClosed, LevelsAreInRange,
 -- BudgetsAreTwo, AreStates, KeepsStates, OutcomesAreUnique, OutcomesExist, AcceptedIsDone, EnginesAreUnique,
 -- PicturesAreCertified, HeadlineFollows, CertifiedFollows, FitCertifiedFollows, TolerancesAreExact, FitsAreBest,
--- FittedFollows, MadeIsAccepted, FitMadeIsAccepted, FitIsReadBack, TurnsAreCounted.
+-- FittedFollows, KeptAreBest, KeptFollows, MadeIsAccepted, FitMadeIsAccepted, FitIsReadBack, TurnsAreCounted.
 use Rattle.std.specs.Prelude.{◌≡◌, ⊤, ℕ, ◌*◌, ◌^◌, ◌≤◌, ◌↔◌, Bool, IsTrue, IsSome, is_some, List, [], ◌∷◌, ◌++◌, All}
 use Rattle.std.specs.Prelude.{Option, Some, Ok}
+use Rattle.mesh_defs.specs.declared.point.Point.{Point}
 use Rattle.mesh_defs.specs.HeightField.{HeightField, IsHeightField}
+use Rattle.bintree_laws.specs.Corners.{IsInSquare}
 use Rattle.mesh_defs.specs.State.{State, priority_in, text_in}
 use Rattle.mesh_defs.specs.ClosedSet.{IsClosed, among}
 use Rattle.mesh_defs.specs.GridSet.{IsGridSet}
@@ -31,8 +33,8 @@ use Rattle.fit_certificate_laws.specs.Certificate.{FitCertificate}
 use Rattle.fit_cert_text.specs.FitCertText.{fit_cert_text}
 use Rattle.fit_cert_text.specs.Laws.{IsFitCertificateOf}
 use Rattle.run_laws.specs.CertFile.{fit_cert_in}
-use Rattle.word_laws.specs.Words.{Show, Scripted, Making, Checking, Target, Fitting, FitChecking, Frames, Make, Check}
-use Rattle.word_laws.specs.Words.{FitMaking, Fit, MakeFit, CheckFit, OnGrid, prefix_of, command_of}
+use Rattle.word_laws.specs.Words.{Show, Scripted, Making, Checking, Target, Fitting, Keeping, FitChecking, Frames}
+use Rattle.word_laws.specs.Words.{Make, Check, FitMaking, Fit, Keep, MakeFit, CheckFit, OnGrid, prefix_of, command_of}
 use Rattle.run_laws.specs.Certify.{makes_at, IsMade, IsFitMade}
 use Rattle.run_laws.specs.Act.{Told}
 use Rattle.run_laws.specs.Picture.{Picture, ArePictures, IsCertified, last_members}
@@ -41,7 +43,9 @@ use Rattle.run_laws.specs.Outcome.{Outcome, IsOutcome, MakesNoCertificate}
 use Rattle.run_laws.specs.Promise.{Seen, EndsRight, LeavesAtReadFault, LeavesAtNoMemory, IsAcceptedCheck}
 use Rattle.run_laws.specs.Promise.{IsAcceptedFitCheck, IsAccepted}
 use Rattle.run_laws.specs.Headline.{IsRunOf, KeepsGoodMeshes, IsCertifiedMesh, IsCertifiedFit, KeepsFitMesh}
-use Rattle.run_laws.specs.Fit.{tolerance_of, IsFitFor, IsFitted, IsBestFit, fit_text}
+use Rattle.run_laws.specs.Headline.{KeepsKeptMesh}
+use Rattle.run_laws.specs.PointFile.{points_in}
+use Rattle.run_laws.specs.Fit.{tolerance_of, IsFitFor, IsFitted, IsBestFit, IsKeptFor, IsFewestKeeping, fit_text}
 
 -- a walk over whole lines goes on with what follows them
 abbrev pub WalksGoOn : Type 0
@@ -185,6 +189,24 @@ FittedFollows =
     → (status ≡ ReadFault → LeavesAtReadFault before now old new words) →
     (status ≡ NoMemory → LeavesAtNoMemory before now old new words)
     → KeepsFitMesh f grid before now all status
+
+-- a mesh that keeps points of the grid has the fewest triangles of those that have these points as vertices
+abbrev pub KeptAreBest : Type 0
+KeptAreBest =
+    (thousandths : ℕ) (points : List Point) (grid : HeightField) (triangles : List ℕ)
+    → All (λ p. IsInSquare (2 ^ grid.n) p) points → IsKeptFor thousandths points grid triangles →
+    IsFewestKeeping thousandths points grid triangles
+
+-- the headline of a fit that keeps points, whose file is a text of these points
+abbrev pub KeptFollows : Type 0
+KeptFollows =
+    (words : List (List ℕ)) (files : List NamedFile) (k : Keeping) (grid : HeightField) (points : List Point)
+    (before now : Told) (old new : Seen) (all : List WrittenMesh) (status : Status)
+    → IsRunOf words files (Keep k) grid → points_in grid.n (bytes_of files k.points) ≡ Ok points
+    → before.meshes ≡ Some all → EndsRight before now old new words files status
+    → (status ≡ ReadFault → LeavesAtReadFault before now old new words) →
+    (status ≡ NoMemory → LeavesAtNoMemory before now old new words)
+    → KeepsKeptMesh k points grid before now all status
 
 -- What `certify make` writes for a grid `certify check` accepts over it, at the same budget and spacing and with the
 -- mesh that it is of.

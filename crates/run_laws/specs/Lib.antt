@@ -1,5 +1,6 @@
 pub mod Walk
 pub mod CertFile
+pub mod PointFile
 pub mod Certify
 pub mod Fit
 pub mod Picture

@@ -1,10 +1,11 @@
 -- The outcome of a run: what its words and the files that they name determine. This project's own.
 -- Words: EngineEnd, Outcome, plain_outcome, text_outcome, picture_acts, shown_acts, sum_acts, stop_acts, stop_status,
 -- engine_end, engine_for, frames_outcome, IsFramesOutcome, script_walk, made_budget, made_spacing, made_walk, fit_acts,
--- IsCompared, IsVerdictOutcome, IsCheckOutcome, IsFitVerdictOutcome, IsFitCheckOutcome, IsJobOutcome, IsGridOutcome,
--- IsCommandOutcome, IsOutcome, MakesNoCertificate.
+-- IsKeepOutcome, IsCompared, IsVerdictOutcome, IsCheckOutcome, IsFitVerdictOutcome, IsFitCheckOutcome, IsJobOutcome,
+-- IsGridOutcome, IsCommandOutcome, IsOutcome, MakesNoCertificate.
 use Rattle.std.specs.Prelude.{◌≡◌, ⊤, ℕ, ◌+◌, ◌⊎◌, if◌then◌else◌, List, [], ◌∷◌, ◌++◌, length, sum_by, Option, Some}
 use Rattle.std.specs.Prelude.{None, Result, Ok, Err}
+use Rattle.mesh_defs.specs.declared.point.Point.{Point}
 use Rattle.mesh_defs.specs.HeightField.{HeightField}
 use Rattle.mesh_defs.specs.State.{State, start_state, priority_in, text_in}
 use Rattle.roam_edge.specs.Shelf.{NamedFile, bytes_of}
@@ -25,11 +26,12 @@ use Rattle.run_laws.specs.declared.status.Status.{Status}
 use Rattle.run_laws.specs.declared.status.Status.TheVariants.{Done, Usage, GridRefused, ScriptRefused, Rejected}
 use Rattle.run_laws.specs.Walk.{Refusal, Walk, start_walk, walk_along, walk_of}
 use Rattle.word_laws.specs.Words.{Meshes, Measures, Sums, Show, as_sums, is_of_engine, Scripted, Checking}
-use Rattle.word_laws.specs.Words.{Fitting, Job, Frames, Facts, Make, Check, Fit, FitChecking, MakeFit}
-use Rattle.word_laws.specs.Words.{CheckFit, Command, OnGrid, Generated}
+use Rattle.word_laws.specs.Words.{Fitting, Keeping, fitting_of, Job, Frames, Facts, Make, Check, Fit, Keep}
+use Rattle.word_laws.specs.Words.{FitChecking, MakeFit, CheckFit, Command, OnGrid, Generated}
 use Rattle.run_laws.specs.CertFile.{cert_in, fit_cert_in}
+use Rattle.run_laws.specs.PointFile.{points_in}
 use Rattle.run_laws.specs.Certify.{checks_at, IsMade, IsFitMade, IsFirstDifference}
-use Rattle.run_laws.specs.Fit.{goal_of, IsFitted, fit_text}
+use Rattle.run_laws.specs.Fit.{goal_of, IsFitted, IsKept, fit_text}
 use Rattle.run_laws.specs.Act.{Act, WholeMesh, ReportText}
 use Rattle.run_laws.specs.Picture.{Picture, shown_triangles, ArePictures, last_members}
 use Rattle.run_laws.specs.ReportText.{mesh_line, measure_line, fit_line, try_line, info_line, grid_refusal}
@@ -144,6 +146,12 @@ abbrev pub fit_acts : Fitting → HeightField → List ℕ → List Act
 fit_acts f grid triangles =
     WholeMesh f.prefix 1 (fit_text f.spacing grid triangles) ∷ (ReportText (fit_line grid triangles) ∷ [])
 
+-- what fitting a mesh does with the points that it keeps, or with the first line of their file that is refused
+abbrev pub IsKeepOutcome : Keeping → HeightField → Result (List Point) Refusal → Outcome → Type 0
+IsKeepOutcome k grid (Ok points) end = (triangles : List ℕ) × IsKept k.thousandths points grid triangles
+    × (end ≡ plain_outcome (fit_acts (fitting_of k) grid triangles) Done 2)
+IsKeepOutcome k grid (Err refusal) end = end ≡ text_outcome (line_refusal refusal) ScriptRefused 2
+
 -- The file of a mesh is compared with the text of the triangles of a certificate: they are the same, or there is a
 -- first place at which they differ.
 abbrev pub IsCompared : List ℕ → List ℕ → List ℕ → Outcome → Type 0
@@ -191,6 +199,7 @@ IsJobOutcome (Check c) grid files end =
     IsCheckOutcome c grid (cert_in grid.n (bytes_of files c.certificate)) (bytes_of files c.mesh) end
 IsJobOutcome (Fit f) grid files end =
     (triangles : List ℕ) × IsFitted f.target grid triangles × (end ≡ plain_outcome (fit_acts f grid triangles) Done 1)
+IsJobOutcome (Keep k) grid files end = IsKeepOutcome k grid (points_in grid.n (bytes_of files k.points)) end
 IsJobOutcome (MakeFit m) grid files end =
     (cert : FitCertificate) × IsFitMade m grid cert × (end ≡ text_outcome (fit_cert_text cert) Done 1)
 IsJobOutcome (CheckFit c) grid files end =
@@ -220,6 +229,7 @@ MakesNoCertificate (Some (OnGrid grid Facts)) = ⊤
 MakesNoCertificate (Some (OnGrid grid (Make m))) = ⊥
 MakesNoCertificate (Some (OnGrid grid (Check c))) = ⊤
 MakesNoCertificate (Some (OnGrid grid (Fit f))) = ⊤
+MakesNoCertificate (Some (OnGrid grid (Keep k))) = ⊤
 MakesNoCertificate (Some (OnGrid grid (MakeFit m))) = ⊥
 MakesNoCertificate (Some (OnGrid grid (CheckFit c))) = ⊤
 MakesNoCertificate (Some (Generated n seed)) = ⊤

@@ -3,8 +3,9 @@
 -- OpensForStatus, IsUndecided, ScriptHasRead, CheckHasRead, FitCheckHasRead, JobHasRead, HasRead, FileReadFault,
 -- CommandReadFault, LeavesAtReadFault, most_open, HasReadHeader, CheckHasCome, FitCheckHasCome, CommandNoMemory,
 -- LeavesAtNoMemory, IsAcceptedCheck, IsAcceptedFitCheck, IsAcceptedJob, IsAccepted, is_of_text, leaves_engine.
-use Rattle.std.specs.Prelude.{◌≡◌, ◌≢◌, ⊤, ℕ, zero, suc, ◌+◌, ◌<◌, ◌≤◌, Bool, true, false, ◌&&◌, nat_lt, IsTrue, List}
-use Rattle.std.specs.Prelude.{[], ◌++◌, length, Option, Some, None, Ok, Err, slice_get}
+use Rattle.std.specs.Prelude.{◌≡◌, ◌≢◌, ⊤, ℕ, zero, suc, ◌+◌, ◌<◌, ◌≤◌, Bool, true, false, ◌&&◌, ◌||◌, nat_lt, IsTrue}
+use Rattle.std.specs.Prelude.{List, [], ◌++◌, length, Option, Some, None, Ok, Err, slice_get}
+use Rattle.mesh_defs.specs.declared.point.Point.{Point}
 use Rattle.mesh_defs.specs.HeightField.{HeightField, IsHeightField}
 use Rattle.roam_edge.specs.Shelf.{NamedFile, bytes_of}
 use Rattle.roam_edge.specs.Told.{IsPrefix}
@@ -20,10 +21,11 @@ use Rattle.run_laws.specs.declared.status.Status.{Status}
 use Rattle.run_laws.specs.declared.status.Status.TheVariants.{Done, NoMemory, Usage, GridRefused, ScriptRefused}
 use Rattle.run_laws.specs.declared.status.Status.TheVariants.{ReadFault, WriteFault, Rejected}
 use Rattle.run_laws.specs.Walk.{AreWhole, HasBegun}
-use Rattle.word_laws.specs.Words.{Scripted, Checking, Job, Frames, Facts, Make, Check, Fit, FitChecking, MakeFit}
-use Rattle.word_laws.specs.Words.{CheckFit, Command, OnGrid, Generated, names_of, file_count, has_script, is_check}
-use Rattle.word_laws.specs.Words.{is_of_engine, command_of}
+use Rattle.word_laws.specs.Words.{Scripted, Checking, Job, Frames, Facts, Make, Check, Fit, Keep, FitChecking, MakeFit}
+use Rattle.word_laws.specs.Words.{CheckFit, Command, OnGrid, Generated, names_of, file_count, has_script, has_points}
+use Rattle.word_laws.specs.Words.{is_check, is_of_engine, command_of}
 use Rattle.run_laws.specs.CertFile.{cert_in, CertHasRead, fit_cert_in, FitCertHasRead}
+use Rattle.run_laws.specs.PointFile.{points_in, PointsHaveRead}
 use Rattle.run_laws.specs.Certify.{checks_at, IsFaultless, IsFitFaultless}
 use Rattle.run_laws.specs.Fit.{fit_text}
 use Rattle.run_laws.specs.Picture.{Picture, ArePictures}
@@ -65,7 +67,7 @@ is_complete ReadFault = false
 is_complete WriteFault = false
 is_complete Rejected = true
 
--- all lines of a script were carried out, up to its end or its refusal
+-- all lines of a script were carried out, or of a file of points read, up to its end or its refusal
 abbrev pub ends_script : Status → Bool
 ends_script Done = true
 ends_script ScriptRefused = true
@@ -92,21 +94,22 @@ pub record HasEnded (now : Seen) : Type 0 where
   pub nothing_unread : (unread : List ℕ) → now.rest ≡ Some unread → unread ≡ []
 
 -- the words allow this status: Usage is for words that are no command, a refusal for a command that reads what
--- is refused, a failed read for one that reads a file, a rejection for a check
+-- is refused, of a line for one that reads a script or points, a failed read for one that reads a file, a rejection for
+-- a check
 abbrev pub may_end : Option Command → Status → Bool
 may_end None Usage = true
 may_end None _ = false
 may_end (Some command) Usage = false
 may_end (Some command) GridRefused = nat_lt 0 (length (names_of command))
 may_end (Some command) ReadFault = nat_lt 0 (length (names_of command))
-may_end (Some command) ScriptRefused = has_script command
+may_end (Some command) ScriptRefused = has_script command || has_points command
 may_end (Some command) Rejected = is_check command
 may_end (Some command) _ = true
 
 -- How often a file was opened, an opening that failed included, where the words name so many: each once where the run
--- was done or its script refused, the grid alone where that is refused, none for words that are no command, and else
--- at most each once. At least one was opened where a read failed, and where a write failed if the words name any; at
--- least two where a check rejects.
+-- was done or a line of its script or its points refused, the grid alone where that is refused, none for words that
+-- are no command, and else at most each once. At least one was opened where a read failed, and where a write failed if
+-- the words name any; at least two where a check rejects.
 pub record OpensForStatus (before now files : ℕ) (status : Status) : Type 0 where
   pub done : status ≡ Done → now ≡ before + files
   pub script_refused : status ≡ ScriptRefused → now ≡ before + files
@@ -157,6 +160,7 @@ JobHasRead Facts grid files k read acts = ⊥
 JobHasRead (Make m) grid files k read acts = ⊥
 JobHasRead (Check c) grid files k read acts = CheckHasRead c grid files k read × (acts ≡ [])
 JobHasRead (Fit f) grid files k read acts = ⊥
+JobHasRead (Keep p) grid files k read acts = PointsHaveRead grid.n read × (acts ≡ [])
 JobHasRead (MakeFit m) grid files k read acts = ⊥
 JobHasRead (CheckFit c) grid files k read acts = FitCheckHasRead c grid files k read × (acts ≡ [])
 
@@ -205,6 +209,7 @@ most_open (OnGrid name Facts) = 1
 most_open (OnGrid name (Make m)) = 1
 most_open (OnGrid name (Check c)) = 3
 most_open (OnGrid name (Fit f)) = 1
+most_open (OnGrid name (Keep k)) = 1
 most_open (OnGrid name (MakeFit m)) = 1
 most_open (OnGrid name (CheckFit c)) = 3
 most_open (Generated n seed) = 0
@@ -228,9 +233,9 @@ FitCheckHasCome name c files opened = 2 ≤ opened → (grid : HeightField) × (
     × (fit_cert_in grid.n (bytes_of files c.certificate) ≡ Ok cert)
     × IsFitFaultless c grid cert triangles)
 
--- Memory ran out. Nothing was written, and no script was opened; if the command names a grid, a whole accepted header
--- of it was read; and a check opened a later file only after accepted ones. Where this holds nothing forbids the
--- status.
+-- Memory ran out. Nothing was written, and no script and no points were opened; if the command names a grid, a whole
+-- accepted header of it was read; and a check opened a later file only after accepted ones. Where this holds nothing
+-- forbids the status.
 pub record CommandNoMemory (before now : Told) (old new : Seen) (command : Command) : Type 0 where
   pub opened : ℕ
   pub count : new.opens ≡ old.opens + opened
@@ -264,13 +269,15 @@ IsAcceptedFitCheck c grid files =
     (cert : FitCertificate) × (triangles : List ℕ) × (fit_cert_in grid.n (bytes_of files c.certificate) ≡ Ok cert)
     × IsFitFaultless c grid cert triangles × (bytes_of files c.mesh ≡ fit_text c.spacing grid triangles)
 
--- what a job reads is accepted: each line of its script, or the certificate and the mesh of a check
+-- what a job reads is accepted: each line of its script or of its points, or the certificate and the mesh of a check
 abbrev pub IsAcceptedJob : Job → HeightField → List NamedFile → Type 0
 IsAcceptedJob (Frames s) grid files = (script_walk s grid (bytes_of files s.script)).stop ≡ None
 IsAcceptedJob Facts grid files = ⊤
 IsAcceptedJob (Make m) grid files = ⊤
 IsAcceptedJob (Check c) grid files = IsAcceptedCheck c grid files
 IsAcceptedJob (Fit f) grid files = ⊤
+IsAcceptedJob (Keep k) grid files =
+    (points : List Point) × (points_in grid.n (bytes_of files k.points) ≡ Ok points)
 IsAcceptedJob (MakeFit m) grid files = ⊤
 IsAcceptedJob (CheckFit c) grid files = IsAcceptedFitCheck c grid files
 
@@ -290,6 +297,7 @@ is_of_text (Some (OnGrid name Facts)) = true
 is_of_text (Some (OnGrid name (Make m))) = true
 is_of_text (Some (OnGrid name (Check c))) = true
 is_of_text (Some (OnGrid name (Fit f))) = false
+is_of_text (Some (OnGrid name (Keep k))) = false
 is_of_text (Some (OnGrid name (MakeFit m))) = true
 is_of_text (Some (OnGrid name (CheckFit c))) = true
 is_of_text (Some (Generated n seed)) = true
@@ -301,6 +309,7 @@ leaves_engine (Some (OnGrid name Facts)) status = false
 leaves_engine (Some (OnGrid name (Make m))) status = false
 leaves_engine (Some (OnGrid name (Check c))) status = false
 leaves_engine (Some (OnGrid name (Fit f))) status = false
+leaves_engine (Some (OnGrid name (Keep k))) status = false
 leaves_engine (Some (OnGrid name (MakeFit m))) status = false
 leaves_engine (Some (OnGrid name (CheckFit c))) status = false
 leaves_engine (Some (Generated n seed)) status = ends_script status

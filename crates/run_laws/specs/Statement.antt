@@ -5,8 +5,9 @@
 -- told, the new ones are these with just `more` at their end; `IsInTime`, that an object which had not failed is not
 -- called again once a call of it has failed. A count of faults is how often an object has failed, from its beginning.
 -- Words: KeepsBestMeshes, CertifiesMesh, TellsCertificates, DoesAll, IsCutOff, EndsByStatus, LeavesOutside, IsCaused.
-use Rattle.std.specs.Prelude.{◌≡◌, ◌≢◌, ◌⊎◌, ◌↔◌, ℕ, ◌+◌, ◌<◌, ◌≤◌, false, IsTrue, IsSome, is_some, List, All, Option}
-use Rattle.std.specs.Prelude.{Some, None}
+use Rattle.std.specs.Prelude.{◌≡◌, ◌≢◌, ◌⊎◌, ◌↔◌, ℕ, ◌+◌, ◌<◌, ◌≤◌, IsTrue, IsSome, is_some, List, All, Option}
+use Rattle.std.specs.Prelude.{Some, None, Ok}
+use Rattle.mesh_defs.specs.declared.point.Point.{Point}
 use Rattle.mesh_defs.specs.HeightField.{HeightField}
 use Rattle.roam_edge.specs.MeshSink.{WrittenMesh}
 use Rattle.roam_edge.specs.Shelf.{NamedFile, bytes_of}
@@ -14,22 +15,24 @@ use Rattle.roam_edge.specs.Fault.{IsInTime}
 use Rattle.obj_write.specs.Written.{Grows}
 use Rattle.run_laws.specs.declared.status.Status.{Status}
 use Rattle.run_laws.specs.declared.status.Status.TheVariants.{Done, NoMemory, Usage, ReadFault, WriteFault}
-use Rattle.word_laws.specs.Words.{Scripted, Checking, Fitting, FitChecking, Frames, Check, Fit, CheckFit, Command}
-use Rattle.word_laws.specs.Words.{command_of}
-use Rattle.word_laws.specs.Words.{prefix_of, file_count}
+use Rattle.word_laws.specs.Words.{Scripted, Checking, Fitting, Keeping, FitChecking, Frames, Check, Fit, Keep}
+use Rattle.word_laws.specs.Words.{CheckFit, Command, command_of, prefix_of, file_count}
 use Rattle.run_laws.specs.Act.{Stands, IsCutShort}
 use Rattle.run_laws.specs.Picture.{IsCertified}
 use Rattle.run_laws.specs.Outcome.{EngineEnd, Outcome, IsOutcome}
 use Rattle.run_laws.specs.Promise.{AreFiles, is_complete, HasEnded, may_end, OpensForStatus, CommandReadFault}
 use Rattle.run_laws.specs.Promise.{CommandNoMemory, is_of_text, leaves_engine}
 use Rattle.run_laws.specs.Headline.{IsRunOf, KeepsGoodMeshes, IsCertifiedMesh, IsCertifiedFit, KeepsFitMesh}
+use Rattle.run_laws.specs.Headline.{KeepsKeptMesh}
+use Rattle.run_laws.specs.PointFile.{points_in}
 use Rattle.run_laws.specs.Moment.{Moment, SameMeshes}
 
 -- The meshes.
 
 -- Each mesh that the run finished is the right one, whatever the status: of a script the best within the budget in
--- force at its frame line, or the least of the tolerance; of a fit the fitted one of its error or its budget. (Where
--- the shelf tells its files, and the sink its meshes. `IsRunOf`: the words are this command, and its grid is accepted.)
+-- force at its frame line, or the least of the tolerance; of a fit the fitted one of its error or its budget; of a fit
+-- that keeps points the one of the fewest triangles for its error that has these points as vertices. (Where the shelf
+-- tells its files, and the sink its meshes. `IsRunOf`: the words are this command, and its grid is accepted.)
 pub record KeepsBestMeshes (before now : Moment) (words : List (List ℕ)) (status : Status) : Type 0 where
   pub of_script : (files : List NamedFile) (all : List WrittenMesh) (s : Scripted) (grid : HeightField)
       → before.shelf.files ≡ Some files → before.sinks.meshes ≡ Some all → IsRunOf words files (Frames s) grid
@@ -37,6 +40,10 @@ pub record KeepsBestMeshes (before now : Moment) (words : List (List ℕ)) (stat
   pub of_fit : (files : List NamedFile) (all : List WrittenMesh) (f : Fitting) (grid : HeightField)
       → before.shelf.files ≡ Some files → before.sinks.meshes ≡ Some all → IsRunOf words files (Fit f) grid
       → KeepsFitMesh f grid before.sinks now.sinks all status
+  pub of_keep : (files : List NamedFile) (all : List WrittenMesh) (k : Keeping) (grid : HeightField)
+      (points : List Point) → before.shelf.files ≡ Some files → before.sinks.meshes ≡ Some all
+      → IsRunOf words files (Keep k) grid → points_in grid.n (bytes_of files k.points) ≡ Ok points
+      → KeepsKeptMesh k points grid before.sinks now.sinks all status
 
 -- With Done of a check, the report got one line, which says that its mesh is certified; and so it is, whoever made it.
 -- One that `certify check` certifies is optimal, though perhaps not the mesh that `mesh` writes; one that `certify

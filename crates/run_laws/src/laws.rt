@@ -9,7 +9,8 @@ ghost use Rattle.run_laws.specs.Laws.{WalksGoOn, PicturesGoOn, FramesExistFrom, 
 ghost use Rattle.run_laws.specs.Laws.{LevelsAreInRange, BudgetsAreTwo, OutcomesAreUnique, OutcomesExist};
 ghost use Rattle.run_laws.specs.Laws.{AcceptedIsDone, EnginesAreUnique, PicturesAreCertified, HeadlineFollows};
 ghost use Rattle.run_laws.specs.Laws.{CertifiedFollows, FitCertifiedFollows, TolerancesAreExact, FitsAreBest};
-ghost use Rattle.run_laws.specs.Laws.{FittedFollows, MadeIsAccepted, FitMadeIsAccepted, FitIsReadBack, TurnsAreCounted};
+ghost use Rattle.run_laws.specs.Laws.{FittedFollows, KeptAreBest, KeptFollows, MadeIsAccepted, FitMadeIsAccepted};
+ghost use Rattle.run_laws.specs.Laws.{FitIsReadBack, TurnsAreCounted};
 
 use cert_text::text_laws;
 use closure_laws::{frame_laws, member_laws};
@@ -17,7 +18,7 @@ use fit_cert_text::fit_text_laws;
 use frame_steps as steps;
 use pgm_grid::grids_and_texts;
 use plain_mesh::falling_laws;
-use roam_script::line_laws;
+use roam_script::{line_laws, point_laws};
 
 /// A walk goes on after whole lines, and pictures from the last set.
 pub fn walk_laws()
@@ -60,14 +61,18 @@ pub fn run_laws()
 
 /// A mesh that is fitted is a best one for its error or its budget: the tolerance is exact, and what the definitions
 /// of `fit_laws` say holds in the words of distances from the surface; so the mesh of a run of `fit` is one, if it is
-/// finished, and so is one that `certify check-fit` certifies.
+/// finished, and so is one that `certify check-fit` certifies; and where it keeps points, it has the fewest triangles
+/// of those that have these points as vertices.
 pub fn fitting_laws()
     ensures tolerance { TolerancesAreExact }
     ensures best { FitsAreBest }
     ensures fitted { FittedFollows }
     ensures certified { FitCertifiedFollows }
+    ensures best_kept { KeptAreBest }
+    ensures kept { KeptFollows }
 {
     grids_and_texts();
+    point_laws();
 }
 
 /// What `certify make` writes for a grid `certify check` accepts, with the mesh that it is of, and what

@@ -1,6 +1,7 @@
 -- Words that are a command are those of its form, and what is wanted behind words that begin one.
 use Rattle.std.proofs.Common.{◌≡◌, ℕ, Bool, true, false, ◌&&◌, if◌then◌else◌, List, [], ◌∷◌, ◌++◌, take, drop, length}
-use Rattle.std.proofs.Common.{map, get_or, ◌+◌, ◌<◌, ◌≤◌, Option, Some, None, IsSome, IsTrue, is_some, codes, bytes_eq}
+use Rattle.std.proofs.Common.{map, get_or, ◌+◌, ◌<◌, ◌≤◌, Option, Some, None, IsSome, IsTrue, is_some, is_none, codes}
+use Rattle.std.proofs.Common.{bytes_eq}
 use Rattle.std.proofs.Common.{ℤ, ◌↔◌, refl, sym, subst, ◌∙◌, ap, true≢false}
 use Rattle.std.proofs.lemmas.Bool.{cond-false}
 use Rattle.std.proofs.lemmas.List.{take-append-drop, take_more, take-map, map-append, take_all}
@@ -9,16 +10,16 @@ use Rattle.std.specs.Option.{option_map}
 use Rattle.word_laws.specs.Words.{is_prefix, number_word, greatest_level, greatest_seed, budget_word, tolerance_word}
 use Rattle.word_laws.specs.Words.{spacing_word, coordinate_word, frames_command, least_command, meshes_command}
 use Rattle.word_laws.specs.Words.{try_command, camera_word, make_command, check_command, command_of, Command, Show}
-use Rattle.word_laws.specs.Words.{error_word, fit_command, fit_make_command, fit_check_command, target_word, Target}
-use Rattle.word_laws.specs.Words.{AtError, InBudget}
+use Rattle.word_laws.specs.Words.{error_word, fit_command, keep_command, fit_make_command, fit_check_command}
+use Rattle.word_laws.specs.Words.{target_word, Target, AtError, InBudget}
 use Rattle.text_laws.specs.Numbers.{number_in, signed_in}
 use Rattle.roam_num.specs.Places.{thousandths_in}
 use Rattle.run_messages.specs.declared.wanted.Wanted.{Wanted}
-use Rattle.run_messages.specs.declared.wanted.Wanted.TheVariants.{Command as Name, Task, Goal, Error, Grid, Script}
-use Rattle.run_messages.specs.declared.wanted.Wanted.TheVariants.{Mesh, Certificate, Prefix, X, Y, Z, Level, Seed}
-use Rattle.run_messages.specs.declared.wanted.Wanted.TheVariants.{Budget, Tolerance, Spacing}
+use Rattle.run_messages.specs.declared.wanted.Wanted.TheVariants.{Command as Name, Task, Goal, KeptGoal, Error, Grid}
+use Rattle.run_messages.specs.declared.wanted.Wanted.TheVariants.{Script, Mesh, Certificate, Points, Prefix, X, Y, Z}
+use Rattle.run_messages.specs.declared.wanted.Wanted.TheVariants.{Level, Seed, Budget, Tolerance, Spacing, Keep}
 use Rattle.run_messages.specs.Form.{command_form, task_form, is_fit, step, walk_words, is_over, first_wanted, may_stand}
-use Rattle.run_messages.specs.Form.{start, BeginsCommand, BeginsNoCommand, goal_form}
+use Rattle.run_messages.specs.Form.{start, BeginsCommand, BeginsNoCommand, goal_form, kept_goal_form, first_needed}
 
 -- a case for each answer of a test, and of an option
 bool : (P : Bool → Type 0) → P true → P false → (b : Bool) → P b
@@ -91,12 +92,14 @@ formless w h1 h2 h3 h4 h5 h6 h7 h8 =
     cond-false _ _ _ h1 ∙ cond-false _ _ _ h2 ∙ cond-false _ _ _ h3 ∙ cond-false _ _ _ h4 ∙ cond-false _ _ _ h5
     ∙ cond-false _ _ _ h6 ∙ cond-false _ _ _ h7 ∙ cond-false _ _ _ h8
 
--- every word of these is tested by itself: no name of a command or a task is wanted
+-- every word of these is tested by itself: no name of a command, a task or a goal is wanted, nor what may be left out
 abbrev ArePlain : List Wanted → Type 0
 ArePlain [] = Unit {0}
 ArePlain (Name ∷ xs) = ⊥
 ArePlain (Task ∷ xs) = ⊥
 ArePlain (Goal ∷ xs) = ⊥
+ArePlain (KeptGoal ∷ xs) = ⊥
+ArePlain (Keep ∷ xs) = ⊥
 ArePlain (x ∷ xs) = ArePlain xs
 
 -- as many words as are wanted, each of which fits
@@ -124,18 +127,44 @@ goes-on : (xs : List Wanted) (ws : List (List ℕ)) (b : Bool) → all_fit xs ws
 goes-on xs ws true e = e
 goes-on xs ws false e = over-none ws
 
+-- where plain words are wanted the walk is not over
+more-needed : (x : Wanted) (xs : List Wanted) → ArePlain (x ∷ xs) → is_over (Some (x ∷ xs)) ≡ false
+more-needed Name xs h = absurd h
+more-needed Task xs h = absurd h
+more-needed Goal xs h = absurd h
+more-needed KeptGoal xs h = absurd h
+more-needed Keep xs h = absurd h
+more-needed Error xs h = refl
+more-needed Grid xs h = refl
+more-needed Script xs h = refl
+more-needed Mesh xs h = refl
+more-needed Certificate xs h = refl
+more-needed Points xs h = refl
+more-needed Prefix xs h = refl
+more-needed X xs h = refl
+more-needed Y xs h = refl
+more-needed Z xs h = refl
+more-needed Level xs h = refl
+more-needed Seed xs h = refl
+more-needed Budget xs h = refl
+more-needed Tolerance xs h = refl
+more-needed Spacing xs h = refl
+
 -- where one word after the other is tested, the walk is over where they all fit
 plain : (xs : List Wanted) (ws : List (List ℕ)) → ArePlain xs → all_fit xs ws ≡ is_over (walk_words (Some xs) ws)
 plain [] [] h = refl
 plain [] (w ∷ ws) h = over-none ws
-plain (x ∷ xs) [] h = refl
+plain (x ∷ xs) [] h = sym (more-needed x xs h)
 plain (Name ∷ xs) (w ∷ ws) h = absurd h
 plain (Task ∷ xs) (w ∷ ws) h = absurd h
 plain (Goal ∷ xs) (w ∷ ws) h = absurd h
+plain (KeptGoal ∷ xs) (w ∷ ws) h = absurd h
+plain (Keep ∷ xs) (w ∷ ws) h = absurd h
 plain (Error ∷ xs) (w ∷ ws) h = goes-on xs ws (is_fit Error w) (plain xs ws h)
 plain (Grid ∷ xs) (w ∷ ws) h = goes-on xs ws (is_fit Grid w) (plain xs ws h)
 plain (Script ∷ xs) (w ∷ ws) h = goes-on xs ws (is_fit Script w) (plain xs ws h)
 plain (Mesh ∷ xs) (w ∷ ws) h = goes-on xs ws (is_fit Mesh w) (plain xs ws h)
+plain (Points ∷ xs) (w ∷ ws) h = goes-on xs ws (is_fit Points w) (plain xs ws h)
 plain (Certificate ∷ xs) (w ∷ ws) h = goes-on xs ws (is_fit Certificate w) (plain xs ws h)
 plain (Prefix ∷ xs) (w ∷ ws) h = goes-on xs ws (is_fit Prefix w) (plain xs ws h)
 plain (X ∷ xs) (w ∷ ws) h = goes-on xs ws (is_fit X w) (plain xs ws h)
@@ -424,27 +453,135 @@ no-words : (t : Bool) → false ≡ (t && false)
 no-words true = refl
 no-words false = refl
 
+-- the command of `fit` that a goal and the words behind it are
+abbrev kept_words : List ℕ → List ℕ → List ℕ → List (List ℕ) → Option Command
+kept_words a b c (n ∷ (s ∷ [])) = fit_command a b (target_word c n) (spacing_word s)
+kept_words a b c (n ∷ (s ∷ (k ∷ (p ∷ [])))) =
+    if bytes_eq c (codes "error") && bytes_eq k (codes "keep")
+    then keep_command a b (error_word n) (spacing_word s) p else None
+kept_words a b c ws = None
+
+-- what stands behind two tests
+with-both : (t u : Bool) (c : Option Command) →
+    is_some (if t && u then c else None) ≡ (t && is_some (if u then c else None))
+with-both true u c = refl
+with-both false u c = refl
+
 fit-words : (a b c : List ℕ) (ws : List (List ℕ))
     → is_some (command_of (codes "fit" ∷ (a ∷ (b ∷ (c ∷ ws)))))
-    ≡ (is_prefix b && is_some (goal_words (fit_command a b) c ws))
+    ≡ (is_prefix b && is_some (kept_words a b c ws))
 fit-words a b c [] = no-words (is_prefix b)
 fit-words a b c (d ∷ []) = no-words (is_prefix b)
 fit-words a b c (d ∷ (e ∷ [])) = with-prefix (is_prefix b) (fit_command a b (target_word c d) (spacing_word e)) _ refl
 fit-words a b c (d ∷ (e ∷ (f ∷ []))) = no-words (is_prefix b)
-fit-words a b c (d ∷ (e ∷ (f ∷ (g ∷ [])))) = no-words (is_prefix b)
+fit-words a b c (d ∷ (e ∷ (f ∷ (g ∷ [])))) =
+    with-both (is_prefix b) (bytes_eq c (codes "error") && bytes_eq f (codes "keep"))
+    (keep_command a b (error_word d) (spacing_word e) g)
 fit-words a b c (d ∷ (e ∷ (f ∷ (g ∷ (h ∷ more))))) = no-words (is_prefix b)
+
+keep-fits : (a b : List ℕ) (o q : Option ℕ) (p : List ℕ) →
+    is_some (keep_command a b o q p) ≡ (is_some o && (is_some q && true))
+keep-fits a b (Some t) (Some s) p = refl
+keep-fits a b (Some t) None p = refl
+keep-fits a b None q p = refl
+
+-- a test behind two others
+third : (t u v : Bool) (c : Option Command) → is_some c ≡ (t && (u && true)) →
+    is_some (if v then c else None) ≡ (t && (u && v))
+third t u true c e = e
+third true true false c e = refl
+third true false false c e = refl
+third false u false c e = refl
+
+-- what is wanted behind `error`
+abbrev kept_error : List Wanted
+kept_error = Error ∷ (Spacing ∷ (Keep ∷ (Points ∷ [])))
+
+abbrev tail_over : Bool → List Wanted → List (List ℕ) → Bool
+tail_over t stage ws = is_over (walk_words (if t then Some stage else None) ws)
+
+-- a stage that is left where a word was wrong is not over
+left-over : (t : Bool) (stage : List Wanted) (ws : List (List ℕ)) (u : Bool)
+    → u ≡ is_over (walk_words (Some stage) ws) → (t && u) ≡ tail_over t stage ws
+left-over true stage ws u e = e
+left-over false stage ws u e = over-none ws
+
+kept_error-fits : (a b : List ℕ) (ws : List (List ℕ)) →
+    is_some (kept_words a b (codes "error") ws) ≡ is_over (walk_words (Some kept_error) ws)
+kept_error-fits a b [] = refl
+kept_error-fits a b (n ∷ []) =
+    no-words (is_fit Error n) ∙ left-over (is_fit Error n) (Spacing ∷ (Keep ∷ (Points ∷ []))) [] false refl
+kept_error-fits a b (n ∷ (s ∷ [])) =
+    target-fits (fit_command a b) (fit-both a b) (λ k. AtError k) (error_word n) (spacing_word s)
+    ∙ left-over (is_fit Error n) (Spacing ∷ (Keep ∷ (Points ∷ []))) (s ∷ []) (is_fit Spacing s && true)
+    (left-over (is_fit Spacing s) (Keep ∷ (Points ∷ [])) [] true refl)
+kept_error-fits a b (n ∷ (s ∷ (k ∷ []))) =
+    no-words (is_fit Error n)
+    ∙ left-over (is_fit Error n) (Spacing ∷ (Keep ∷ (Points ∷ []))) (s ∷ (k ∷ [])) false
+    (no-words (is_fit Spacing s)
+    ∙ left-over (is_fit Spacing s) (Keep ∷ (Points ∷ [])) (k ∷ []) false
+    (no-words (is_fit Keep k) ∙ left-over (is_fit Keep k) (Points ∷ []) [] false refl))
+kept_error-fits a b (n ∷ (s ∷ (k ∷ (p ∷ [])))) =
+    third (is_fit Error n) (is_fit Spacing s) (is_fit Keep k) (keep_command a b (error_word n) (spacing_word s) p)
+    (keep-fits a b (error_word n) (spacing_word s) p)
+    ∙ left-over (is_fit Error n) (Spacing ∷ (Keep ∷ (Points ∷ []))) (s ∷ (k ∷ (p ∷ [])))
+    (is_fit Spacing s && is_fit Keep k)
+    (left-over (is_fit Spacing s) (Keep ∷ (Points ∷ [])) (k ∷ (p ∷ [])) (is_fit Keep k)
+    (and-true (is_fit Keep k) ∙ left-over (is_fit Keep k) (Points ∷ []) (p ∷ []) true refl))
+  where
+    and-true : (t : Bool) → t ≡ (t && true)
+    and-true true = refl
+    and-true false = refl
+kept_error-fits a b (n ∷ (s ∷ (k ∷ (p ∷ (o ∷ more))))) =
+    no-words (is_fit Error n)
+    ∙ left-over (is_fit Error n) (Spacing ∷ (Keep ∷ (Points ∷ []))) (s ∷ (k ∷ (p ∷ (o ∷ more)))) false
+    (no-words (is_fit Spacing s)
+    ∙ left-over (is_fit Spacing s) (Keep ∷ (Points ∷ [])) (k ∷ (p ∷ (o ∷ more))) false
+    (no-words (is_fit Keep k)
+    ∙ left-over (is_fit Keep k) (Points ∷ []) (p ∷ (o ∷ more)) false (over-none more)))
+
+-- `budget` and other words keep no points
+kept-budget : (a b : List ℕ) (ws : List (List ℕ)) →
+    is_some (kept_words a b (codes "budget") ws) ≡ is_some (goal_words (fit_command a b) (codes "budget") ws)
+kept-budget a b [] = refl
+kept-budget a b (n ∷ []) = refl
+kept-budget a b (n ∷ (s ∷ [])) = refl
+kept-budget a b (n ∷ (s ∷ (k ∷ []))) = refl
+kept-budget a b (n ∷ (s ∷ (k ∷ (p ∷ [])))) = refl
+kept-budget a b (n ∷ (s ∷ (k ∷ (p ∷ (o ∷ more))))) = refl
+
+keptless : (a b c : List ℕ) (ws : List (List ℕ)) → bytes_eq c (codes "error") ≡ false →
+    bytes_eq c (codes "budget") ≡ false → is_some (kept_words a b c ws) ≡ false
+keptless a b c [] h1 h2 = refl
+keptless a b c (n ∷ []) h1 h2 = refl
+keptless a b c (n ∷ (s ∷ [])) h1 h2 = goalless (fit_command a b) (fit-both a b) c (n ∷ (s ∷ [])) h1 h2
+keptless a b c (n ∷ (s ∷ (k ∷ []))) h1 h2 = refl
+keptless a b c (n ∷ (s ∷ (k ∷ (p ∷ [])))) h1 h2 =
+    ap is_some (cond-false _ _ _ (ap (λ t. t && bytes_eq k (codes "keep")) h1))
+keptless a b c (n ∷ (s ∷ (k ∷ (p ∷ (o ∷ more))))) h1 h2 = refl
+
+kept-fits : (a b c : List ℕ) (ws : List (List ℕ)) →
+    is_some (kept_words a b c ws) ≡ is_over (walk_words (kept_goal_form c) ws)
+kept-fits a b c ws =
+    by_goal (λ c. is_some (kept_words a b c ws) ≡ is_over (walk_words (kept_goal_form c) ws))
+    (kept_error-fits a b ws)
+    (kept-budget a b ws ∙ budget-words (fit_command a b) (fit-both a b) ws ∙ plain _ ws tt)
+    (λ c h1 h2. keptless a b c ws h1 h2 ∙ over-none ws
+    ∙ ap (λ s. is_over (walk_words s ws)) (sym (cond-false _ _ _ h1 ∙ cond-false _ _ _ h2)))
+    c
 
 -- of `fit`
 fit-fits : (ws : List (List ℕ)) →
-    is_some (command_of (codes "fit" ∷ ws)) ≡ is_over (walk_words (Some (Grid ∷ (Prefix ∷ (Goal ∷ [])))) ws)
+    is_some (command_of (codes "fit" ∷ ws)) ≡ is_over (walk_words (Some (Grid ∷ (Prefix ∷ (KeptGoal ∷ [])))) ws)
 fit-fits [] = refl
 fit-fits (a ∷ []) = refl
-fit-fits (a ∷ (b ∷ [])) = bool (λ t. false ≡ is_over (if t then Some (Goal ∷ []) else None)) refl refl (is_prefix b)
+fit-fits (a ∷ (b ∷ [])) =
+    bool (λ t. false ≡ is_over (if t then Some (KeptGoal ∷ []) else None)) refl refl (is_prefix b)
 fit-fits (a ∷ (b ∷ (c ∷ ws))) =
     fit-words a b c ws
-    ∙ bool (λ t. (t && is_some (goal_words (fit_command a b) c ws))
-    ≡ is_over (walk_words (step (if t then Some (Goal ∷ []) else None) c) ws))
-    (goal-fits (fit_command a b) (fit-both a b) c ws) (over-none ws) (is_prefix b)
+    ∙ bool (λ t. (t && is_some (kept_words a b c ws))
+    ≡ is_over (walk_words (step (if t then Some (KeptGoal ∷ []) else None) c) ws))
+    (kept-fits a b c ws) (over-none ws) (is_prefix b)
 
 -- of `certify make-fit`
 make_fit-words : (a c : List ℕ) (ws : List (List ℕ))
@@ -517,7 +654,7 @@ nameless w h1 h2 h3 h4 h5 h6 h7 h8 (a ∷ (b ∷ (c ∷ (d ∷ (e ∷ (f ∷ [])
     cond-false _ _ _ (ap (λ t. t && bytes_eq a (codes "check")) h7)
 nameless w h1 h2 h3 h4 h5 h6 h7 h8 (a ∷ (b ∷ (c ∷ (d ∷ (e ∷ (f ∷ (g ∷ []))))))) =
     cond-false _ _ _ (ap (λ t. t && bytes_eq a (codes "make")) h7)
-    ∙ cond-false _ _ _ (ap (λ t. t && bytes_eq a (codes "check-fit")) h7)
+    ∙ cond-false _ _ _ (ap (λ t. t && bytes_eq a (codes "check-fit")) h7) ∙ cond-false _ _ _ h8
 nameless w h1 h2 h3 h4 h5 h6 h7 h8 (a ∷ (b ∷ (c ∷ (d ∷ (e ∷ (f ∷ (g ∷ (h ∷ more)))))))) = refl
 
 -- words are a command exactly where the walk over them is over
@@ -559,6 +696,8 @@ ending [] = []
 ending (Name ∷ xs) = codes "info" ∷ (codes "g" ∷ [])
 ending (Task ∷ xs) = codes "check" ∷ (codes "g" ∷ (codes "m" ∷ (codes "c" ∷ (codes "2" ∷ (codes "1" ∷ [])))))
 ending (Goal ∷ xs) = codes "budget" ∷ (codes "2" ∷ (codes "1" ∷ []))
+ending (KeptGoal ∷ xs) = codes "budget" ∷ (codes "2" ∷ (codes "1" ∷ []))
+ending (Keep ∷ xs) = []
 ending (x ∷ xs) = fitting x ∷ ending xs
 
 ends : (xs : List Wanted) → is_over (walk_words (Some xs) (ending xs)) ≡ true
@@ -567,11 +706,14 @@ ends [] = refl
 ends (Name ∷ xs) = refl
 ends (Task ∷ xs) = refl
 ends (Goal ∷ xs) = refl
+ends (KeptGoal ∷ xs) = refl
+ends (Keep ∷ xs) = refl
 ends (Error ∷ xs) = ends xs
 ends (Grid ∷ xs) = ends xs
 ends (Script ∷ xs) = ends xs
 ends (Mesh ∷ xs) = ends xs
 ends (Certificate ∷ xs) = ends xs
+ends (Points ∷ xs) = ends xs
 ends (Prefix ∷ xs) = ends xs
 ends (X ∷ xs) = ends xs
 ends (Y ∷ xs) = ends xs
@@ -592,11 +734,14 @@ step-fits [] w = refl
 step-fits (Name ∷ xs) w = refl
 step-fits (Task ∷ xs) w = refl
 step-fits (Goal ∷ xs) w = refl
+step-fits (KeptGoal ∷ xs) w = refl
+step-fits (Keep ∷ xs) w = tested xs (is_fit Keep w)
 step-fits (Error ∷ xs) w = tested xs (is_fit Error w)
 step-fits (Grid ∷ xs) w = refl
 step-fits (Script ∷ xs) w = refl
 step-fits (Mesh ∷ xs) w = refl
 step-fits (Certificate ∷ xs) w = refl
+step-fits (Points ∷ xs) w = refl
 step-fits (Prefix ∷ xs) w = tested xs (is_fit Prefix w)
 step-fits (X ∷ xs) w = tested xs (is_fit X w)
 step-fits (Y ∷ xs) w = tested xs (is_fit Y w)
@@ -653,16 +798,15 @@ begins-wanted ws xs w h = (there, back)
         goes (Some ys) e u = begins (ws ++ w ∷ []) ys (one_more ∙ e)
         goes None e u = absurd (true≢false (sym u))
 
--- words of which nothing more is wanted are a command, and others are none
+-- words behind which nothing has to stand are a command, and others are none
 pub whole-command : (ws : List (List ℕ)) (xs : List Wanted) → walk_words start ws ≡ Some xs →
-    first_wanted xs ≡ None → IsSome (command_of ws)
-whole-command ws [] h e = commands-are ws ∙ ap is_over h
-whole-command ws (x ∷ xs) h e = absurd (true≢false (ap is_some e))
+    first_needed xs ≡ None → IsSome (command_of ws)
+whole-command ws xs h e = commands-are ws ∙ ap is_over h ∙ ap (λ o. is_none o) e
 
 pub part-command : (ws : List (List ℕ)) (xs : List Wanted) (wanted : Wanted) → walk_words start ws ≡ Some xs →
-    first_wanted xs ≡ Some wanted → IsSome (command_of ws) → ⊥
-part-command ws [] wanted h e t = true≢false (ap is_some (sym e))
-part-command ws (x ∷ xs) wanted h e t = true≢false (sym t ∙ commands-are ws ∙ ap is_over h)
+    first_needed xs ≡ Some wanted → IsSome (command_of ws) → ⊥
+part-command ws xs wanted h e t =
+    true≢false (sym t ∙ commands-are ws ∙ ap is_over h ∙ ap (λ o. is_none o) e)
 
 -- words that begin with some that begin no command are none
 pub no-command-behind : (k : ℕ) (ws : List (List ℕ)) → BeginsNoCommand (take k ws) → IsSome (command_of ws) → ⊥

@@ -3,7 +3,7 @@
 use Rattle.std.specs.Prelude.{ℕ, zero, suc, List, [], ◌∷◌, Option, Some, None}
 use Rattle.word_laws.specs.Words as words
 use Rattle.run_messages.specs.declared.opened.Role.{Role}
-use Rattle.run_messages.specs.declared.opened.Role.TheVariants.{Grid, Script, Certificate, Mesh}
+use Rattle.run_messages.specs.declared.opened.Role.TheVariants.{Grid, Script, Certificate, Mesh, Points}
 
 -- what the files are that a job reads after the grid
 abbrev pub job_roles : words.Job → List Role
@@ -12,6 +12,7 @@ job_roles words.Facts = []
 job_roles (words.Make m) = []
 job_roles (words.Check c) = Certificate ∷ (Mesh ∷ [])
 job_roles (words.Fit f) = []
+job_roles (words.Keep k) = Points ∷ []
 job_roles (words.MakeFit m) = []
 job_roles (words.CheckFit c) = Certificate ∷ (Mesh ∷ [])
 

@@ -10,6 +10,7 @@ job_prefix words.Facts = None
 job_prefix (words.Make m) = None
 job_prefix (words.Check c) = None
 job_prefix (words.Fit f) = Some f.prefix
+job_prefix (words.Keep k) = Some k.prefix
 job_prefix (words.MakeFit m) = None
 job_prefix (words.CheckFit c) = None
 

@@ -5,7 +5,7 @@ ghost use Rattle.std.specs.Prelude.{IsSome, IsTrue, string_bytes};
 ghost use Rattle.word_laws.specs.Words.{command_of};
 ghost use Rattle.run_messages.specs.Form.{BeginsCommand, BeginsNoCommand, may_stand};
 
-use crate::wanted::{Wanted, first_of, stage_behind, whole};
+use crate::wanted::{Wanted, first_of, needed_of, stage_behind, whole};
 
 /// What is wrong with words that are no command. Its text says it in one line.
 #[derive(Clone, Copy)]
@@ -13,7 +13,7 @@ pub struct WordFault<'a> {
     /// The place of the first word that is wrong, counted from 0; the number of the words where one
     /// more is wanted.
     pub place: usize,
-    /// What is wanted in that place; None where the command is whole before it.
+    /// What is wanted in that place; None where the command is whole before it, and nothing may follow.
     pub wanted: Option<Wanted>,
     /// All the words.
     pub words: &'a [String],
@@ -49,7 +49,7 @@ pub fn word_fault(words: &[String]) -> Option<WordFault<'_>>
             }
         }
     }
-    match first_of(stage) {
+    match needed_of(stage) {
         None => None,
         Some(wanted) => Some(WordFault {
             place: words.len(),

@@ -5,7 +5,7 @@ ghost use Rattle.word_laws.specs.Words.{command_of};
 ghost use Rattle.run_words.specs.WordView.{command_seen};
 ghost use Rattle.run_messages.specs.Opened.{opened_name, opened_role, entry};
 
-use run_words::{Command, FrameWords, command_in};
+use run_words::{Command, FrameWords, KeepWords, command_in};
 
 /// What a file of a command is.
 #[derive(Clone, Copy, Debug, PartialEq, Eq)]
@@ -18,6 +18,8 @@ pub enum Role {
     Certificate,
     /// A mesh that is checked.
     Mesh,
+    /// The points that a mesh keeps.
+    Points,
 }
 
 /// A file that the words of a command name.
@@ -59,6 +61,7 @@ fn file_of<'a>(command: &Command<'a>, number: u64) -> Option<NamedFile<'a>>
             file_of_check(words.grid, words.certificate, words.mesh, number)
         }
         Command::Fit(words) => file_of_grid(words.grid, number),
+        Command::Keep(words) => file_of_kept(words, number),
         Command::MakeFit(words) => file_of_grid(words.grid, number),
         Command::CheckFit(words) => {
             file_of_check(words.grid, words.certificate, words.mesh, number)
@@ -91,6 +94,22 @@ fn file_of_frames<'a>(words: &FrameWords<'a>, number: u64) -> Option<NamedFile<'
         2 => Some(NamedFile {
             role: Role::Script,
             name: words.script,
+        }),
+        _ => file_of_grid(words.grid, number),
+    }
+}
+
+/// A file of a command that keeps points.
+fn file_of_kept<'a>(words: &KeepWords<'a>, number: u64) -> Option<NamedFile<'a>>
+    ensures name { option_map (λ file. file.name.now) result ≡
+        entry (words.now.grid.now ∷ (words.now.points.now ∷ [])) number }
+    ensures role { option_map (λ file. file.role) result ≡
+        entry (Role.Grid ∷ (Role.Points ∷ [])) number }
+{
+    match number {
+        2 => Some(NamedFile {
+            role: Role::Points,
+            name: words.points,
         }),
         _ => file_of_grid(words.grid, number),
     }

@@ -67,6 +67,7 @@ fn noun(role: Role) -> &'static str {
         Role::Script => "script",
         Role::Certificate => "certificate",
         Role::Mesh => "mesh",
+        Role::Points => "points",
     }
 }
 

@@ -15,6 +15,7 @@ pub fn mesh_prefix(words: &[String]) -> Option<&str>
     match command_in(words) {
         Some(Command::Frames(words)) => prefix_for(words.meshing),
         Some(Command::Fit(words)) => Some(words.prefix),
+        Some(Command::Keep(words)) => Some(words.prefix),
         _ => None,
     }
 }

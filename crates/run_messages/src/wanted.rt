@@ -1,12 +1,12 @@
 //! What a word of a command may be, and what stands behind it.
 
-ghost use Rattle.std.specs.Prelude.{◌≡◌, Some, option_map, is_some};
+ghost use Rattle.std.specs.Prelude.{◌≡◌, Some, IfSome, option_map, is_some};
 ghost use Rattle.word_laws.specs.Words.{number_word, error_word, coordinate_word};
 ghost use Rattle.word_laws.specs.Words.{is_prefix as is_prefix_seen};
-ghost use Rattle.run_messages.specs.Form.{start, step, first_wanted};
+ghost use Rattle.run_messages.specs.Form.{start, step, first_wanted, first_needed};
 ghost use Rattle.run_messages.specs.Form.{next_stage as next_seen, is_fit as is_fit_seen};
 ghost use Rattle.run_messages.specs.Form.{command_form as command_form_seen, task_form as task_form_seen};
-ghost use Rattle.run_messages.specs.Form.{goal_form as goal_form_seen};
+ghost use Rattle.run_messages.specs.Form.{goal_form as goal_form_seen, kept_goal_form as kept_goal_form_seen};
 
 use roam_edge::LONGEST_PREFIX;
 use roam_num::{read_dec, read_signed, read_thousandths};
@@ -18,8 +18,10 @@ pub enum Wanted {
     Command,
     /// `make`, `check`, `make-fit` or `check-fit`, behind `certify`.
     Task,
-    /// `error` or `budget`, behind the files of a command on fitted meshes.
+    /// `error` or `budget`, behind the files of `certify make-fit` and `certify check-fit`.
     Goal,
+    /// The same behind those of `fit`, where an error may be followed by points that are kept.
+    KeptGoal,
     /// The greatest error, in units of height.
     Error,
     /// The name of the grid's file.
@@ -30,6 +32,8 @@ pub enum Wanted {
     Mesh,
     /// The name of a certificate's file.
     Certificate,
+    /// The name of the file with the points that a mesh keeps.
+    Points,
     /// What the names of meshes begin with.
     Prefix,
     /// The first coordinate of a camera.
@@ -48,6 +52,8 @@ pub enum Wanted {
     Tolerance,
     /// The world units of a grid step.
     Spacing,
+    /// `keep`, which may be left out with what stands behind it.
+    Keep,
 }
 
 /// What is wanted from a place on, to the end of the command.
@@ -101,7 +107,7 @@ const CHECK: Stage = &[
     Wanted::Spacing,
 ];
 
-const FIT: Stage = &[Wanted::Grid, Wanted::Prefix, Wanted::Goal];
+const FIT: Stage = &[Wanted::Grid, Wanted::Prefix, Wanted::KeptGoal];
 
 const MAKE_FIT: Stage = &[Wanted::Grid, Wanted::Goal];
 
@@ -113,6 +119,8 @@ const CHECK_FIT: Stage = &[
 ];
 
 const AT_ERROR: Stage = &[Wanted::Error, Wanted::Spacing];
+
+const AT_KEPT_ERROR: Stage = &[Wanted::Error, Wanted::Spacing, Wanted::Keep, Wanted::Points];
 
 const IN_BUDGET: Stage = &[Wanted::Budget, Wanted::Spacing];
 
@@ -147,13 +155,24 @@ pub(crate) fn whole() -> Stage
     NAME
 }
 
-/// What is wanted next; None where the command is whole.
+/// What is wanted next; None where nothing may follow.
 pub(crate) fn first_of(stage: Stage) -> Option<Wanted>
     ensures { result ≡ first_wanted stage.now }
 {
     match stage {
         [] => None,
         [wanted, ..] => Some(*wanted),
+    }
+}
+
+/// What has to stand next; None where the command is whole, though it may go on.
+pub(crate) fn needed_of(stage: Stage) -> Option<Wanted>
+    ensures needed { result ≡ first_needed stage.now }
+    ensures wanted { IfSome result (λ wanted. first_wanted stage.now ≡ Some wanted) }
+{
+    match first_of(stage) {
+        Some(Wanted::Keep) => None,
+        first => first,
     }
 }
 
@@ -176,6 +195,7 @@ fn next_stage(wanted: Wanted, rest: Stage, word: &str) -> Option<Stage>
         Wanted::Command => command_form(word),
         Wanted::Task => task_form(word),
         Wanted::Goal => goal_form(word),
+        Wanted::KeptGoal => kept_goal_form(word),
         _ => {
             if is_fit(wanted, word) {
                 Some(rest)
@@ -239,6 +259,19 @@ pub(crate) fn goal_form(word: &str) -> Option<Stage>
     }
 }
 
+/// The same behind the files of `fit`, where an error may be followed by points that are kept.
+pub(crate) fn kept_goal_form(word: &str) -> Option<Stage>
+    ensures { option_map (λ form. form.now) result ≡ kept_goal_form_seen word.now }
+{
+    if word == "error" {
+        Some(AT_KEPT_ERROR)
+    } else if word == "budget" {
+        Some(IN_BUDGET)
+    } else {
+        None
+    }
+}
+
 /// Whether a word may stand where this is wanted.
 fn is_fit(wanted: Wanted, word: &str) -> bool
     ensures { result ≡ is_fit_seen wanted word.now }
@@ -247,8 +280,9 @@ fn is_fit(wanted: Wanted, word: &str) -> bool
         Wanted::Command => command_form(word).is_some(),
         Wanted::Task => task_form(word).is_some(),
         Wanted::Goal => goal_form(word).is_some(),
+        Wanted::KeptGoal => kept_goal_form(word).is_some(),
         Wanted::Error => is_error(word),
-        Wanted::Grid | Wanted::Script | Wanted::Mesh | Wanted::Certificate => true,
+        Wanted::Grid | Wanted::Script | Wanted::Mesh | Wanted::Certificate | Wanted::Points => true,
         Wanted::Prefix => is_prefix(word),
         Wanted::X | Wanted::Y | Wanted::Z => is_coordinate(word),
         Wanted::Level => is_number(word, 1, GREATEST_LEVEL),
@@ -256,6 +290,7 @@ fn is_fit(wanted: Wanted, word: &str) -> bool
         Wanted::Budget => is_number(word, LEAST_BUDGET, GREATEST_BUDGET),
         Wanted::Tolerance => is_number(word, 0, GREATEST_TOLERANCE),
         Wanted::Spacing => is_number(word, 1, GREATEST_SPACING),
+        Wanted::Keep => word == "keep",
     }
 }
 

@@ -39,7 +39,11 @@ fn write_wrong<W: fmt::Write>(
             "no command {word}; the commands are info, try, mesh, strip, least, measure, fit and certify"
         ),
         Wanted::Task => write!(f, "certify wants {TASKS} behind it, and not {word}"),
-        Wanted::Goal => write_goal(f, word, words),
+        Wanted::Goal | Wanted::KeptGoal => write_goal(f, word, words),
+        Wanted::Keep => write!(
+            f,
+            "fit wants 'keep' and POINTS behind SPACING, or nothing, and not {word}"
+        ),
         _ => {
             write!(f, "{} is {word}: ", label(wanted))?;
             write_wanted(f, wanted)?;
@@ -68,7 +72,7 @@ fn write_goal<W: fmt::Write>(
 /// Writes how many words the command wants, where another number of them is given.
 fn write_other_count<W: fmt::Write>(f: &mut fmt::Formatter<W>, words: &[String]) -> fmt::Result {
     match form_of(words) {
-        Some(form) if form.given != count_of(form.behind) => {
+        Some(form) if !is_asked(&form) => {
             f.write_str("; ")?;
             write_count(f, &form)
         }
@@ -114,7 +118,15 @@ fn form_with<'a>(name: &'a str, task: &'a str, behind: Stage, given: usize) -> F
 /// Whether the last place is the goal of a fitted mesh.
 fn has_goal(behind: Stage) -> bool {
     match behind.last() {
-        Some(Wanted::Goal) => true,
+        Some(Wanted::Goal | Wanted::KeptGoal) => true,
+        _ => false,
+    }
+}
+
+/// Whether points may be kept behind the goal: two more words.
+fn may_keep(behind: Stage) -> bool {
+    match behind.last() {
+        Some(Wanted::KeptGoal) => true,
         _ => false,
     }
 }
@@ -126,6 +138,12 @@ fn count_of(behind: Stage) -> usize {
     } else {
         behind.len()
     }
+}
+
+/// Whether as many words are given as the command wants.
+fn is_asked(form: &Form<'_>) -> bool {
+    let count = count_of(form.behind);
+    form.given == count || (may_keep(form.behind) && form.given == count.saturating_add(2))
 }
 
 /// Writes how many words the command wants behind its name, how many are there, and which they are.
@@ -143,6 +161,10 @@ fn write_asked<W: fmt::Write>(f: &mut fmt::Formatter<W>, form: &Form<'_>) -> fmt
     write_name(f, form)?;
     match count_of(form.behind) {
         1 => f.write_str(" wants 1 word behind it, "),
+        count if may_keep(form.behind) => {
+            let more = count.saturating_add(2);
+            write!(f, " wants {count} or {more} words behind it, ")
+        }
         count => write!(f, " wants {count} words behind it, "),
     }
 }
@@ -163,7 +185,12 @@ fn write_places<W: fmt::Write>(f: &mut fmt::Formatter<W>, behind: Stage) -> fmt:
     if !has_goal(behind) {
         return Ok(());
     }
-    f.write_str(" error E SPACING, or")?;
+    f.write_str(" error E SPACING,")?;
+    if may_keep(behind) {
+        write_labels(f, behind)?;
+        f.write_str(" error E SPACING keep POINTS,")?;
+    }
+    f.write_str(" or")?;
     write_labels(f, behind)?;
     f.write_str(" budget BUDGET SPACING")
 }
@@ -171,7 +198,7 @@ fn write_places<W: fmt::Write>(f: &mut fmt::Formatter<W>, behind: Stage) -> fmt:
 /// Writes the names of these places, but for that of a goal.
 fn write_labels<W: fmt::Write>(f: &mut fmt::Formatter<W>, behind: Stage) -> fmt::Result {
     for wanted in behind {
-        if *wanted != Wanted::Goal {
+        if *wanted != Wanted::Goal && *wanted != Wanted::KeptGoal {
             write!(f, " {}", label(*wanted))?;
         }
     }
@@ -183,12 +210,13 @@ fn label(wanted: Wanted) -> &'static str {
     match wanted {
         Wanted::Command => "COMMAND",
         Wanted::Task => "TASK",
-        Wanted::Goal => "GOAL",
+        Wanted::Goal | Wanted::KeptGoal => "GOAL",
         Wanted::Error => "E",
         Wanted::Grid => "GRID",
         Wanted::Script => "SCRIPT",
         Wanted::Mesh => "OBJ",
         Wanted::Certificate => "CERT",
+        Wanted::Points => "POINTS",
         Wanted::Prefix => "PREFIX",
         Wanted::X => "X",
         Wanted::Y => "Y",
@@ -198,6 +226,7 @@ fn label(wanted: Wanted) -> &'static str {
         Wanted::Budget => "BUDGET",
         Wanted::Tolerance => "TOLERANCE",
         Wanted::Spacing => "SPACING",
+        Wanted::Keep => "keep",
     }
 }
 

@@ -145,3 +145,49 @@ fn a_grid_that_is_refused_has_no_fit(rt: HostRuntime) -> Result<(), Fail> {
     );
     Ok(())
 }
+
+#[test]
+fn points_that_are_kept_are_vertices(rt: HostRuntime) -> Result<(), Fail> {
+    // Over nine points of height 0: the middle asks for the four quarters, and the middle of an edge for the quarter
+    // on it, which is split alone, and for the two halves.
+    let halves = "fit triangles 2 vertices 4 deviation 0 over 2 error 0\n";
+    let quarters = "fit triangles 4 vertices 5 deviation 0 over 2 error 0\n";
+    let edge = "fit triangles 5 vertices 6 deviation 0 over 2 error 0\n";
+    let cases: [(&[u8], &str); 6] = [
+        (b"", halves),
+        (
+            b"# the corners ask for nothing\r\n0 0\n2 2\n0 2\n2 0\n",
+            halves,
+        ),
+        (b"1 1\n", quarters),
+        (b"1 1\n 1\t1", quarters),
+        (b"1 0\n", edge),
+        (b"\n1 0\r\n1 1\n", edge),
+    ];
+    for (points, line) in cases {
+        let words = ["fit", "g", "out", "error", "0", "1", "keep", "s"];
+        let ran = run_words(rt.alloc(), &words, flat(), points, Faults::none())?;
+        assert_eq!(rt; ran.status, Status::Done, "{points:?}");
+        assert_eq!(rt; ran.meshes.len(), 1, "{points:?}");
+        assert_eq!(rt; ran.report.as_slice(), line.as_bytes(), "{points:?}");
+        assert_eq!(rt; ran.engine, None, "{points:?}");
+    }
+    Ok(())
+}
+
+#[test]
+fn a_point_that_is_refused_leaves_no_mesh(rt: HostRuntime) -> Result<(), Fail> {
+    let cases: [(&[u8], &str); 3] = [
+        (b"1 1\n3 0\n", "line 2 refused: out of range in field 1\n"),
+        (b"1 1 1", "line 1 refused: wrong fields\n"),
+        (b"\n\n\n\n\n\n\n\n\n\n", "line 10 refused: too many lines\n"),
+    ];
+    for (points, line) in cases {
+        let words = ["fit", "g", "out", "error", "0", "1", "keep", "s"];
+        let ran = run_words(rt.alloc(), &words, flat(), points, Faults::none())?;
+        assert_eq!(rt; ran.status, Status::ScriptRefused, "{points:?}");
+        assert_eq!(rt; ran.meshes.len(), 0, "{points:?}");
+        assert_eq!(rt; ran.report.as_slice(), line.as_bytes(), "{points:?}");
+    }
+    Ok(())
+}

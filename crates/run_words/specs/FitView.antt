@@ -1,10 +1,13 @@
 -- The words of `fit` in the words of a run, and what the code knows of their numbers.
--- Words: target_seen, IsTarget, fitting_seen, IsFitting, fit_making_seen, fit_checking_seen, AreFitBounds.
+-- Words: target_seen, IsTarget, fitting_seen, IsFitting, keeping_seen, IsKeeping, fit_making_seen, fit_checking_seen,
+-- AreFitBounds.
 use Rattle.std.specs.Prelude.{ℕ, ◌≤◌}
 use Rattle.wedgie_tree.specs.declared.wedges.TheConstants.{GREATEST_SPACING}
-use Rattle.word_laws.specs.Words.{Fitting, FitMaking, FitChecking, least_budget, greatest_budget, greatest_error}
+use Rattle.word_laws.specs.Words.{Fitting, Keeping, FitMaking, FitChecking, least_budget, greatest_budget}
+use Rattle.word_laws.specs.Words.{greatest_error}
 use Rattle.word_laws.specs.Words as words
 use Rattle.run_words.specs.declared.fit_words.FitWords.{FitWords}
+use Rattle.run_words.specs.declared.fit_words.KeepWords.{KeepWords}
 use Rattle.run_words.specs.declared.fit_words.Target.{Target}
 use Rattle.run_words.specs.declared.fit_words.Target.TheVariants.{AtError, InBudget}
 use Rattle.run_words.specs.declared.certify_words.FitMakeWords.{FitMakeWords}
@@ -29,6 +32,22 @@ fitting_seen w = record { prefix = w.prefix.now; target = target_seen w.target; 
 pub record IsFitting (w : FitWords) : Type 0 where
   pub shown : IsPrefixLength w.prefix.now
   pub bound : IsTarget w.target
+  pub spacing_low : 1 ≤ w.spacing
+  pub spacing_high : w.spacing ≤ GREATEST_SPACING
+
+-- how a mesh is fitted that keeps points
+abbrev pub keeping_seen : KeepWords → Keeping
+keeping_seen w = record {
+  prefix = w.prefix.now;
+  thousandths = w.thousandths;
+  spacing = w.spacing;
+  points = w.points.now;
+}
+
+-- the prefix has an accepted length, and the numbers lie within their bounds
+pub record IsKeeping (w : KeepWords) : Type 0 where
+  pub shown : IsPrefixLength w.prefix.now
+  pub bound : w.thousandths ≤ greatest_error
   pub spacing_low : 1 ≤ w.spacing
   pub spacing_high : w.spacing ≤ GREATEST_SPACING
 

@@ -5,12 +5,14 @@ use Rattle.mesh_defs.specs.declared.level.TheConstants.{GREATEST_LEVEL}
 use Rattle.wedgie_tree.specs.declared.wedges.TheConstants.{GREATEST_SPACING}
 use Rattle.run_words.specs.declared.words.FrameWords.{FrameWords}
 use Rattle.run_words.specs.declared.words.Command.{Command}
-use Rattle.run_words.specs.declared.words.Command.TheVariants.{Frames, Info, Try, Make, Check, Fit, MakeFit, CheckFit}
+use Rattle.run_words.specs.declared.words.Command.TheVariants.{Frames, Info, Try, Make, Check, Fit, Keep, MakeFit}
+use Rattle.run_words.specs.declared.words.Command.TheVariants.{CheckFit}
 use Rattle.run_words.specs.declared.showing.Meshing.{Meshing}
 use Rattle.run_words.specs.declared.showing.Meshing.TheVariants.{ByEngine, ByTolerance}
 use Rattle.run_words.specs.ShowView.{IsPrefixLength, show_seen, IsShowing}
 use Rattle.run_words.specs.CertifyView.{making_seen, checking_seen, AreInBounds}
-use Rattle.run_words.specs.FitView.{fitting_seen, IsFitting, fit_making_seen, fit_checking_seen, AreFitBounds}
+use Rattle.run_words.specs.FitView.{fitting_seen, IsFitting, keeping_seen, IsKeeping, fit_making_seen}
+use Rattle.run_words.specs.FitView.{fit_checking_seen, AreFitBounds}
 use Rattle.word_laws.specs.Words as words
 
 -- how frames are shown
@@ -39,6 +41,7 @@ command_seen (Try n seed) = words.Generated n seed
 command_seen (Make w) = words.OnGrid w.grid.now (words.Make (making_seen w))
 command_seen (Check w) = words.OnGrid w.grid.now (words.Check (checking_seen w))
 command_seen (Fit w) = words.OnGrid w.grid.now (words.Fit (fitting_seen w))
+command_seen (Keep w) = words.OnGrid w.grid.now (words.Keep (keeping_seen w))
 command_seen (MakeFit w) = words.OnGrid w.grid.now (words.MakeFit (fit_making_seen w))
 command_seen (CheckFit w) = words.OnGrid w.grid.now (words.CheckFit (fit_checking_seen w))
 
@@ -59,5 +62,6 @@ IsCommandInBounds (Try n seed) = (1 ≤ n) × (n ≤ GREATEST_LEVEL)
 IsCommandInBounds (Make w) = AreInBounds w.budget w.spacing
 IsCommandInBounds (Check w) = AreInBounds w.budget w.spacing
 IsCommandInBounds (Fit w) = IsFitting w
+IsCommandInBounds (Keep w) = IsKeeping w
 IsCommandInBounds (MakeFit w) = AreFitBounds w.target w.spacing
 IsCommandInBounds (CheckFit w) = AreFitBounds w.target w.spacing

@@ -1,4 +1,4 @@
-//! The words of `certify`.
+//! The words of `certify`, and those of seven words and more.
 
 ghost use Rattle.std.specs.Prelude.{◌≡◌, ◌≤◌, ◌^◌, ◌&&◌, IfSome, length, map, string_bytes, codes, bytes_eq};
 ghost use Rattle.std.specs.Prelude.{unsigned_abs};
@@ -8,7 +8,7 @@ ghost use Rattle.word_laws.specs.Words.{check_command, target_word, fit_make_com
 ghost use Rattle.word_laws.specs.Words.{command_of};
 ghost use Rattle.run_words.specs.WordView.{command_seen, IsCommandInBounds};
 
-use crate::fit_words::{Target, target_in};
+use crate::fit_words::{Target, keep_in, target_in};
 use crate::words::{Command, GREATEST_BUDGET, LEAST_BUDGET, small_number};
 use roam_num::read_signed;
 use view_priority::Camera;
@@ -72,7 +72,8 @@ pub struct FitCheckWords<'a> {
 /// The greatest size of a coordinate of a camera.
 const REACH: u64 = 1 << 30;
 
-/// The command that 7 words or more are: to make a certificate, or to check a mesh by one.
+/// The command that 7 words or more are: to make a certificate, to check a mesh by one, or to fit one that keeps
+/// points.
 pub(crate) fn certify_in(words: &[String]) -> Option<Command<'_>>
     requires many { 7 ≤ length words.now }
     ensures value { option_map command_seen result ≡ command_of (map string_bytes words.now) }
@@ -129,16 +130,16 @@ fn long_words(words: &[String]) -> Option<Command<'_>>
     }
 }
 
-/// The command of eight words: `certify make` or `certify check-fit`.
+/// The command of eight words: `certify make`, `certify check-fit` or `fit`.
 fn eight_words<'a>(
     first: &str,
-    task: &str,
+    task: &'a str,
     grid: &'a str,
     i: &'a str,
     j: &'a str,
     k: &str,
     number: &str,
-    spacing: &str,
+    spacing: &'a str,
 ) -> Option<Command<'a>>
     ensures value { option_map command_seen result ≡
         eight_command first.now task.now grid.now i.now j.now k.now number.now spacing.now }
@@ -148,6 +149,8 @@ fn eight_words<'a>(
         make_in(grid, i, j, k, number, spacing)
     } else if is_task(first, task, "check-fit") {
         check_fit_in(grid, i, j, k, number, spacing)
+    } else if first == "fit" {
+        keep_in(task, grid, i, j, k, number, spacing)
     } else {
         None
     }

@@ -2,7 +2,7 @@
 
 ghost use Rattle.std.specs.Prelude.{◌≡◌, ◌≤◌, if◌then◌else◌, IfSome};
 ghost use Rattle.std.specs.Option.{option_map};
-ghost use Rattle.word_laws.specs.Words.{error_word, greatest_error, target_word, fit_words};
+ghost use Rattle.word_laws.specs.Words.{error_word, greatest_error, target_word, fit_words, keep_words};
 ghost use Rattle.run_words.specs.FitView.{target_seen, IsTarget};
 ghost use Rattle.run_words.specs.WordView.{command_seen, IsCommandInBounds};
 
@@ -21,6 +21,21 @@ pub struct FitWords<'a> {
     pub target: Target,
     /// The world units of a grid step.
     pub spacing: u32,
+}
+
+/// The words of `fit GRID PREFIX error E SPACING keep POINTS`.
+#[derive(Clone, Copy)]
+pub struct KeepWords<'a> {
+    /// The name of the grid's file.
+    pub grid: &'a str,
+    /// What the name of the mesh begins with.
+    pub prefix: &'a str,
+    /// The greatest error, in thousandths of a unit of height.
+    pub thousandths: u32,
+    /// The world units of a grid step.
+    pub spacing: u32,
+    /// The name of the file with the points that the mesh keeps.
+    pub points: &'a str,
 }
 
 /// What a mesh is fitted to.
@@ -56,6 +71,33 @@ pub(crate) fn fit_in<'a>(
         prefix,
         target: target_in(word, number)?,
         spacing: small_number(spacing, 1, GREATEST_SPACING)?,
+    }))
+}
+
+/// A mesh is fitted that keeps points, if its prefix has an accepted length, the words are `error` and `keep`, and
+/// error and spacing are numbers within their bounds.
+pub(crate) fn keep_in<'a>(
+    grid: &'a str,
+    prefix: &'a str,
+    word: &str,
+    number: &str,
+    spacing: &str,
+    keep: &str,
+    points: &'a str,
+) -> Option<Command<'a>>
+    ensures value { option_map command_seen result ≡
+        keep_words grid.now prefix.now word.now number.now spacing.now keep.now points.now }
+    ensures accepted { IfSome result IsCommandInBounds }
+{
+    if !is_prefix(prefix) || word != "error" || keep != "keep" {
+        return None;
+    }
+    Some(Command::Keep(KeepWords {
+        grid,
+        prefix,
+        thousandths: error_in(number)?,
+        spacing: small_number(spacing, 1, GREATEST_SPACING)?,
+        points,
     }))
 }
 

@@ -11,6 +11,6 @@ mod showing;
 mod words;
 
 pub use certify_words::{CheckWords, FitCheckWords, FitMakeWords, MakeWords};
-pub use fit_words::{FitWords, Target};
+pub use fit_words::{FitWords, KeepWords, Target};
 pub use showing::{Meshing, Showing};
 pub use words::{Command, FrameWords, command_in};

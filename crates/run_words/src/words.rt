@@ -14,7 +14,7 @@ ghost use Rattle.run_words.specs.WordView.{command_seen, show_for, IsMeshing, Is
 use crate::certify_words::{
     CheckWords, FitCheckWords, FitMakeWords, MakeWords, certify_in, is_task, make_fit_in,
 };
-use crate::fit_words::{FitWords, fit_in};
+use crate::fit_words::{FitWords, KeepWords, fit_in};
 use crate::showing::{Meshing, Showing};
 use mesh_defs::GREATEST_LEVEL;
 use roam_edge::LONGEST_PREFIX;
@@ -39,6 +39,8 @@ pub enum Command<'a> {
     /// `fit GRID PREFIX error E SPACING` and `fit GRID PREFIX budget BUDGET SPACING`: the best mesh for an error or a
     /// budget.
     Fit(FitWords<'a>),
+    /// `fit GRID PREFIX error E SPACING keep POINTS`: the best mesh for an error that has the points as vertices.
+    Keep(KeepWords<'a>),
     /// `certify make-fit GRID error E SPACING` and `certify make-fit GRID budget BUDGET SPACING`: a certificate of a
     /// fitted mesh.
     MakeFit(FitMakeWords<'a>),

@@ -1,11 +1,12 @@
 -- The words of a command line that are a command. This project's own.
 -- Words: Criterion, TriangleOrder, Output, Show, as_meshes, as_strips, as_least, as_measures, as_sums, Scripted,
--- Making, Checking, Target, Fitting, FitMaking, FitChecking, Job, Command, job_files, names_of, file_count,
--- is_scripted, has_script, is_check, is_of_engine, prefix_of, is_prefix, within, number_word, least_budget,
--- greatest_budget, greatest_spacing, greatest_level, greatest_seed, greatest_tolerance, greatest_error,
--- greatest_coordinate, is_coordinate, budget_word, spacing_word, tolerance_word, error_word, in_reach, coordinate_word,
--- frames_command, least_command, meshes_command, try_command, camera_word, make_command, check_command, target_word,
--- fit_command, fit_words, fit_make_command, fit_check_command, six_command, eight_command, command_of.
+-- Making, Checking, Target, Fitting, Keeping, fitting_of, FitMaking, FitChecking, Job, Command, job_files, names_of,
+-- file_count, is_scripted, has_script, is_keeping, has_points, is_check, is_of_engine, prefix_of, is_prefix, within,
+-- number_word, least_budget, greatest_budget, greatest_spacing, greatest_level, greatest_seed, greatest_tolerance,
+-- greatest_error, greatest_coordinate, is_coordinate, budget_word, spacing_word, tolerance_word, error_word,
+-- in_reach, coordinate_word, frames_command, least_command, meshes_command, try_command, camera_word, make_command,
+-- check_command, target_word, fit_command, fit_words, keep_command, keep_words, fit_make_command, fit_check_command,
+-- six_command, eight_command, command_of.
 use Rattle.std.specs.Prelude.{ℕ, ◌^◌, Bool, true, false, ◌&&◌, nat_le, if◌then◌else◌, List, [], ◌∷◌, length, Option}
 use Rattle.std.specs.Prelude.{Some, None, codes, bytes_eq, ℤ, unsigned_abs}
 use Rattle.std.specs.Option.{option_map}
@@ -90,6 +91,18 @@ pub record Fitting : Type 0 where
   pub target : Target
   pub spacing : ℕ
 
+-- a mesh is fitted that keeps points: what its name begins with, the error of at most so many thousandths of a unit of
+-- height, how many world units a grid step has, and the name of the file with the points
+pub record Keeping : Type 0 where
+  pub prefix : List ℕ
+  pub thousandths : ℕ
+  pub spacing : ℕ
+  pub points : List ℕ
+
+-- the same without its points
+abbrev pub fitting_of : Keeping → Fitting
+fitting_of k = record { prefix = k.prefix; target = AtError k.thousandths; spacing = k.spacing }
+
 -- a certificate of a fitted mesh is made: what the mesh is fitted to, and how many world units a grid step has
 pub record FitMaking : Type 0 where
   pub target : Target
@@ -104,13 +117,14 @@ pub record FitChecking : Type 0 where
   pub spacing : ℕ
 
 -- what is done with a grid: the frames of a script, a line of facts, a certificate, a check of a mesh by one, a mesh
--- that is fitted to it, a certificate of such a mesh, or a check of such a mesh by one
+-- that is fitted to it, one that keeps points too, a certificate of a fitted mesh, or a check of such a mesh by one
 pub data Job : Type 0 where
   Frames : (scripted : Scripted) → Job
   Facts : Job
   Make : (making : Making) → Job
   Check : (checking : Checking) → Job
   Fit : (fitting : Fitting) → Job
+  Keep : (keeping : Keeping) → Job
   MakeFit : (making : FitMaking) → Job
   CheckFit : (checking : FitChecking) → Job
 
@@ -126,6 +140,7 @@ job_files Facts = []
 job_files (Make m) = []
 job_files (Check c) = c.certificate ∷ (c.mesh ∷ [])
 job_files (Fit f) = []
+job_files (Keep k) = k.points ∷ []
 job_files (MakeFit m) = []
 job_files (CheckFit c) = c.certificate ∷ (c.mesh ∷ [])
 
@@ -146,12 +161,28 @@ is_scripted Facts = false
 is_scripted (Make m) = false
 is_scripted (Check c) = false
 is_scripted (Fit f) = false
+is_scripted (Keep k) = false
 is_scripted (MakeFit m) = false
 is_scripted (CheckFit c) = false
 
 abbrev pub has_script : Command → Bool
 has_script (OnGrid grid job) = is_scripted job
 has_script (Generated n seed) = false
+
+-- the job's file has the points that a mesh keeps
+abbrev pub is_keeping : Job → Bool
+is_keeping (Frames s) = false
+is_keeping Facts = false
+is_keeping (Make m) = false
+is_keeping (Check c) = false
+is_keeping (Fit f) = false
+is_keeping (Keep k) = true
+is_keeping (MakeFit m) = false
+is_keeping (CheckFit c) = false
+
+abbrev pub has_points : Command → Bool
+has_points (OnGrid grid job) = is_keeping job
+has_points (Generated n seed) = false
 
 -- the command checks a mesh
 abbrev pub is_check : Command → Bool
@@ -160,6 +191,7 @@ is_check (OnGrid grid Facts) = false
 is_check (OnGrid grid (Make m)) = false
 is_check (OnGrid grid (Check c)) = true
 is_check (OnGrid grid (Fit f)) = false
+is_check (OnGrid grid (Keep k)) = false
 is_check (OnGrid grid (MakeFit m)) = false
 is_check (OnGrid grid (CheckFit c)) = true
 is_check (Generated n seed) = false
@@ -302,6 +334,18 @@ abbrev pub fit_words : List ℕ → List ℕ → List ℕ → List ℕ → List 
 fit_words grid_name begin word number step =
     if is_prefix begin then fit_command grid_name begin (target_word word number) (spacing_word step) else None
 
+-- a mesh is fitted that keeps points, if the error and the spacing are there
+abbrev pub keep_command : List ℕ → List ℕ → Option ℕ → Option ℕ → List ℕ → Option Command
+keep_command grid_name begin (Some k) (Some s) points_name =
+    Some (OnGrid grid_name (Keep (record { prefix = begin; thousandths = k; spacing = s; points = points_name })))
+keep_command grid_name begin _ _ points_name = None
+
+-- GRID, PREFIX, `error`, a number, SPACING, `keep` and POINTS
+abbrev pub keep_words : List ℕ → List ℕ → List ℕ → List ℕ → List ℕ → List ℕ → List ℕ → Option Command
+keep_words grid_name begin word number step keep points_name =
+    if is_prefix begin && (bytes_eq word (codes "error") && bytes_eq keep (codes "keep"))
+    then keep_command grid_name begin (error_word number) (spacing_word step) points_name else None
+
 -- a certificate of a fitted mesh is made, if what the mesh is fitted to and the spacing are there
 abbrev pub fit_make_command : List ℕ → Option Target → Option ℕ → Option Command
 fit_make_command grid_name (Some goal) (Some s) =
@@ -328,7 +372,7 @@ six_command word i j k number step =
     else if is_prefix k then meshes_command word i j k number step
     else None
 
--- of eight words: a certificate is made, or a fitted mesh is checked by one
+-- of eight words: a certificate is made, a fitted mesh is checked by one, or a mesh is fitted that keeps points
 abbrev pub eight_command : List ℕ → List ℕ → List ℕ → List ℕ → List ℕ → List ℕ → List ℕ → List ℕ → Option Command
 eight_command word task grid_name i j k number step =
     if bytes_eq word (codes "certify") && bytes_eq task (codes "make")
@@ -336,13 +380,15 @@ eight_command word task grid_name i j k number step =
     (budget_word number) (spacing_word step)
     else if bytes_eq word (codes "certify") && bytes_eq task (codes "check-fit")
     then fit_check_command grid_name i j (target_word k number) (spacing_word step)
+    else if bytes_eq word (codes "fit") then keep_words task grid_name i j k number step
     else None
 
 -- The command that the words are, None of other words: `info GRID`, `try N SEED`, `mesh GRID SCRIPT PREFIX BUDGET
 -- SPACING`, `strip GRID SCRIPT PREFIX BUDGET SPACING`, `least GRID SCRIPT PREFIX TOLERANCE SPACING`, `measure GRID
 -- SCRIPT BUDGET SPACING`, `certify check GRID OBJ CERT BUDGET SPACING`, `certify make GRID X Y Z BUDGET SPACING`, `fit
 -- GRID PREFIX TARGET SPACING`, `certify check-fit GRID OBJ CERT TARGET SPACING`, or `certify make-fit GRID TARGET
--- SPACING`, where TARGET is the two words `error E` or `budget BUDGET`.
+-- SPACING`, where TARGET is the two words `error E` or `budget BUDGET`; or `fit GRID PREFIX error E SPACING keep
+-- POINTS`.
 abbrev pub command_of : List (List ℕ) → Option Command
 command_of (word ∷ (i ∷ [])) = if bytes_eq word (codes "info") then Some (OnGrid i Facts) else None
 command_of (word ∷ (i ∷ (j ∷ []))) =

@@ -27,6 +27,10 @@ returns-clause-best g c =
           c.fitting_laws.ensures.fitted line files f grid _ _ _ _ all run.result.status is_run told_meshes
           (outcome-follows _ _ line run.result.status left files ends (λ some. told_files))
           (read-leaves _ _ line run.result.status left ends) (memory-leaves _ _ line run.result.status left ends);
+      of_keep = λ files all k grid points told_files told_meshes is_run found.
+          c.fitting_laws.ensures.kept line files k grid points _ _ _ _ all run.result.status is_run found told_meshes
+          (outcome-follows _ _ line run.result.status left files ends (λ some. told_files))
+          (read-leaves _ _ line run.result.status left ends) (memory-leaves _ _ line run.result.status left ends);
     })
 
 pub returns-clause-certified : goal.returns-clause-certified

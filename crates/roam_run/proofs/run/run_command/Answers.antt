@@ -28,3 +28,8 @@ pub returns-in-CheckFit-clause-runs : goal.returns-in-CheckFit-clause-runs
 returns-in-CheckFit-clause-runs g c =
     rw (c.in-CheckFit.is, c.without_engine-in-CheckFit.ensures.status, c.without_engine-in-CheckFit.ensures.engine)
     c.run_fit_check.ensures.runs
+
+pub returns-in-Keep-clause-runs : goal.returns-in-Keep-clause-runs
+returns-in-Keep-clause-runs g c =
+    rw (c.in-Keep.is, c.without_engine-in-Keep.ensures.status, c.without_engine-in-Keep.ensures.engine)
+    c.run_keep.ensures.runs

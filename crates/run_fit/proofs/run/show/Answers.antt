@@ -27,14 +27,13 @@ show_mesh-requires-clause-view g c =
 pub returns-clause-does : goal.returns-clause-does
 returns-clause-does g c =
     let f = c.args.fitted.now in
-    let w = c.args.words.now in
     let acts : List ℕ → List ℕ → List Act =
-    λ text line. WholeMesh w.prefix.now 1 text ∷ (ReportText line ∷ []) in
+    λ text line. WholeMesh c.args.prefix.now 1 text ∷ (ReportText line ∷ []) in
     let level = c.n-n.ensures.value ∙ ap (λ w. w.n) c.grid.ensures.value in
     let text_is = ap view_text c.by_table-view.ensures
-    ∙ ap (λ p. mesh_text f.wedges.n f.wedges.heights w.spacing p c.leaves.result.now) c.none.ensures
-    ∙ ap (fit_text w.spacing f.wedges) c.leaves.ensures.value in
+    ∙ ap (λ p. mesh_text f.wedges.n f.wedges.heights c.args.spacing p c.leaves.result.now) c.none.ensures
+    ∙ ap (fit_text c.args.spacing f.wedges) c.leaves.ensures.value in
     let line_is = c.as_slice.ensures.value ∙ c.fit_report-line.ensures
     ∙ ap (λ (n : ℕ). fit_numbers n f.note.triangles f.note.vertices f.note.deviation) level in
     does-same _ _ _ _ c.show_mesh.result (ap (λ (t : List ℕ). acts t c.as_slice.result.now) text_is
-    ∙ ap (λ (t : List ℕ). acts (fit_text w.spacing f.wedges f.fit.leaves) t) line_is) c.show_mesh.ensures.does
+    ∙ ap (λ (t : List ℕ). acts (fit_text c.args.spacing f.wedges f.fit.leaves) t) line_is) c.show_mesh.ensures.does

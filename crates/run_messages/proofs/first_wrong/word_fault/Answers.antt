@@ -58,39 +58,39 @@ returns-in-None-clause-wanted c =
 
 -- no word is wrong
 
-pub returns-in-None-first_of-clause-exactly : goal.returns-in-None-first_of-clause-exactly
-returns-in-None-first_of-clause-exactly c = (
+pub returns-in-None-needed_of-clause-exactly : goal.returns-in-None-needed_of-clause-exactly
+returns-in-None-needed_of-clause-exactly c = (
   λ e. whole-command (map string_bytes c.args.words.now) c.loop-place.stage.now
       (of-all string_bytes c.args.words.now c.loop-place.place (Some c.loop-place.stage.now)
       (omega arith) c.loop-place.invariant)
-      (sym c.in-None-first_of.ensures),
+      (sym c.in-None-needed_of.ensures.needed),
   λ t. refl,
 )
 
 -- all words, of which the last one is right
-at_end : (c : goal.In-Some-first_of) →
+at_end : (c : goal.In-Some-needed_of) →
     walk_words start (take (length c.args.words.now) (map string_bytes c.args.words.now)) ≡ Some c.loop-place.stage.now
 at_end c =
     let last : c.loop-place.place ≡ length c.args.words.now = omega arith in
     subst (λ k. walk_words start (take k (map string_bytes c.args.words.now)) ≡ Some c.loop-place.stage.now) last
     (of-texts string_bytes c.args.words.now c.loop-place.place (Some c.loop-place.stage.now) c.loop-place.invariant)
 
-pub returns-in-Some-first_of-clause-exactly : goal.returns-in-Some-first_of-clause-exactly
-returns-in-Some-first_of-clause-exactly c = (
+pub returns-in-Some-needed_of-clause-exactly : goal.returns-in-Some-needed_of-clause-exactly
+returns-in-Some-needed_of-clause-exactly c = (
   λ e. absurd (true≢false e),
-  λ t. absurd (part-command (map string_bytes c.args.words.now) c.loop-place.stage.now c.in-Some-first_of.wanted
+  λ t. absurd (part-command (map string_bytes c.args.words.now) c.loop-place.stage.now c.in-Some-needed_of.wanted
       (of-all string_bytes c.args.words.now c.loop-place.place (Some c.loop-place.stage.now)
       (omega arith) c.loop-place.invariant)
-      (sym c.in-Some-first_of.ensures) t),
+      (sym c.in-Some-needed_of.ensures.needed) t),
 )
 
-pub returns-in-Some-first_of-clause-first : goal.returns-in-Some-first_of-clause-first
-returns-in-Some-first_of-clause-first c =
+pub returns-in-Some-needed_of-clause-first : goal.returns-in-Some-needed_of-clause-first
+returns-in-Some-needed_of-clause-first c =
     begins (take (length c.args.words.now) (map string_bytes c.args.words.now)) c.loop-place.stage.now (at_end c)
 
-pub returns-in-Some-first_of-clause-wanted : goal.returns-in-Some-first_of-clause-wanted
-returns-in-Some-first_of-clause-wanted c =
+pub returns-in-Some-needed_of-clause-wanted : goal.returns-in-Some-needed_of-clause-wanted
+returns-in-Some-needed_of-clause-wanted c =
     let words : List (List ℕ) = take (length c.args.words.now) (map string_bytes c.args.words.now) in
     λ word.
-    subst (λ o. BeginsCommand (words ++ word ∷ []) ↔ IsTrue (may_stand o word)) (sym c.in-Some-first_of.ensures)
+    subst (λ o. BeginsCommand (words ++ word ∷ []) ↔ IsTrue (may_stand o word)) c.in-Some-needed_of.ensures.wanted
     (begins-wanted words c.loop-place.stage.now word (at_end c))

@@ -1,0 +1,84 @@
+use Rattle.std.proofs.Common.{◌≡◌, [], take, rules, arith, Err, ap, sym, ◌∙◌, subst}
+use Rattle.std.proofs.lemmas.Grind.{common_steps}
+use Rattle.std.proofs.lemmas.Result.{err_from_is_err_and}
+use Rattle.run_laws.proofs.FileLemmas.{piece-read, stops-unopened}
+use Rattle.run_laws.proofs.PointFileLemmas.{points-begin, points-nothing, points-more, points-stopped, points-whole}
+use Rattle.run_laws.specs.PointFile.{PointPlace, HavePointsCome}
+use Rattle.run_files.specs.PointStage.{point_place, stops}
+use Rattle.run_files.proofs.PointStageLemmas.{stage-ok, stage-ended}
+use Rattle.run_files.proofs.points_file.read_points.Goals as goal
+
+pub returns-in_default-clause-undecided : goal.returns-in_default-clause-undecided
+returns-in_default-clause-undecided g c is all told =
+    stops-unopened _ _ _ _ (grind (arith, common_steps)) (points-nothing c.args.n)
+
+pub pieces-init : goal.pieces-init
+pieces-init g c = record {
+  reading = record {
+    bytes = [];
+    come = subst (λ (here : PointPlace). HavePointsCome c.args.n [] here) (sym c.new-stage.ensures.place)
+        (points-begin c.args.n);
+    in_file = search rules;
+  };
+  level = c.new-stage.ensures.n;
+  sound = c.new-stage.ensures.sound;
+  open_file = search rules;
+  same = search rules;
+  only = search rules;
+  opens = search rules;
+  faults = search rules;
+  in_time = search rules;
+}
+
+pub returns-then-count-eq0-clause-ok : goal.returns-then-count-eq0-clause-ok
+returns-then-count-eq0-clause-ok g c =
+    let reading = c.pieces.invariant.reading in
+    let ok = rw c.pieces.invariant.level at (c.end.ensures.ok reading.bytes) in
+    stage-ok c.args.n _ _ _ (point_place c.pieces.stage) reading
+    (λ unread is. (c.in-Ok-read.ensures.bytes.empty unread is).0 c.if-count-eq0.true)
+    (λ all. all.items) c.end.result (ok reading.come)
+
+pub returns-then-count-eq0-clause-ended : goal.returns-then-count-eq0-clause-ended
+returns-then-count-eq0-clause-ended g c =
+    stage-ended c.args.n _ _ _ (point_place c.pieces.stage) c.pieces.invariant.reading
+    (λ unread is. (c.in-Ok-read.ensures.bytes.empty unread is).0 c.if-count-eq0.true)
+    _ _ _ c.in-Ok-read.count _ c.end.result (c.in-Ok-read.ensures.only.files
+    ∙ c.pieces.invariant.only.files) c.if-count-eq0.true (c.in-Ok-read.ensures.ends.at_end c.if-count-eq0.true)
+    c.in-Ok-read.ensures.bytes.told c.in-Ok-read.ensures.bytes.takes
+
+pub returns-then-count-eq0-clause-refused : goal.returns-then-count-eq0-clause-refused
+returns-then-count-eq0-clause-refused g c why e =
+    let reading = c.pieces.invariant.reading in
+    let refusal = rw c.pieces.invariant.level at (c.end.ensures.refusal reading.bytes) in
+    points-whole c.args.n _ _ _ (point_place c.pieces.stage) reading (Err why)
+    (λ unread is. (c.in-Ok-read.ensures.bytes.empty unread is).0 c.if-count-eq0.true) (refusal reading.come why e)
+
+pub returns-in_err-take_piece-clause-refused : goal.returns-in_err-take_piece-clause-refused
+returns-in_err-take_piece-clause-refused g c why e =
+    let reading = c.pieces.invariant.reading in
+    let p = err_from_is_err_and c.from_residual.result c.from_residual.ensures.1 in
+    let is : c.in_err-take_piece.field-0.0 ≡ stops why = cc (p.1, p.2) in
+    let takes = rw c.pieces.invariant.level at (c.in_err-take_piece.ensures.taken reading.bytes) in
+    points-stopped c.args.n _ _ _ (point_place c.pieces.stage) reading (take c.in-Ok-read.count c.read.new.buf)
+    c.in-Ok-read.count why ((takes reading.come).refusal why (ap Err is))
+    (piece-read _ c.in-Ok-read.count _ _ c.in-Ok-read.ensures.bytes.within c.in-Ok-read.ensures.bytes.gives)
+
+pub pieces-preserved : goal.pieces-preserved
+pieces-preserved g c = record {
+  reading =
+      let reading = c.pieces.invariant.reading in
+      let takes = rw c.pieces.invariant.level at (c.in_ok-take_piece.ensures.taken reading.bytes) in
+      points-more c.args.n _ _ _ (point_place c.pieces.stage) reading _
+      (take c.in-Ok-read.count c.read.new.buf) c.in-Ok-read.count (point_place c.take_piece.new.self)
+      (takes reading.come).ok
+      c.in-Ok-read.ensures.bytes.takes
+      (piece-read _ c.in-Ok-read.count _ _ c.in-Ok-read.ensures.bytes.within c.in-Ok-read.ensures.bytes.gives);
+  level = c.in_ok-take_piece.ensures.n ∙ c.pieces.invariant.level;
+  sound = c.in_ok-take_piece.ensures.sound;
+  open_file = search rules;
+  same = g.met.O.Outside.is_same_then _ _ _ c.pieces.invariant.same c.in-Ok-read.ensures.same;
+  only = search rules;
+  opens = search rules;
+  faults = search rules;
+  in_time = search rules;
+}
