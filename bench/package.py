@@ -74,7 +74,8 @@ def least(call): return min(timeit.repeat(call, number=100_000, repeat=5)) * 10
 checked, bare = least(lambda: engine.camera(1, 2, 3)), least(lambda: c.calls["camera"](handle, 1, 2, 3))
 print(f"`Engine.camera` {checked:.2f} us, of which ctypes {bare:.2f} us")
 """
-    return subprocess.run([sys.executable, "-c", text], env=os.environ | PACKAGE, stdout=subprocess.PIPE, text=True, check=True).stdout
+    ended = subprocess.run([sys.executable, "-c", text], env=os.environ | PACKAGE, stdout=subprocess.PIPE, text=True, check=True)
+    return ended.stdout
 
 
 def made(room):

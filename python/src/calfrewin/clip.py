@@ -61,7 +61,7 @@ def grid_mesh(indices: Numbers, numbers: npt.NDArray[np.uint16], last_column: fl
         found = _cut(found, last_column)
     if last_row < side - 1:
         found = _turned(_cut(_turned(found), last_row))
-    return found
+    return found if found.triangles is triangles else with_triangles(found, found.triangles)
 
 
 def _turned(mesh: GridMesh) -> GridMesh:
@@ -70,13 +70,14 @@ def _turned(mesh: GridMesh) -> GridMesh:
 
 
 def _cut(mesh: GridMesh, end: float) -> GridMesh:
-    """What of the mesh has column <= end."""
-    beyond = mesh.column - end
-    is_within, is_beyond = (beyond[mesh.triangles] < 0).any(1), (beyond[mesh.triangles] > 0).any(1)
+    """The triangles with column <= end, and all vertices, those that these do not use, too."""
+    is_within, is_beyond = ((flags[mesh.triangles[:, 0]] | flags[mesh.triangles[:, 1]] | flags[mesh.triangles[:, 2]])
+                            for flags in (mesh.column < end, mesh.column > end))
     kept, count = mesh.triangles[is_within & ~is_beyond], len(mesh.column)
-    mesh, pieces = split(mesh, mesh.triangles[is_within & is_beyond], beyond)
+    mesh, pieces = split(mesh, mesh.triangles[is_within & is_beyond], mesh.column - end)
     mesh.column[count:] = end
-    return with_triangles(mesh, np.concatenate((kept, pieces[(mesh.column[pieces] <= end).all(1)])))
+    pieces = pieces[(mesh.column[pieces] <= end).all(1)]
+    return GridMesh(mesh.column, mesh.row, mesh.number, np.concatenate((kept, pieces)))
 
 
 def split(mesh: GridMesh, triangles: Numbers, value: Floats, along: Optional[Floats] = None) -> tuple[GridMesh, Numbers]:

@@ -107,15 +107,14 @@ def _from_edges(heights: Floats, is_there: Flags) -> Floats:
     below, and what has none there takes what lies between the means around it (push and pull, Gortler et al. 1996)."""
     if is_there.all():
         return heights
-    rows, columns = heights.shape
-    sums, counts = (_halved(found) for found in (np.where(is_there, heights, 0.0), is_there.astype(np.float64)))
+    sums, counts = _halved(np.where(is_there, heights, 0.0)), _halved(is_there.astype(np.uint8))
     means = _from_edges(sums / np.maximum(counts, 1), counts > 0)
-    for axis, length in ((0, rows), (1, columns)):
-        means = _twice(means, axis).take(np.arange(length), axis)
-    return np.where(is_there, heights, means)
+    found = heights.copy()
+    found[~is_there] = _between(means, *np.nonzero(~is_there))
+    return found
 
 
-def _halved(values: Floats) -> Floats:
+def _halved(values: npt.NDArray[Any]) -> npt.NDArray[Any]:
     """The sums of 2 x 2 points each; beyond an odd end there are none."""
     for _ in range(2):
         found = values[::2].copy()
@@ -124,14 +123,13 @@ def _halved(values: Floats) -> Floats:
     return values
 
 
-def _twice(means: Floats, axis: int) -> Floats:
-    """Twice as many points along an axis, in proportion between the middles of the coarser ones."""
-    before, after = (np.take(means, np.clip(np.arange(means.shape[axis]) + step, 0, means.shape[axis] - 1), axis)
-                     for step in (-1, 1))
-    pairs = np.stack((0.75 * means + 0.25 * before, 0.75 * means + 0.25 * after), axis + 1)
-    shape = list(means.shape)
-    shape[axis] *= 2
-    return pairs.reshape(shape)
+def _between(means: Floats, row: npt.NDArray[np.int64], column: npt.NDArray[np.int64]) -> Floats:
+    """At points of the level below, what lies between the middles of the means around them (bilinear)."""
+    rows, columns = means.shape
+    i, j = row // 2, column // 2
+    # Of the two points of a mean along an axis, the first lies towards the mean before, the second towards the one after.
+    near_i, near_j = np.clip(i + row % 2 * 2 - 1, 0, rows - 1), np.clip(j + column % 2 * 2 - 1, 0, columns - 1)
+    return np.asarray((9 * means[i, j] + 3 * means[near_i, j] + 3 * means[i, near_j] + means[near_i, near_j]) / 16)
 
 
 def side_of(shape: tuple[int, ...]) -> int:

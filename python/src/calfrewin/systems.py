@@ -17,7 +17,7 @@ if TYPE_CHECKING:
 
 GEOCENTRIC, GEODETIC = "EPSG:4978", "EPSG:4979"  # WGS 84 as x, y, z from the earth's middle; as degrees and metres over it
 TRUE = 0.01  # so far from 1 may be the scale of a map that is taken as true
-LONGEST = 20_000  # edges that are looked at
+LARGEST = 7_000  # triangles whose edges are looked at
 HALF_AXES = (6_378_137.0, 6_356_752.314245179)  # of WGS 84, at the equator and at the poles
 
 
@@ -242,11 +242,11 @@ class Curvature:
 
 
 def longest_edges(mesh: Mesh) -> tuple[npt.NDArray[np.uint32], npt.NDArray[np.uint32]]:
-    """The two ends of each of the longest edges."""
-    corners = np.concatenate((mesh.triangles[:, :2], mesh.triangles[:, 1:], mesh.triangles[:, ::2]))
-    length = np.hypot(*(np.diff(values[corners], axis=1)[:, 0] for values in (mesh.column, mesh.row)))
-    longest = np.argpartition(length, -min(len(length), LONGEST))[-LONGEST:]
-    return corners[longest, 0], corners[longest, 1]
+    """The two ends of each edge of the largest triangles, as far as one edge tells how large they are."""
+    one, two, _ = mesh.triangles.T
+    length = np.hypot(mesh.column[one] - mesh.column[two], mesh.row[one] - mesh.row[two])
+    large = mesh.triangles[np.argpartition(length, -min(len(length), LARGEST))[-LARGEST:]]
+    return large.reshape(-1), np.roll(large, -1, axis=1).reshape(-1)
 
 
 def sideways(mesh: Mesh, crs: str) -> float:
