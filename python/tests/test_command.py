@@ -163,6 +163,7 @@ USAGE, DATA = 2, 1
     (("a.tif", "a.glb", "--error", "1", "--window", "1,2,3,4", "--bounds", "1,2,3,4"), USAGE, "one of --window and --bounds"),
     (("a.tif", "a.glb", "--error", "1", "--camera", "1,2,3"), USAGE, "--camera is for --triangles"),
     (("a.tif", "a.glb", "--triangles", "9", "--camera", "1,2,3", "--crs", "globe"), USAGE, "not for --crs globe or --mask"),
+    (("a.tif", "a.glb", "--error", "1", "--measure", "--crs", "globe"), USAGE, "--measure is for a map"),
     (("a.tif", "a.ply", "--error", "1", "--texture", "a.tif"), USAGE, "--texture, --uv and --quantize are for .glb alone"),
     (("a.tif", "a.glb", "--error", "1", "--uv", "--base", "1"), USAGE, "--base and --size make a solid"),
     (("a.tif", "a.stl", "--error", "1", "--crs", "globe", "--size", "1"), USAGE, "--base and --size make a print of a map"),

@@ -228,6 +228,11 @@ def test_a_view_is_fine_where_the_camera_is():
         assert is_near.sum() > 5 * is_near.size * 2500 / 60000
 
 
+def test_a_mesh_for_the_globe_has_no_surface_over_the_map():
+    with pytest.raises(ValueError, match="it was made for the globe"):
+        calfrewin.fit(hills(9, 9), error=3, cell=30, crs="EPSG:32632", globe=True).surface()
+
+
 @pytest.mark.parametrize("options, kind, text", [
     ({"triangles": 1}, ValueError, "triangles is 1, and has to be from 2 to 1048576"),
     ({"triangles": 100, "camera": (1, 2, math.nan)}, TypeError, "z is nan"),

@@ -203,6 +203,7 @@ def _refuse(words: Words, is_folder: bool) -> None:
             kind != ".glb" and not is_folder and bool(words.texture or words.uv or words.quantize),
         "--texture and --uv are for a mesh, and --base and --size make a solid":
             bool(words.texture or words.uv) and (words.base is not None or words.size is not None),
+        "--measure is for a map, and not for --crs globe": words.measure and words.crs == GLOBE,
         "--crs globe is for a mesh, and --base and --size make a print of a map":
             words.crs == GLOBE and (words.base is not None or words.size is not None),
         "one of --window and --bounds is wanted": words.window is not None and words.bounds is not None,

@@ -75,7 +75,7 @@ class Mesh:
         [[0.0, 4.0, 8.0], [0.0, 4.0, 8.0], [0.0, 4.0, 8.0]]
         """
         if self.grid is None:
-            raise ValueError("the mesh was not made by fit or view, so it has no grid")
+            raise ValueError("the mesh has no grid of its own: it was made for the globe, or not by fit and view")
         rows, columns = self.shape
         return self.grid.base + self.grid.unit * surface(self.grid.numbers, self.grid.is_vertex)[:rows, :columns]
 

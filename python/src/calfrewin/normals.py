@@ -42,7 +42,7 @@ def ground_normals(mesh: Mesh, crs: Optional[str] = None, exaggerate: float = 1.
     [-6.0, 0.0, 8.0]
     """
     if mesh.grid is None:
-        raise ValueError("the mesh was not made by fit or view, so it has no ground")
+        raise ValueError("the mesh has no grid of its own: it was made for the globe, or not by fit and view")
     right, down = (rise * np.float32(exaggerate) for rise in _rises(mesh, mesh.grid))
     level, by_right, by_down = (part.astype(np.float32) for part in _steps(mesh, crs))
     found = [level[axis] + right * by_right[axis] + down * by_down[axis] for axis in range(3)]
