@@ -100,6 +100,7 @@ def test_a_mask(run):
     told = report(run("a.tif", "b.stl", "--error", "2", "--mask", "mask.geojson", "--size", "100", "--json"))
     said = subprocess.run(["admesh", "b.stl"], stdout=subprocess.PIPE, text=True, check=True).stdout
     assert re.search(r"Total disconnected facets +: +0 +0", said) and told["filled"] == 0
+    assert told["covered"] == pytest.approx(72 * 36 / 2 / (149 * 99), rel=1e-3)  # of a triangle of 72 x 36 cells
 
 
 def test_a_camera_stands_where_the_file_is_written(run):

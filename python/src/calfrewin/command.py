@@ -262,8 +262,7 @@ def one(raster: Any, words: Words) -> dict[str, Any]:
     with stage(f"writing {words.out}", words):
         report = save(made, words.out, crs=crs, origin=words.origin, normals=words.normals, uv=words.uv, texture=texture,
                       quantize=words.quantize, base=words.base, size=words.size, exaggerate=words.exaggerate)
-    rows, columns = made.shape
-    covered = (rows - 1) * found.every * (columns - 1) * found.every / ((raster.shape[0] - 1) * (raster.shape[1] - 1))
+    covered = made.cells() * found.every ** 2 / ((raster.shape[0] - 1) * (raster.shape[1] - 1))
     report |= {"out": words.out, "rounding": made.rounding, "unit": made.unit, "points": list(made.shape),
                "of": list(raster.shape), "every": found.every, "covered": round(covered, 4), "filled": made.filled}
     if crs and made.crs and crs not in (made.crs, GLOBE):

@@ -68,6 +68,18 @@ class Mesh:
         a, b, c, d, e, f = self.transform
         return a * self.column + b * self.row + c, d * self.column + e * self.row + f
 
+    def cells(self) -> float:
+        """How many cells of the array the mesh covers, with parts of some.
+
+        >>> fit([[5, 5, 5], [5, 5, 5]], error=0).cells()
+        2.0
+        """
+        if not self.is_clipped:
+            return float((self.shape[0] - 1) * (self.shape[1] - 1))
+        a, b, c = self.triangles.T
+        across, down = ([values[end] - values[a] for end in (b, c)] for values in (self.column, self.row))
+        return float(np.abs(across[0] * down[1] - across[1] * down[0]).sum() / 2)
+
     def surface(self) -> Floats:
         """Shape (rows, columns): the height of the mesh at each point of the array, from its vertices alone.
 
