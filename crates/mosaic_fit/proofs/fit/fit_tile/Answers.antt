@@ -1,0 +1,72 @@
+-- One tile more.
+use Rattle.std.proofs.Common.{◌≡◌, ℕ, ◌*◌, ◌≤◌, All, List, IsTrue, sym, ◌∙◌, subst, take, false}
+use Rattle.std.specs.Prelude.{IsErr}
+use Rattle.std.proofs.lemmas.List.Elements.{All-weaker}
+use Rattle.mesh_defs.specs.Triangle.{level_of, IsAddress, IsSplittable}
+use Rattle.mesh_defs.specs.Tiling.{IsConforming}
+use Rattle.mesh_defs.specs.ClosedSet.{leaves_of, among}
+use Rattle.bintree_laws.proofs.LevelLemmas.{level-le}
+use Rattle.tiling_laws.specs.Ancestors.{ancestors_of}
+use Rattle.fit_laws.specs.Error.{error_of}
+use Rattle.required_laws.specs.Required.{IsLeastMeshWith}
+use Rattle.mosaic_rounds.specs.Rounds.{splits, IsKept}
+use Rattle.mosaic_fit.proofs.UnderWayLemmas.{under-way-step, not-shrunk, entry-of, from_ok}
+use Rattle.mosaic_fit.proofs.fit.fit_tile.Goals as goal
+
+pub put-taken-requires-clause-levels : goal.put-taken-requires-clause-levels
+put-taken-requires-clause-levels g c =
+    let n_is : c.frame_with.new.self.n ≡ c.args.rounds.now.n = c.frame_with.ensures.n ∙ c.requires.fit in
+    let conforming : IsConforming c.args.rounds.now.n c.frame_with.new.self.leaves =
+    subst (λ k. IsConforming k c.frame_with.new.self.leaves) n_is c.leaves-2.ensures.conforming in
+    subst (λ (l : List ℕ). All (λ a. level_of a ≤ 2 * c.args.rounds.now.n) l) (sym c.leaves-2.ensures.value)
+    (All-weaker (IsAddress c.args.rounds.now.n) (λ a. level_of a ≤ 2 * c.args.rounds.now.n)
+    (level-le c.args.rounds.now.n) c.frame_with.new.self.leaves conforming.addresses)
+
+pub returns-clause-under_way : goal.returns-clause-under_way
+returns-clause-under_way g c steps given same lacks w =
+    let n_is : c.read.new.grid.n ≡ c.args.rounds.now.n = c.read.ensures.n ∙ c.requires.grid in
+    let heights_are : c.read.new.grid.heights ≡ given c.args.t = c.in_ok-read.ensures.ok ∙ same c.args.t in
+    let least : IsLeastMeshWith c.args.rounds.now.n c.args.tolerance
+    (error_of c.args.rounds.now.n (given c.args.t)) (among (take c.required-count.result c.required-count.new.list))
+    c.frame_with.new.self.leaves =
+    subst (λ k. IsLeastMeshWith k c.args.tolerance (error_of k (given c.args.t))
+    (among (take c.required-count.result c.required-count.new.list)) c.frame_with.new.self.leaves) n_is
+    (subst (λ (h : List ℕ). IsLeastMeshWith c.read.new.grid.n c.args.tolerance (error_of c.read.new.grid.n h)
+    (among (take c.required-count.result c.required-count.new.list)) c.frame_with.new.self.leaves) heights_are
+    c.frame_with.ensures.least) in
+    let order : leaves_of c.args.rounds.now.n (ancestors_of c.frame_with.new.self.leaves)
+    ≡ c.frame_with.new.self.leaves =
+    subst (λ k. leaves_of k (ancestors_of c.frame_with.new.self.leaves) ≡ c.frame_with.new.self.leaves) n_is
+    c.frame_with.ensures.order in
+    let splittable : (a : ℕ) → IsTrue (among (take c.required-count.result c.required-count.new.list) a) →
+    IsSplittable c.args.rounds.now.n a =
+    entry-of (IsSplittable c.args.rounds.now.n) (take c.required-count.result c.required-count.new.list)
+    c.required-count.ensures.splittable in
+    let refused : IsErr c.put-taken.result → ⊥ = λ fails.
+    let s = c.put-taken.ensures.shrunk.0 fails in
+    not-shrunk c.args.rounds.now.columns c.args.rounds.now.rows c.args.rounds.now.n c.args.tolerance steps
+    (splits c.args.rounds.now) given (g.T.Tiles.meshes c.args.tiles.now) w c.args.t c.requires.tile
+    (among (take c.required-count.result c.required-count.new.list)) c.frame_with.new.self.leaves
+    c.required-count.ensures.just splittable least order s.0 s.1
+    (subst (λ (l : List ℕ). ancestors_of l s.0 ≡ false) c.leaves-2.ensures.value s.2) in
+    let ok : (a : ℕ) → IsKept c.args.rounds.now.n a →
+    splits c.put-taken.new.self c.args.t a ≡ ancestors_of c.leaves-2.result.now a =
+    from_ok c.put-taken.result ((a : ℕ) → IsKept c.args.rounds.now.n a →
+    splits c.put-taken.new.self c.args.t a ≡ ancestors_of c.leaves-2.result.now a) c.put-taken.ensures.ok refused in
+    let only : (a : ℕ) → IsTrue (splits c.put-taken.new.self c.args.t a) →
+    IsTrue (ancestors_of c.leaves-2.result.now a) =
+    from_ok c.put-taken.result ((a : ℕ) → IsTrue (splits c.put-taken.new.self c.args.t a) →
+    IsTrue (ancestors_of c.leaves-2.result.now a)) c.put-taken.ensures.only refused in
+    under-way-step c.args.rounds.now.columns c.args.rounds.now.rows c.args.rounds.now.n c.args.tolerance steps
+    (splits c.args.rounds.now) given (g.T.Tiles.meshes c.args.tiles.now) w c.args.t c.requires.tile
+    (among (take c.required-count.result c.required-count.new.list)) c.frame_with.new.self.leaves
+    c.required-count.ensures.just splittable least order (splits c.put-taken.new.self)
+    (g.T.Tiles.meshes c.keep.new.self)
+    (subst (λ (l : List ℕ). (a : ℕ) → IsKept c.args.rounds.now.n a →
+    splits c.put-taken.new.self c.args.t a ≡ ancestors_of l a) c.leaves-2.ensures.value ok)
+    (subst (λ (l : List ℕ). (a : ℕ) → IsTrue (splits c.put-taken.new.self c.args.t a) → IsTrue (ancestors_of l a))
+    c.leaves-2.ensures.value only)
+    c.put-taken.ensures.others
+    (c.in_ok-keep.ensures.ok ∙ c.leaves.ensures.value)
+    (λ u other. c.in_ok-keep.ensures.others u other ∙ c.in_ok-read.ensures.meshes u)
+    lacks.0 lacks.1 lacks.2
