@@ -1,5 +1,6 @@
 //! Which calls a word names.
 
+use crate::fits::{Mesh, fitted};
 use crate::grids::{forced, grid_alone, mates, ranks, rough_wedges, wedges};
 use crate::heaps::heap_calls;
 use crate::pools::{Work, filled, made, refined};
@@ -28,10 +29,11 @@ pub enum Call {
     PlainText,
     Plain,
     Kernels(Kernel),
+    Fitted(Mesh),
 }
 
 /// Each word with its calls.
-const CALLS: [(&str, Call); 29] = [
+const CALLS: [(&str, Call); 34] = [
     ("mates", Call::Mates),
     ("forced", Call::Forced),
     ("heap", Call::Heap),
@@ -61,6 +63,11 @@ const CALLS: [(&str, Call); 29] = [
     ("first_above_plain", Call::Kernels(Kernel::FirstAbovePlain)),
     ("range", Call::Kernels(Kernel::Range)),
     ("range_plain", Call::Kernels(Kernel::RangePlain)),
+    ("fit_none", Call::Fitted(Mesh::None)),
+    ("fit_frame", Call::Fitted(Mesh::Frame)),
+    ("fit_nothing", Call::Fitted(Mesh::Nothing)),
+    ("fit_points", Call::Fitted(Mesh::Points)),
+    ("fit_own", Call::Fitted(Mesh::Own)),
 ];
 
 /// The calls of a word, if it has some.
@@ -95,6 +102,7 @@ impl Call {
             Call::PlainText => text_alone(plain_text(alloc)),
             Call::Plain => readings(alloc, plain_text(alloc)),
             Call::Kernels(kernel) => kernels(alloc, kernel),
+            Call::Fitted(mesh) => fitted(alloc, mesh),
         }
     }
 }

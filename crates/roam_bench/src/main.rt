@@ -8,6 +8,7 @@
 
 mod calls;
 mod drawing;
+mod fits;
 mod flights;
 mod frames;
 mod gauge;
