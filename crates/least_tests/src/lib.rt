@@ -14,6 +14,8 @@ mod fit;
 #[cfg(test)]
 mod fit_certificates;
 #[cfg(test)]
+mod fit_required;
+#[cfg(test)]
 mod hill;
 #[cfg(test)]
 mod least_frames;
