@@ -3,6 +3,7 @@
 processor, and the most memory that was resident, each the least of RUNS. Nothing here is a test. Wants what `calfrewin` wants.
 
 usage: bench/package.py [PROGRAM]     after `./roam` and `lib/build`; RUNS=3"""
+import json
 import os
 import pathlib
 import platform
@@ -109,7 +110,9 @@ def main():
             row("the same, without normals", [*CALFREWIN, f"{name}.npy", f"{name}.glb", "--no-normals", *words])
             row("the same to .ply", [*CALFREWIN, f"{name}.npy", f"{name}.ply", *words])
         words = ["N44E007.hgt", "tile.glb", "--error", "5", "--overwrite", "--quiet"]
-        row("N44E007.hgt, 3601 x 3601, error 5, to .glb in UTM", [*CALFREWIN, *words])
+        told = subprocess.run([*CALFREWIN, *words, "--json"], env=os.environ | PACKAGE, stdout=subprocess.PIPE, check=True).stdout
+        count = json.loads(told)["triangles"]
+        row(f"N44E007.hgt, 3601 x 3601, error 5, {count:,} triangles, to .glb in UTM", [*CALFREWIN, *words])
         row("`import calfrewin`, with Python's own start", [sys.executable, "-c", "import calfrewin"])
         row("Python's start with numpy alone", [sys.executable, "-c", "import numpy"])
         row("Python's start alone", [sys.executable, "-c", ""])

@@ -21,6 +21,7 @@ class GridMesh(NamedTuple):
     triangles: Numbers  #: of shape (count, 3): places among the vertices
 
 
+BEYOND_COLUMN, BEYOND_ROW, BEFORE_COLUMN, BEFORE_ROW = 1, 2, 4, 8
 Clip = Callable[[GridMesh], GridMesh]  #: what of a mesh is wanted
 
 
@@ -57,11 +58,17 @@ def grid_mesh(indices: Numbers, numbers: npt.NDArray[np.uint16], last_column: fl
     row, column = np.divmod(places, side)
     found = GridMesh(column.astype(np.float64), row.astype(np.float64),
                      numbers.reshape(-1)[places].astype(np.float64), triangles)
-    if last_column < side - 1:
-        found = _cut(found, last_column)
-    if last_row < side - 1:
-        found = _turned(_cut(_turned(found), last_row))
-    return found if found.triangles is triangles else with_triangles(found, found.triangles)
+    if last_column >= side - 1 and last_row >= side - 1:
+        return found
+    # Of each triangle, by its corners: whether one is beyond an end, and whether one is before it, along both ways.
+    flags = ((found.column > last_column) * BEYOND_COLUMN + (found.row > last_row) * BEYOND_ROW
+             + (found.column < last_column) * BEFORE_COLUMN + (found.row < last_row) * BEFORE_ROW).astype(np.uint8)
+    of = flags[triangles[:, 0]] | flags[triangles[:, 1]] | flags[triangles[:, 2]]
+    is_in = of & (BEFORE_COLUMN + BEFORE_ROW) == BEFORE_COLUMN + BEFORE_ROW
+    is_cut = is_in & (of & (BEYOND_COLUMN + BEYOND_ROW) > 0)
+    cut = _cut(found._replace(triangles=triangles[is_cut]), last_column)
+    cut = _turned(_cut(_turned(cut), last_row))
+    return with_triangles(cut, np.concatenate((triangles[is_in & ~is_cut], cut.triangles)))
 
 
 def _turned(mesh: GridMesh) -> GridMesh:
@@ -71,13 +78,11 @@ def _turned(mesh: GridMesh) -> GridMesh:
 
 def _cut(mesh: GridMesh, end: float) -> GridMesh:
     """The triangles with column <= end, and all vertices, those that these do not use, too."""
-    is_within, is_beyond = ((flags[mesh.triangles[:, 0]] | flags[mesh.triangles[:, 1]] | flags[mesh.triangles[:, 2]])
-                            for flags in (mesh.column < end, mesh.column > end))
-    kept, count = mesh.triangles[is_within & ~is_beyond], len(mesh.column)
-    mesh, pieces = split(mesh, mesh.triangles[is_within & is_beyond], mesh.column - end)
+    count = len(mesh.column)
+    mesh, pieces = split(mesh, mesh.triangles, mesh.column - end)
     mesh.column[count:] = end
-    pieces = pieces[(mesh.column[pieces] <= end).all(1)]
-    return GridMesh(mesh.column, mesh.row, mesh.number, np.concatenate((kept, pieces)))
+    column = mesh.column[pieces]
+    return mesh._replace(triangles=pieces[(column <= end).all(1) & (column < end).any(1)])
 
 
 def split(mesh: GridMesh, triangles: Numbers, value: Floats, along: Optional[Floats] = None) -> tuple[GridMesh, Numbers]:

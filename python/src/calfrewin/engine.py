@@ -18,6 +18,7 @@ import numpy as np
 import numpy.typing as npt
 
 from . import _library as c
+from ._library import calls
 from ._types import Numbers
 
 Whole = Union[int, "np.integer[Any]"]
@@ -91,7 +92,9 @@ def whole(name: str, value: Any, low: int, high: int) -> int:
 
 def _coordinate(name: str, value: Union[Whole, SupportsFloat]) -> int:
     """A coordinate of a place: floats are rounded to the nearest whole unit."""
-    if isinstance(value, (float, np.floating)) and math.isfinite(value):  # float64 is a float, too
+    if type(value) is int and -MOST_COORDINATE <= value <= MOST_COORDINATE:
+        return value  # what most calls are, before anything slower
+    if isinstance(value, (float, np.floating)) and math.isfinite(value):
         value = round(float(value))
     return whole(name, value, -MOST_COORDINATE, MOST_COORDINATE)
 
@@ -154,10 +157,10 @@ class Engine:
 
     def _call(self, name: str, *words: Any) -> None:
         """One call, and its answer as an exception. Two at a time on one handle would be a race in C."""
-        if not self._lock.acquire(blocking=False):
+        if not self._lock.acquire(False):
             raise RuntimeError("another thread is using this engine: give each its own, or share a lock")
         try:
-            answer = c.calls[name](self._reference, *words)
+            answer = calls[name](self._reference, *words)
         finally:
             self._lock.release()
         if answer == 0:
@@ -178,10 +181,10 @@ class Engine:
         Traceback (most recent call last):
         ValueError: the engine is closed
         """
-        if not self._lock.acquire(blocking=False):
+        if not self._lock.acquire(False):
             raise RuntimeError("another thread is using this engine, so it cannot be closed")
         try:
-            c.calls["close"](self._reference)
+            calls["close"](self._reference)
         finally:
             self._lock.release()
 
@@ -193,7 +196,7 @@ class Engine:
         self.close()
 
     # What it calls is bound here: as the interpreter ends, the names of modules go.
-    def __del__(self, close: Any = c.calls["close"], reference: Any = byref) -> None:
+    def __del__(self, close: Any = calls["close"], reference: Any = byref) -> None:
         if hasattr(self, "_handle"):  # not where the arguments were too few
             close(reference(self._handle))
 
@@ -447,5 +450,5 @@ def changes(before: Numbers, after: Numbers) -> Changes:
     gone, come = (np.empty(max(1, found.size), np.uint32) for found in (before, after))
     note = c.ChangesNote()
     lists = [word for found in (before, after, gone, come) for word in (found.ctypes.data, found.size)]
-    c.calls["changes"](*lists, byref(note))
+    calls["changes"](*lists, byref(note))
     return Changes(gone[:note.gone], come[:note.come])

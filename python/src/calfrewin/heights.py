@@ -91,7 +91,7 @@ def filled(heights: npt.NDArray[Any], holes: Flags, fill: Optional[float] = None
         return Filled(heights, 0)
     found = heights.copy()
     if fill is None:
-        smooth = _from_edges(np.where(holes, 0, heights).astype(np.float64), ~holes)[holes]
+        smooth = _from_edges(heights.astype(np.float64 if heights.dtype.kind == "f" else np.int64), holes)
         # What whole heights are filled with is whole, so that their unit stays 1.
         found[holes] = np.rint(smooth) if heights.dtype.kind in "iu" else smooth
         return Filled(found, count)
@@ -102,16 +102,14 @@ def filled(heights: npt.NDArray[Any], holes: Flags, fill: Optional[float] = None
     return Filled(found, count)
 
 
-def _from_edges(heights: Floats, is_there: Flags) -> Floats:
-    """Holes filled from coarser and coarser means: each level has the mean of the heights in 2 x 2 points of the one
-    below, and what has none there takes what lies between the means around it (push and pull, Gortler et al. 1996)."""
-    if is_there.all():
-        return heights
-    sums, counts = _halved(np.where(is_there, heights, 0.0)), _halved(is_there.astype(np.uint8))
-    means = _from_edges(sums / np.maximum(counts, 1), counts > 0)
-    found = heights.copy()
-    found[~is_there] = _between(means, *np.nonzero(~is_there))
-    return found
+def _from_edges(heights: npt.NDArray[Any], holes: Flags) -> Floats:
+    """Heights of the holes, from coarser and coarser means: each level has the mean of the heights in 2 x 2 points of the
+    one below, and what has none there takes what lies between the means around it (push and pull, Gortler et al. 1996)."""
+    sums, counts = _halved(np.where(holes, heights.dtype.type(0), heights)), _halved((~holes).astype(np.uint8))
+    means = sums / np.maximum(counts, 1)
+    if (counts == 0).any():
+        means[counts == 0] = _from_edges(means, counts == 0)
+    return _between(means, *np.nonzero(holes))
 
 
 def _halved(values: npt.NDArray[Any]) -> npt.NDArray[Any]:
