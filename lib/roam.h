@@ -32,7 +32,7 @@ enum roam_answer {
     ROAM_TOO_MANY_PLANES = 7, /* six are in force, or more than six are given */
     ROAM_OUTSIDE_GRID = 8,    /* a point or an area that is not in the grid, or an empty area */
     ROAM_BAD_CHANGE = 9,      /* dz beyond -65535 .. 65535 */
-    ROAM_WORN = 10,           /* 1000000 frames were made: call roam_renew; or a camera has gone more than 2^61 units */
+    ROAM_WORN = 10,           /* 1000000 frames were made: call roam_renew; or, for good, the camera's way or the counts are at their end */
     ROAM_NO_ROOM = 11,        /* the array has too few places */
     ROAM_IS_EMPTY = 12,       /* the handle has no engine */
     ROAM_BAD_TOLERANCE = 13   /* a tolerance above 65535999 thousandths */

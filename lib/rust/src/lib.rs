@@ -68,7 +68,7 @@ impl fmt::Display for Error {
             Error::TooManyPlanes => "more than six planes are given",
             Error::OutsideGrid => "a point is outside the grid, or the area is empty",
             Error::BadChange => "the change is beyond 65535",
-            Error::Worn => "the engine has made 1000000 frames: renew it",
+            Error::Worn => "the engine has made 1000000 frames: renew it; or its camera has gone 2^61 units",
             Error::NoRoom => "the array has too few places",
             Error::BadTolerance => "the tolerance is above 65535999 thousandths",
         })
@@ -192,7 +192,8 @@ impl Engine {
         told(unsafe { c::roam_look(&mut self.handle, planes.as_ptr(), planes.len()) })
     }
 
-    /// Lets frames count from 0 on again: what to call where an answer is [`Error::Worn`].
+    /// Lets frames count from 0 on again: what to call where `frame` answers [`Error::Worn`]. It does not help a camera that
+    /// has gone its way.
     pub fn renew(&mut self) -> Result<(), Error> {
         told(unsafe { c::roam_renew(&mut self.handle) })
     }
