@@ -83,9 +83,7 @@ fn turn(engine: &mut Engine, number: u64) -> bool {
 /// Counts frames from 0 on again, and tells whether these are so, and the other counts as they were.
 fn renew(engine: &mut Engine) -> bool {
     let before = (engine.odometer(), engine.evaluations());
-    engine.renew()
-        && engine.frames() == 0
-        && (engine.odometer(), engine.evaluations()) == before
+    engine.renew() && engine.frames() == 0 && (engine.odometer(), engine.evaluations()) == before
 }
 
 /// Changes what a number says, and tells whether that went as it should.
