@@ -205,12 +205,18 @@ fn told_by(note: &Note) -> Told {
     }
 }
 
-/// The same through files with a note: what the read answers, how many calls were made, and what the note tells.
+/// A first read of the file `grid` of these files, each call with a note.
+fn read_through_noted<R: Files>(files: &R, note: &Note) -> Result<usize, Failed> {
+    let noted = NotedFiles::new(files, note);
+    let mut buf = [0u8; 8];
+    read_through(&noted, "grid", &mut buf)
+}
+
+/// The same of files of which this call fails: what the read answers, how many calls were made, and what the note tells.
 fn read_noted(alloc: Global, fails: u64) -> Result<(Result<usize, Failed>, u64, Told), Fail> {
     let files = flaky(alloc, fails, "grid")?;
     let note = Note::new();
-    let mut buf = [0u8; 8];
-    let read = read_through(&NotedFiles::new(&files, &note), "grid", &mut buf);
+    let read = read_through_noted(&files, &note);
     Ok((read, files.calls.get(), told_by(&note)))
 }
 
