@@ -165,6 +165,11 @@ USAGE, DATA = 2, 1
     (("a.tif", "a.glb", "--error", "1", "--camera", "1,2,3"), USAGE, "--camera is for --triangles"),
     (("a.tif", "a.glb", "--triangles", "9", "--camera", "1,2,3", "--crs", "globe"), USAGE, "not for --crs globe or --mask"),
     (("a.tif", "a.glb", "--error", "1", "--measure", "--crs", "globe"), USAGE, "--measure is for a map"),
+    (("a.tif", "tiles/", "--error", "1", "--mask", "a.tif", "--size", "9"), USAGE, "--mask and --size: for one file, and OUT"),
+    (("a.tif", "tiles/", "--error", "1", "--exaggerate", "2"), USAGE, "--exaggerate: for one file, and OUT is a folder of tiles"),
+    (("a.tif", "tiles/", "--triangles", "9"), USAGE, "--triangles: for one file"),
+    (("a.tif", "a.glb", "--error", "1", "--zoom", "0"), USAGE, "--zoom: for a folder of tiles, and OUT is one file"),
+    (("a.tif", "there/", "--error", "1"), DATA, "there/tileset.json is there already: --overwrite replaces it"),
     (("a.tif", "a.ply", "--error", "1", "--texture", "a.tif"), USAGE, "--texture, --uv and --quantize are for .glb alone"),
     (("a.tif", "a.glb", "--error", "1", "--uv", "--base", "1"), USAGE, "--base and --size make a solid"),
     (("a.tif", "a.stl", "--error", "1", "--crs", "globe", "--size", "1"), USAGE, "--base and --size make a print of a map"),
@@ -189,6 +194,8 @@ USAGE, DATA = 2, 1
 def test_what_is_refused_and_what_mends_it(run, words, status, text):
     open("there.glb", "w").write("old")
     os.mkdir("folder.glb")
+    os.mkdir("there")
+    open("there/tileset.json", "w").write("old")
     before = names()
     it = run(*words)
     assert it.exit_code == status and text in it.stderr and "Traceback" not in it.stderr

@@ -17,6 +17,11 @@ from .export import GLOBE, KINDS
 from .formats import ENCODINGS
 
 Progress = Callable[[int, int], None]
+# Options that have no meaning for the other kind of OUT.
+OF_A_FILE = {name: f"--{name}" for name in (
+    "triangles", "camera", "window", "bounds", "every", "measure", "mask", "crs", "origin", "texture", "uv", "quantize", "base",
+    "size")}
+OF_A_FOLDER = {"zoom": "--zoom", "scheduler": "--dask"}
 MUCH_FILLED = 0.05  # of the points: above this it warns
 
 
@@ -96,14 +101,19 @@ def stage(label: str, words: Words) -> Iterator[Optional[Progress]]:
 @click.command("mesh", context_settings={"help_option_names": ["-h", "--help"], "max_content_width": 120})
 @click.argument("source", metavar="IN")
 @click.argument("out", metavar="OUT")
-@click.option("--error", type=click.FloatRange(0), help="The fewest triangles that are nowhere off by more metres.")
-@click.option("--triangles", type=click.IntRange(2), help="The least greatest error of at most so many.")
-@click.option("--camera", callback=numbers(float, "X,Y,Z"), help="With --triangles: the best mesh for a viewer there, in "
+@click.option("--error", metavar="METRES", type=click.FloatRange(0),
+              help="The fewest triangles that are nowhere off by more metres.")
+@click.option("--triangles", metavar="N", type=click.IntRange(2), help="The least greatest error of at most so many.")
+@click.option("--camera", metavar="X,Y,Z", callback=numbers(float, "X,Y,Z"),
+              help="With --triangles: the best mesh for a viewer there, in "
               "coordinates of OUT with its origin added.")
-@click.option("--window", callback=numbers(int, "COLUMN,ROW,COLUMNS,ROWS"), help="Only this part of IN.")
-@click.option("--bounds", callback=numbers(float, "X,Y,X,Y"), help="Only what lies between these coordinates of IN's system: "
+@click.option("--window", metavar="COLUMN,ROW,COLUMNS,ROWS", callback=numbers(int, "COLUMN,ROW,COLUMNS,ROWS"),
+              help="Only this part of IN.")
+@click.option("--bounds", metavar="X,Y,X,Y", callback=numbers(float, "X,Y,X,Y"),
+              help="Only what lies between these coordinates of IN's system: "
               "least X, least Y, greatest X, greatest Y.")
-@click.option("--every", type=click.IntRange(1), help="Takes every Nth point; without it as few are left out as 2049 points "
+@click.option("--every", metavar="N", type=click.IntRange(1),
+              help="Takes every Nth point; without it as few are left out as 2049 points "
               "a side need.")
 @click.option("--measure", is_flag=True, help="Reads IN once more and tells the error at all its points, those left out too.")
 @click.option("--band", type=int, default=1, show_default=True)
@@ -111,28 +121,36 @@ def stage(label: str, words: Words) -> Iterator[Optional[Progress]]:
 @click.option("--mask", type=click.Path(exists=True, dir_okay=False), help="A file of polygons (.geojson, or what fiona reads): "
               "only what lies within.")
 @click.option("--nodata", type=float, help="The number that stands for no height, where IN does not say.")
-@click.option("--fill", type=float, help="The height of points without one; without it they are filled from their edges.")
-@click.option("--spacing", type=click.FloatRange(0, min_open=True), help="Metres from point to point, where IN does not say.")
-@click.option("--unit", type=click.FloatRange(0, min_open=True), help="Heights are rounded to multiples of it; without it the "
+@click.option("--fill", metavar="METRES", type=float,
+              help="The height of points without one; without it they are filled from their edges.")
+@click.option("--spacing", metavar="METRES", type=click.FloatRange(0, min_open=True),
+              help="Metres from point to point, where IN does not say.")
+@click.option("--unit", metavar="METRES", type=click.FloatRange(0, min_open=True),
+              help="Heights are rounded to multiples of it; without it the "
               "finest that their range allows.")
-@click.option("--crs", help="The system of the vertices, as EPSG:25832; without it IN's own if it is in metres, else "
+@click.option("--crs", metavar="EPSG:CODE",
+              help="The system of the vertices, as EPSG:25832; without it IN's own if it is in metres, else "
               "UTM. globe: metres to the east, to the north and up about the middle, on the curved earth.")
 @click.option("--vertical", metavar="EPSG:CODE", help="What heights are over: EPSG:5773 for SRTM, EPSG:3855 for Copernicus; "
               "without it what IN says, else the ellipsoid.")
-@click.option("--origin", callback=numbers(float, "X,Y,Z"), help="What is 0 in OUT; without it a whole place in the middle.")
+@click.option("--origin", metavar="X,Y,Z", callback=numbers(float, "X,Y,Z"),
+              help="What is 0 in OUT; without it a whole place in the middle.")
 @click.option("--normals/--no-normals", default=True, show_default=True, help="For .glb and tiles.")
 @click.option("--texture", type=click.Path(exists=True, dir_okay=False), help="A PNG or JPEG over the window, for .glb.")
 @click.option("--uv", is_flag=True, help="Texture coordinates over the window, for .glb.")
 @click.option("--quantize", is_flag=True, help="Two bytes a coordinate, without loss, for .glb (KHR_mesh_quantization).")
-@click.option("--base", type=float, help="Closes the mesh to a solid down to this height, for a print.")
-@click.option("--size", type=click.FloatRange(0, min_open=True), help="A solid whose longer side is so many millimetres; "
+@click.option("--base", metavar="METRES", type=float, help="Closes the mesh to a solid down to this height, for a print.")
+@click.option("--size", metavar="MILLIMETRES", type=click.FloatRange(0, min_open=True),
+              help="A solid whose longer side is so many millimetres; "
               "without --base its floor is 2 mm below the lowest point.")
-@click.option("--exaggerate", type=click.FloatRange(0, min_open=True), default=1.0, help="Heights are multiplied by it.")
-@click.option("--tile", type=int, help="OUT is a folder of 3D Tiles with so many points a side [513]; of quantized-mesh [129].")
+@click.option("--exaggerate", metavar="FACTOR", type=click.FloatRange(0, min_open=True), default=1.0,
+              help="Heights are multiplied by it.")
+@click.option("--tile", metavar="N", type=int,
+              help="OUT is a folder of 3D Tiles with so many points a side [513]; of quantized-mesh [129].")
 @click.option("--format", "kind", type=click.Choice(["3dtiles", "quantized-mesh"]), help="What a folder OUT holds [3dtiles].")
 @click.option("--zoom", type=click.IntRange(0, 22), help="The finest zoom of quantized-mesh; without it as fine as IN.")
 @click.option("--skirts/--no-skirts", default=True, show_default=True, help="Walls down from the borders of tiles.")
-@click.option("--workers", type=click.IntRange(1), default=1, show_default=True, help="Processes for tiles.")
+@click.option("--workers", metavar="N", type=click.IntRange(1), default=1, show_default=True, help="Processes for tiles.")
 @click.option("--dask", "scheduler", metavar="ADDRESS", help="Makes tiles on the workers of this scheduler, as "
               "tcp://127.0.0.1:8786.")
 @click.option("--overwrite", is_flag=True, help="Replaces OUT where it is there.")
@@ -208,11 +226,18 @@ def _refuse(words: Words, is_folder: bool) -> None:
             words.crs == GLOBE and (words.base is not None or words.size is not None),
         "one of --window and --bounds is wanted": words.window is not None and words.bounds is not None,
     }
+    options = OF_A_FILE if is_folder else OF_A_FOLDER
+    given = [option for name, option in options.items() if (it := getattr(words, name)) is not None and it is not False]
+    given += ["--exaggerate"] if is_folder and words.exaggerate != 1 else []
+    of = "one file, and OUT is a folder of tiles" if is_folder else "a folder of tiles, and OUT is one file"
+    wrong[f"{' and '.join(given)}: for {of}"] = bool(given)
     for text, is_so in wrong.items():
         if is_so:
             raise click.UsageError(text)
-    if not is_folder and os.path.exists(words.out) and not words.overwrite:
-        raise click.ClickException(f"{words.out} is there already: --overwrite replaces it")
+    there = [words.out] if not is_folder else [os.path.join(words.out, name) for name in ("tileset.json", "layer.json")]
+    for path in there:
+        if os.path.exists(path) and not words.overwrite:
+            raise click.ClickException(f"{path} is there already: --overwrite replaces it")
 
 
 def folder(raster: Any, words: Words) -> dict[str, Any]:
