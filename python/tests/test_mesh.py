@@ -86,6 +86,13 @@ def test_an_error_is_taken_by_the_decimals_that_print(error):
         assert len(calfrewin.fit([[0, 0, 0], [0, rise, 0], [0, 0, 0]], error=error, unit=0.001).triangles) == count
 
 
+def test_the_rounding_is_taken_off_an_error():
+    # A hill of 10.4 is 10 and a rounding of 0.4: left out, it is off by 10.4 and not by 10.
+    for error, count in ((10.45, 2), (10.3, 4)):
+        mesh = calfrewin.fit([[0, 0, 0], [0, 10.4, 0], [0, 0, 0]], error=error, unit=1)
+        assert len(mesh.triangles) == count and mesh.rounding == pytest.approx(0.4) and mesh.error <= error
+
+
 @given(SHAPES, SEEDS, st.floats(0.01, 0.95))
 def test_holes_of_any_kind_are_filled_alike(shape, seed, share):
     rng = np.random.default_rng(seed)
