@@ -302,7 +302,7 @@ def damage_fit_line(roll: Roll, lines: list[str], m: int) -> None:
         lines[0] = f"tolerance {max(0, int(first[1]) + roll.choice([-1, 1]))}"
     elif kind == "mesh" and "mesh" in lines:
         lines.remove("mesh")
-        lines.insert(roll.randint(1, len(lines)), "mesh")
+        lines.insert(roll.randint(min(1, len(lines)), len(lines)), "mesh")
     else:
         lines[place] = lengthened(roll, lines[place])
 
