@@ -256,6 +256,18 @@ if [ -x "$single" ]; then
   echo "| a raw grid of side 2049 read from memory | 20 times 8,396,821 bytes | $(rate 8396821 raw "$(seconds_of raw_text)") | | at least 1.5 GB/s |"
   echo "| a plain grid of side 2049 read from memory | 20 times 25,190,425 bytes | $(rate 25190425 plain "$(seconds_of plain_text)") | | at least 150 MB/s |"
   alone=$(seconds_of samples_alone)
+  # fit_row WORDS CASE TARGET: a mesh over made heights, without what stands before it, and against the plain frame.
+  none=$(seconds_of fit_none)
+  frame=$(awk -v s="$(seconds_of fit_frame)" -v n="$none" 'BEGIN { printf "%.4f", s - n }')
+  fit_row() {
+    local it
+    it=$(awk -v s="$(seconds_of "$2")" -v n="$none" 'BEGIN { printf "%.4f", s - n }')
+    echo "| $1 | n = 11, made heights, error 20 | $it s | / frame $(ratio "$it" "$frame") | $3 |"
+  }
+  fit_row "Fit::frame with no bound" fit_frame ""
+  fit_row "Fit::frame_with, nothing required" fit_nothing "1"
+  fit_row "Fit::frame_with, 1,000 points" fit_points "at most 1.1"
+  fit_row "Fit::frame_within, that tolerance for each point" fit_own ""
   for kernel in be16 first_above range; do
     echo "| $kernel | 20 times 8,396,802 bytes of samples | $(rate 8396802 $kernel "$alone") | its plain twin $(rate 8396802 "${kernel}_plain" "$alone") | |"
   done
