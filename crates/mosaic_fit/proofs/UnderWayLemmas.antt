@@ -198,7 +198,8 @@ module _ (columns rows n tolerance steps : ℕ) (has : Point → ℕ → Bool) (
         (ok : (a : ℕ) → IsKept n a → has' t a ≡ ancestors_of leaves a)
         (only' : (a : ℕ) → IsTrue (has' t a) → IsTrue (ancestors_of leaves a))
         (others : (u : Point) (a : ℕ) → IsTile columns rows u → u ≢ t → has' u a ≡ has u a)
-        (stored : meshes' t ≡ leaves) (beside : (u : Point) → u ≢ t → meshes' u ≡ meshes u) where
+        (stored : meshes' t ≡ leaves)
+        (beside : (u : Point) → IsTile columns rows u → u ≢ t → meshes' u ≡ meshes u) where
       abbrev lists' : Point → List ℕ
       lists' = changed w.lists t leaves
 
@@ -253,7 +254,7 @@ module _ (columns rows n tolerance steps : ℕ) (has : Point → ℕ → Bool) (
           (subst (λ (q : ℕ → Bool). IsFitted columns rows n tolerance has' (heights u) u q (meshes' u) (w.lists u))
           (sym (changed-there w.required t required u other)) record {
             tile = f.tile;
-            stored = beside u other ∙ f.stored;
+            stored = beside u f.tile other ∙ f.stored;
             least = f.least;
             order = f.order;
             centre = f.centre;

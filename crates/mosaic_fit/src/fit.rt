@@ -1,8 +1,9 @@
 //! All tiles, in rounds.
 
-ghost use Rattle.std.specs.Prelude.{◌≡◌, ◌≢◌, ℕ, ◌+◌, ◌*◌, ◌^◌, ◌<◌, ◌≤◌, List, OnOk, OnErr, false, length};
+ghost use Rattle.std.specs.Prelude.{◌≡◌, ◌≢◌, ℕ, ◌+◌, ◌*◌, ◌^◌, ◌≤◌, List, OnOk, OnErr, false, length};
 ghost use Rattle.mesh_defs.specs.declared.point.Point.{Point};
 ghost use Rattle.mesh_defs.specs.declared.level.TheConstants.{GREATEST_LEVEL};
+ghost use Rattle.roam_edge.specs.Fault.{Rose};
 ghost use Rattle.tile_laws.specs.Tile.{IsTile};
 ghost use Rattle.mosaic_laws.specs.Mosaic.{IsLeastMosaic};
 ghost use Rattle.mosaic_laws.specs.Terrain.{terrain_error};
@@ -15,7 +16,6 @@ use bintree_addr::Tri;
 use fit_mesh::Fit;
 use mesh_defs::Point;
 use mosaic_rounds::Rounds;
-use pgm_grid::Grid;
 use roam_errors::Failed;
 
 /// Fits all tiles, until each has the border points that its neighbours have: their meshes are then the least mosaic
@@ -29,12 +29,13 @@ pub fn fit_tiles<T: Tiles>(
     tiles: &mut T,
     rounds: &mut Rounds,
     fit: &mut Fit,
-    grid: &mut Grid,
     required: &mut [Tri],
     tolerance: u32,
 ) -> Result<(), Failed>
     requires fit { fit.old.n ≡ rounds.old.n }
-    requires grid { grid.old.n ≡ rounds.old.n }
+    requires exponent { T.exponent tiles.old ≡ rounds.old.n }
+    requires columns { T.columns tiles.old ≡ rounds.old.columns }
+    requires rows { T.rows tiles.old ≡ rounds.old.rows }
     requires room { 2 ^ (rounds.old.n + 2) ≤ length required.old }
     requires shape { (rounds.old.columns ≤ MOST_ACROSS) × (rounds.old.rows ≤ MOST_ACROSS)
         × (rounds.old.n ≤ GREATEST_LEVEL) }
@@ -45,13 +46,13 @@ pub fn fit_tiles<T: Tiles>(
         (terrain_error columns rows rounds.old.n p (T.heights tiles.old)) (T.meshes tiles.new)) }
     ensures heights { (t : Point) → T.heights tiles.new t ≡ T.heights tiles.old t }
     ensures calm { OnOk result (T.faults tiles.new ≡ T.faults tiles.old) }
-    ensures failed { OnErr result (T.faults tiles.old < T.faults tiles.new) }
+    ensures failed { OnErr result (Rose (T.faults tiles.old) (T.faults tiles.new)) }
 {
     for _fitted in 0..u64::MAX {
         let Some(t) = rounds.next() else {
             return Ok(());
         };
-        fit_tile(tiles, rounds, fit, grid, required, tolerance, t)?;
+        fit_tile(tiles, rounds, fit, required, tolerance, t)?;
     }
     Ok(())
 }
@@ -61,17 +62,20 @@ fn fit_tile<T: Tiles>(
     tiles: &mut T,
     rounds: &mut Rounds,
     fit: &mut Fit,
-    grid: &mut Grid,
     required: &mut [Tri],
     tolerance: u32,
     t: Point,
 ) -> Result<(), Failed>
     requires fit { fit.old.n ≡ rounds.old.n }
-    requires grid { grid.old.n ≡ rounds.old.n }
+    requires exponent { T.exponent tiles.old ≡ rounds.old.n }
+    requires columns { T.columns tiles.old ≡ rounds.old.columns }
+    requires rows { T.rows tiles.old ≡ rounds.old.rows }
     requires room { 2 ^ (rounds.old.n + 2) ≤ length required.old }
     requires tile { IsTile rounds.old.columns rounds.old.rows t }
     ensures fit { fit.new.n ≡ fit.old.n }
-    ensures grid { grid.new.n ≡ grid.old.n }
+    ensures exponent { T.exponent tiles.new ≡ T.exponent tiles.old }
+    ensures tile_columns { T.columns tiles.new ≡ T.columns tiles.old }
+    ensures tile_rows { T.rows tiles.new ≡ T.rows tiles.old }
     ensures room { length required.new ≡ length required.old }
     ensures columns { rounds.new.columns ≡ rounds.old.columns }
     ensures rows { rounds.new.rows ≡ rounds.old.rows }
@@ -84,11 +88,11 @@ fn fit_tile<T: Tiles>(
         (splits rounds.new) given (T.meshes tiles.new)) }
     ensures heights { (u : Point) → T.heights tiles.new u ≡ T.heights tiles.old u }
     ensures calm { OnOk result (T.faults tiles.new ≡ T.faults tiles.old) }
-    ensures failed { OnErr result (T.faults tiles.old < T.faults tiles.new) }
+    ensures failed { OnErr result (Rose (T.faults tiles.old) (T.faults tiles.new)) }
 {
-    tiles.read(t, grid)?;
+    tiles.load(t)?;
     let count = rounds.required(t, required);
-    fit.frame_with(grid, tolerance, &required[..count]);
+    fit.frame_with(tiles.grid(), tolerance, &required[..count]);
     tiles.keep(t, fit.leaves())?;
     // It has all that the mesh before had, so it is never refused.
     let _taken = rounds.put(t, fit.leaves());

@@ -1,6 +1,7 @@
 -- Tile by tile, until nobody lacks anything.
-use Rattle.std.proofs.Common.{◌≡◌, ℕ, ◌+◌, ◌*◌, ◌^◌, ◌<◌, ◌≤◌, refl, sym, ◌∙◌, ap, subst, arith}
+use Rattle.std.proofs.Common.{◌≡◌, ℕ, ◌+◌, ◌*◌, ◌^◌, ◌≤◌, refl, sym, ◌∙◌, ap, subst, arith}
 use Rattle.std.specs.Prelude.{IsNone}
+use Rattle.roam_edge.specs.Fault.{Rose}
 use Rattle.mosaic_rounds.specs.Rounds.{splits}
 use Rattle.mosaic_fit.proofs.UnderWayLemmas.{under-way-first, under-way-moved, under-way-renamed, lacks-moved}
 use Rattle.mosaic_fit.proofs.UnderWayLemmas.{under-way-few, under-way-end, end-moved, few-steps, on_err_from}
@@ -15,10 +16,12 @@ loop-fitted-init g c = (
   refl,
   refl,
   c.requires.fit,
-  c.requires.grid,
+  c.requires.exponent,
   refl,
   λ t. refl,
   refl,
+  c.requires.columns,
+  c.requires.rows,
 )
 
 pub returns-in_default-clause-mosaic : goal.returns-in_default-clause-mosaic
@@ -39,8 +42,14 @@ returns-in_default-clause-calm g c = c.loop-fitted.invariant.8
 pub fit_tile-requires-clause-fit : goal.fit_tile-requires-clause-fit
 fit_tile-requires-clause-fit g c = c.loop-fitted.invariant.4 ∙ sym c.next.ensures.n
 
-pub fit_tile-requires-clause-grid : goal.fit_tile-requires-clause-grid
-fit_tile-requires-clause-grid g c = c.loop-fitted.invariant.5 ∙ sym c.next.ensures.n
+pub fit_tile-requires-clause-columns : goal.fit_tile-requires-clause-columns
+fit_tile-requires-clause-columns g c = c.loop-fitted.invariant.9 ∙ sym c.next.ensures.columns
+
+pub fit_tile-requires-clause-rows : goal.fit_tile-requires-clause-rows
+fit_tile-requires-clause-rows g c = c.loop-fitted.invariant.10 ∙ sym c.next.ensures.rows
+
+pub fit_tile-requires-clause-exponent : goal.fit_tile-requires-clause-exponent
+fit_tile-requires-clause-exponent g c = c.loop-fitted.invariant.5 ∙ sym c.next.ensures.n
 
 pub fit_tile-requires-clause-room : goal.fit_tile-requires-clause-room
 fit_tile-requires-clause-room g c =
@@ -55,7 +64,7 @@ returns-in_err-fit_tile-clause-heights g c t = c.fit_tile.ensures.heights t ∙ 
 
 pub returns-in_err-fit_tile-clause-failed : goal.returns-in_err-fit_tile-clause-failed
 returns-in_err-fit_tile-clause-failed g c =
-    on_err_from c.from_residual.result (g.T.Tiles.faults c.args.tiles.now < g.T.Tiles.faults c.fit_tile.new.tiles)
+    on_err_from c.from_residual.result (Rose (g.T.Tiles.faults c.args.tiles.now) (g.T.Tiles.faults c.fit_tile.new.tiles))
     (let rose = c.in_err-fit_tile.ensures.failed in let same = c.loop-fitted.invariant.8 in omega arith)
 
 pub loop-fitted-preserved : goal.loop-fitted-preserved
@@ -75,10 +84,12 @@ loop-fitted-preserved g c =
       c.fit_tile.ensures.rows ∙ c.next.ensures.rows ∙ i.2,
       c.fit_tile.ensures.n ∙ c.next.ensures.n ∙ i.3,
       c.fit_tile.ensures.fit ∙ i.4 ∙ sym c.next.ensures.n ∙ sym c.fit_tile.ensures.n,
-      c.fit_tile.ensures.grid ∙ i.5 ∙ sym c.next.ensures.n ∙ sym c.fit_tile.ensures.n,
+      c.fit_tile.ensures.exponent ∙ i.5 ∙ sym c.next.ensures.n ∙ sym c.fit_tile.ensures.n,
       c.fit_tile.ensures.room ∙ i.6,
       λ t. c.fit_tile.ensures.heights t ∙ i.7 t,
       c.in_ok-fit_tile.ensures.calm ∙ i.8,
+      c.fit_tile.ensures.tile_columns ∙ i.9 ∙ sym c.next.ensures.columns ∙ sym c.fit_tile.ensures.columns,
+      c.fit_tile.ensures.tile_rows ∙ i.10 ∙ sym c.next.ensures.rows ∙ sym c.fit_tile.ensures.rows,
     )
 
 -- the loop never comes to the end of its count
