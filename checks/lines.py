@@ -4,7 +4,13 @@ checks/run loads it, and prints the lines among those of its other checks."""
 from __future__ import annotations
 
 import re
+import signal
 from typing import Any, TextIO
+
+# A call in the background has these ignored (nohup, &), and what tests start would inherit that.
+for _number in (signal.SIGHUP, signal.SIGINT, signal.SIGQUIT):
+    if signal.getsignal(_number) is signal.SIG_IGN:
+        signal.signal(_number, signal.default_int_handler if _number == signal.SIGINT else signal.SIG_DFL)
 
 
 def pytest_addoption(parser: Any) -> None:
