@@ -48,7 +48,7 @@ static class Frames {
         engine.Look(new Plane { C = 1 }, new Plane { C = -1, D = 5000 });
         engine.Renew();
         state = engine.State();
-        Must(state.Planes == 2 && state.Frames == 0 && state.Way == 0 && state.Budget == 5, "a view of two planes, and counts that begin again");
+        Must(state.Planes == 2 && state.Frames == 0 && state.Way == 170 && state.Budget == 5, "a view of two planes, and frames alone that begin again");
         engine.Look();
         Must(engine.State().Planes == 0, "a view of no plane");
         note = engine.Frame();
