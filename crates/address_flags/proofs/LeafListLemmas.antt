@@ -2,7 +2,7 @@
 use Rattle.std.proofs.Common.{◌≡◌, ℕ, ◌+◌, ◌*◌, ◌^◌, ◌≤◌, Bool, false, List, [], ◌∷◌, ◌++◌, length, length-append, ap₂}
 use Rattle.std.proofs.Common.{arith, pow-add}
 use Rattle.mesh_defs.specs.ClosedSet.{leaves_under, leaves_of}
-use Rattle.closure_laws.proofs.LeafLemmas.{leaves-most, leaves_under-whole, four-power}
+use Rattle.mesh_laws.proofs.LeafLemmas.{leaves-most, leaves_under-whole, four-power}
 
 -- all of them have room
 pub leaves-room : (n : ℕ) (has : ℕ → Bool) → length (leaves_of n has) ≤ 2 ^ (2 * n + 1)

@@ -1,1 +1,3 @@
 mod LeafListLemmas
+pub mod VertexLemmas
+pub mod WeightedLemmas

@@ -3,7 +3,7 @@
 ghost use Rattle.std.specs.Prelude.{◌≡◌, ℕ, ◌+◌, ◌*◌, ◌^◌, ◌<◌, ◌≤◌, length, true, set};
 ghost use Rattle.mesh_defs.specs.Greedy.{with_triangle};
 ghost use Rattle.mesh_defs.specs.declared.level.TheConstants.{GREATEST_LEVEL};
-ghost use Rattle.least_laws.specs.Sweep.{is_flagged, IsParentMarked};
+ghost use Rattle.mesh_laws.specs.Sweep.{is_flagged, IsParentMarked};
 
 use bintree_addr::Tri;
 

@@ -4,7 +4,7 @@ ghost use Rattle.std.specs.Prelude.{◌≡◌, ℕ, ◌+◌, ◌*◌, ◌^◌, �
 ghost use Rattle.mesh_defs.specs.Triangle.{level_of};
 ghost use Rattle.mesh_defs.specs.ClosedSet.{leaves_under, leaves_of};
 ghost use Rattle.mesh_defs.specs.declared.level.TheConstants.{GREATEST_LEVEL};
-ghost use Rattle.least_laws.specs.Sweep.{is_flagged};
+ghost use Rattle.mesh_laws.specs.Sweep.{is_flagged};
 
 use crate::flags::is_set;
 use bintree_addr::Tri;

@@ -1,2 +1,7 @@
-pub mod BackLemmas
-pub mod CountLemmas
+mod LineLemmas
+mod PageLemmas
+mod CertBackLemmas
+mod CertCountLemmas
+mod FitBackLemmas
+mod FitCountLemmas
+mod KeptLemmas

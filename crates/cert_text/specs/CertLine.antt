@@ -1,19 +1,18 @@
 -- The line of a certificate that some bytes are. This project's own format; fields are cut as those of a script.
 --
--- Words: Word, line_word, is_camera_coordinate, camera_of, address_in, camera_fields, leaf_fields, reason_fields,
--- word_line, cert_fields_line, read_cert_line, IsLineOf.
-use Rattle.std.specs.Prelude.{ℕ, ◌+◌, ◌*◌, ◌^◌, Bool, ◌&&◌, nat_le, nat_lt, if◌then◌else◌, List, [], ◌∷◌, length}
+-- Words: Word, line_word, is_camera_coordinate, camera_of, camera_fields, leaf_fields, reason_fields, word_line,
+-- cert_fields_line, read_cert_line, cert_line_is, IsLineOf.
+use Rattle.std.specs.Prelude.{◌≡◌, refl, ℕ, ◌+◌, ◌*◌, ◌^◌, Bool, ◌&&◌, nat_le, if◌then◌else◌, List, [], ◌∷◌}
 use Rattle.std.specs.Prelude.{Option, Some, None, option_map, codes, bytes_eq, ℤ, unsigned_abs}
 use Rattle.mesh_defs.specs.Triangle.{IsAddress, IsSplittable}
-use Rattle.text_laws.specs.Numbers.{number_in, signed_in}
-use Rattle.text_laws.specs.Fields.{fields_of, without_last_cr}
-use Rattle.roam_script.specs.declared.limits.TheConstants.{MOST_LINE_BYTES}
+use Rattle.text_laws.specs.Numbers.{signed_in}
+use Rattle.cert_text.specs.Lines.{line_of, address_in}
 use Rattle.certificate_laws.specs.declared.reason.Kind.{Kind}
 use Rattle.certificate_laws.specs.declared.reason.Kind.TheVariants.{Want, Parent, Mate}
-use Rattle.cert_text.specs.declared.line.CertLine.{CertLine}
-use Rattle.cert_text.specs.declared.line.CertLine.TheVariants.{CameraLine, LeafLine, ReasonLine}
-use Rattle.cert_text.specs.declared.line.Word.{Word}
-use Rattle.cert_text.specs.declared.line.Word.TheVariants as word
+use Rattle.cert_text.specs.declared.cert_line.CertLine.{CertLine}
+use Rattle.cert_text.specs.declared.cert_line.CertLine.TheVariants.{CameraLine, LeafLine, ReasonLine}
+use Rattle.cert_text.specs.declared.cert_line.Word.{Word}
+use Rattle.cert_text.specs.declared.cert_line.Word.TheVariants as word
 
 -- the word that the first field of a line is
 abbrev pub line_word : List ℕ → Option Word
@@ -34,13 +33,6 @@ camera_of (Some x) (Some y) (Some z) =
     if is_camera_coordinate x && (is_camera_coordinate y && is_camera_coordinate z)
     then Some (CameraLine (record { x = x; y = y; z = z })) else None
 camera_of _ _ _ = None
-
--- the address that a field is: a number of at most 19 digits, from 2 to less than `end`
-abbrev pub address_in : ℕ → List ℕ → Option ℕ
-address_in end field = elim (number_in 19 field) as (λ _. Option ℕ) [
-  | None ↦ None
-  | Some a ↦ if nat_le 2 a && nat_lt a end then Some a else None
-]
 
 -- three numbers
 abbrev pub camera_fields : List (List ℕ) → Option CertLine
@@ -72,8 +64,12 @@ cert_fields_line n (first ∷ fields) = word_line n (line_word first) fields
 
 -- The line that these bytes are, of a certificate of the grid with this n.
 unfoldable pub read_cert_line : ℕ → List ℕ → Option CertLine
-read_cert_line n bytes =
-    if nat_lt MOST_LINE_BYTES (length bytes) then None else cert_fields_line n (fields_of (without_last_cr bytes))
+read_cert_line n bytes = line_of (cert_fields_line n) bytes
+
+-- it is what its fields say
+pub cert_line_is : (n : ℕ) (bytes : List ℕ) → read_cert_line n bytes ≡ line_of (cert_fields_line n) bytes
+unfolding read_cert_line
+cert_line_is n bytes = refl
 
 -- the triangle of the line is one of the grid with this n; that of a reason may be split
 abbrev pub IsLineOf : ℕ → CertLine → Type 0

@@ -7,8 +7,8 @@ use Rattle.mesh_defs.specs.BoundingBox.{CameraAt}
 use Rattle.mesh_defs.specs.declared.level.TheConstants.{GREATEST_LEVEL}
 use Rattle.certificate_laws.specs.declared.reason.Reason.{Reason}
 use Rattle.cert_text.specs.declared.limits.TheConstants.{MOST_LEAVES, MOST_REASONS}
-use Rattle.cert_text.specs.declared.line.CertLine.{CertLine}
-use Rattle.cert_text.specs.declared.line.CertLine.TheVariants.{CameraLine, LeafLine, ReasonLine}
+use Rattle.cert_text.specs.declared.cert_line.CertLine.{CertLine}
+use Rattle.cert_text.specs.declared.cert_line.CertLine.TheVariants.{CameraLine, LeafLine, ReasonLine}
 use Rattle.cert_text.specs.declared.fault.CertFault.{CertFault}
 use Rattle.cert_text.specs.declared.fault.CertFault.TheVariants.{BadLine}
 use Rattle.cert_text.specs.Certificate.{Certificate}

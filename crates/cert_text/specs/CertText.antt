@@ -2,14 +2,15 @@
 -- at its end. This project's own format.
 -- Words: kind_text, number_text, address_text, cert_line_text, ended_line, leaf_text, reason_text, cert_text,
 -- cert_lines.
-use Rattle.std.specs.Prelude.{ℕ, List, [], ◌∷◌, ◌++◌, map, codes, decimal, ℤ}
+use Rattle.std.specs.Prelude.{ℕ, List, ◌∷◌, ◌++◌, map, codes, decimal, ℤ}
 use Rattle.std.specs.List.{flat_map}
 use Rattle.std.specs.Fmt.{signed_decimal}
 use Rattle.certificate_laws.specs.declared.reason.Reason.{Reason}
 use Rattle.certificate_laws.specs.declared.reason.Kind.{Kind}
 use Rattle.certificate_laws.specs.declared.reason.Kind.TheVariants.{Want, Parent, Mate}
-use Rattle.cert_text.specs.declared.line.CertLine.{CertLine}
-use Rattle.cert_text.specs.declared.line.CertLine.TheVariants.{CameraLine, LeafLine, ReasonLine}
+use Rattle.cert_text.specs.Lines.{ended}
+use Rattle.cert_text.specs.declared.cert_line.CertLine.{CertLine}
+use Rattle.cert_text.specs.declared.cert_line.CertLine.TheVariants.{CameraLine, LeafLine, ReasonLine}
 use Rattle.cert_text.specs.Certificate.{Certificate}
 
 -- the first field of a reason's line
@@ -35,7 +36,7 @@ cert_line_text (ReasonLine reason) = address_text (kind_text reason.kind) reason
 
 -- a line with its LF
 abbrev pub ended_line : CertLine → List ℕ
-ended_line line = cert_line_text line ++ 10 ∷ []
+ended_line line = ended (cert_line_text line)
 
 -- the line of a leaf, and that of a reason
 abbrev pub leaf_text : ℕ → List ℕ

@@ -3,8 +3,8 @@
 -- LinesAreCounted.
 use Rattle.std.specs.Prelude.{◌≡◌, ℕ, ◌+◌, All, length, List, [], ◌∷◌, ◌++◌, Option, Some, None}
 use Rattle.std.specs.List.{flat_map}
-use Rattle.page_laws.specs.Lines.{lines_from}
-pub use Rattle.page_laws.specs.Lines.{IsOneLine}
+use Rattle.cert_text.specs.Lines.{lines_from}
+pub use Rattle.cert_text.specs.Lines.{IsOneLine}
 use Rattle.view_priority.specs.Camera.{IsCamera}
 use Rattle.cert_text.specs.Certificate.{Certificate}
 use Rattle.cert_text.specs.CertReader.{ReadSoFar, read_so_far, nothing_read, cert_line_in, AreFew}

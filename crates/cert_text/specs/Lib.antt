@@ -1,5 +1,14 @@
+pub mod Lines
+pub mod Page
 pub mod Certificate
 pub mod CertLine
 pub mod CertReader
 pub mod CertText
 pub mod Laws
+pub mod FitLine
+pub mod FitCertReader
+pub mod FitCertText
+pub mod FitLaws
+pub mod NeedLine
+pub mod KeptCert
+pub mod KeptLaws

@@ -1,5 +1,8 @@
 //! Why a line of a certificate is refused.
 
+ghost use Rattle.std.specs.Prelude.{◌≡◌, ◌++◌, ◌∷◌, [], OnOk, OnErr, IfErr};
+ghost use Rattle.cert_text.specs.declared.fault.CertFault.{CertFault};
+
 use thiserror::Error;
 
 /// Why a reader of a certificate refuses a line, or the whole.
@@ -11,4 +14,16 @@ pub enum CertFault {
     /// There is no room for what the line adds.
     #[error("out of memory")]
     NoMemory,
+}
+
+/// Appends what a line adds.
+pub(crate) fn push<T: Drop>(entries: &mut Vec<T>, entry: T) -> Result<(), CertFault>
+    ensures ok { OnOk result (entries.new.items ≡ entries.old.items ++ entry ∷ []) }
+    ensures err { OnErr result (entries.new.items ≡ entries.old.items) }
+    ensures no_memory { IfErr result (λ fault. fault ≡ CertFault.NoMemory) }
+{
+    match entries.push(entry) {
+        Ok(()) => Ok(()),
+        Err(_) => Err(CertFault::NoMemory),
+    }
 }

@@ -8,19 +8,19 @@ use Rattle.mesh_defs.specs.Tiling.{is_inside, IsConforming}
 use Rattle.mesh_defs.specs.ClosedSet.{IsClosed, leaves_of}
 use Rattle.bintree_laws.proofs.LevelLemmas.{level-le, splittable-below}
 use Rattle.bintree_laws.proofs.LevelLemmas.{level_of-parent}
-use Rattle.tiling_laws.specs.Ancestors.{is_above, ancestors_of}
-use Rattle.tiling_laws.proofs.DescentLemmas.{IsAddress-splittable, IsDown-address, sample_of}
-use Rattle.tiling_laws.proofs.ConformityLemmas.{IsUnder, self, IsUnder-up, IsConforming-leaves_of}
+use Rattle.mesh_laws.specs.Ancestors.{is_above, ancestors_of}
+use Rattle.mesh_laws.proofs.DescentLemmas.{IsAddress-splittable, IsDown-address, sample_of}
+use Rattle.mesh_laws.proofs.ConformityLemmas.{IsUnder, self, IsUnder-up, IsConforming-leaves_of}
 use Rattle.mesh_defs.proofs.ListLemmas.{IsIn, IsIn-contains, Contains-in, IsIn-among, among-in, Any-in, list_any-in}
 use Rattle.mesh_defs.proofs.ListLemmas.{count-some, some-count, count-narrower, one_entry}
-use Rattle.tiling_laws.proofs.ConverseLemmas.{under-above, above-under, level-under, IsClosed-ancestors_of}
-use Rattle.closure_laws.proofs.ClosureLemmas.{leaf-outer}
+use Rattle.mesh_laws.proofs.ConverseLemmas.{under-above, above-under, level-under, IsClosed-ancestors_of}
+use Rattle.mesh_laws.proofs.ClosureLemmas.{leaf-outer}
 use Rattle.std.specs.List.{IsDistinct}
-use Rattle.closure_laws.proofs.SetListLemmas.{All-in, list_of, ascending-list_of, among-list_of}
-use Rattle.closure_laws.proofs.SetListLemmas.{length-distinct}
-use Rattle.closure_laws.proofs.DiamondLemmas.{mate_or_none}
+use Rattle.mesh_laws.proofs.SetListLemmas.{All-in, list_of, ascending-list_of, among-list_of}
+use Rattle.mesh_laws.proofs.SetListLemmas.{length-distinct}
+use Rattle.mesh_laws.proofs.DiamondLemmas.{mate_or_none}
 use Rattle.bintree_laws.proofs.CentreLemmas.{mate_unique}
-use Rattle.least_laws.proofs.LeastLemmas.{entry_outside, length-ancestors}
+use Rattle.mesh_laws.proofs.LeastLemmas.{entry_outside, length-ancestors}
 use Rattle.certificate_laws.specs.Cut.{IsCut}
 use Rattle.certificate_laws.proofs.DistinctLemmas.{some_or_none, distinct-ascending, distinct_or_not, distinct-counts}
 use Rattle.certificate_laws.proofs.DistinctLemmas.{count-one, subset-length, size_of-leaves}

@@ -9,11 +9,11 @@ use Rattle.mesh_defs.specs.ClosedSet.{IsClosed, IsSubset, leaves_of, among}
 use Rattle.mesh_defs.proofs.ListLemmas.{IsIn, Contains-in, IsIn-among, among-in, count-cons, count-yes, count-no}
 use Rattle.mesh_defs.proofs.ListLemmas.{count-some, some-count}
 use Rattle.mesh_defs.specs.GridSet.{IsAscending}
-use Rattle.closure_laws.proofs.ClosureLemmas.{leaves_of-same}
-use Rattle.closure_laws.proofs.SizeLemmas.{length-leaves_of}
+use Rattle.mesh_laws.proofs.ClosureLemmas.{leaves_of-same}
+use Rattle.mesh_laws.proofs.SizeLemmas.{length-leaves_of}
 use Rattle.std.specs.List.{IsDistinct, AllByRecursion}
-use Rattle.closure_laws.proofs.SetListLemmas.{list_of, ascending-list_of, among-list_of}
-use Rattle.closure_laws.proofs.SetListLemmas.{length-distinct}
+use Rattle.mesh_laws.proofs.SetListLemmas.{list_of, ascending-list_of, among-list_of}
+use Rattle.mesh_laws.proofs.SetListLemmas.{length-distinct}
 
 -- searching
 

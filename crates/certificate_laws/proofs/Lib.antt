@@ -3,3 +3,11 @@ pub mod DistinctLemmas
 pub mod MakeLemmas
 pub mod SoundLemmas
 pub mod VerdictLemmas
+pub mod LeadLemmas
+pub mod FitSoundLemmas
+pub mod FitVerdictLemmas
+pub mod DecisionLemmas
+pub mod FitMakeLemmas
+pub mod FoundLemmas
+pub mod CentreLemmas
+pub mod KeepingLemmas

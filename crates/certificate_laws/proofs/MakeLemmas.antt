@@ -9,16 +9,16 @@ use Rattle.mesh_defs.specs.Priority.{worst_of}
 use Rattle.mesh_defs.specs.Ranking.{IsRanking, IsRankClosure}
 use Rattle.mesh_defs.specs.BestMesh.{IsBestMesh}
 use Rattle.bintree_laws.proofs.CentreLemmas.{mate_unique}
-use Rattle.tiling_laws.proofs.DescentLemmas.{IsAddress-splittable}
-use Rattle.tiling_laws.proofs.ConformityLemmas.{IsConforming-leaves_of}
+use Rattle.mesh_laws.proofs.DescentLemmas.{IsAddress-splittable}
+use Rattle.mesh_laws.proofs.ConformityLemmas.{IsConforming-leaves_of}
 use Rattle.mesh_defs.proofs.ListLemmas.{IsIn, IsIn-among, among-in}
 use Rattle.mesh_defs.specs.Falling.{IsFalling}
-use Rattle.closure_laws.proofs.RankLemmas.{IsBestMesh-greedy, IsGreedyEnd-closure, splittable-positive}
-use Rattle.closure_laws.proofs.SetListLemmas.{list_of, ascending-list_of, among-list_of}
-use Rattle.closure_laws.proofs.SetListLemmas.{length-distinct}
-use Rattle.closure_laws.proofs.DiamondLemmas.{mate_or_none}
-use Rattle.least_laws.specs.Least.{is_worse}
-use Rattle.least_laws.proofs.LeastLemmas.{worse-iff, least_found, least_within}
+use Rattle.mesh_laws.proofs.RankLemmas.{IsBestMesh-greedy, IsGreedyEnd-closure, splittable-positive}
+use Rattle.mesh_laws.proofs.SetListLemmas.{list_of, ascending-list_of, among-list_of}
+use Rattle.mesh_laws.proofs.SetListLemmas.{length-distinct}
+use Rattle.mesh_laws.proofs.DiamondLemmas.{mate_or_none}
+use Rattle.mesh_laws.specs.Least.{is_worse}
+use Rattle.mesh_laws.proofs.LeastLemmas.{worse-iff, least_found, least_within}
 use Rattle.certificate_laws.specs.declared.reason.Kind.TheVariants.{Want, Parent, Mate}
 use Rattle.certificate_laws.specs.declared.reason.Reason.{Reason}
 use Rattle.certificate_laws.specs.Certificate.{reason_triangles, named_in, IsReason, AreReasons, IsSound, IsOptimal}

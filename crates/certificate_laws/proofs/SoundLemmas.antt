@@ -6,13 +6,13 @@ use Rattle.std.proofs.lemmas.List.{append-nil}
 use Rattle.mesh_defs.specs.Triangle.{IsAddress}
 use Rattle.mesh_defs.specs.ClosedSet.{IsClosed}
 use Rattle.mesh_defs.specs.Priority.{worst_of}
-use Rattle.tiling_laws.specs.Ancestors.{ancestors_of}
-use Rattle.tiling_laws.proofs.DescentLemmas.{IsAddress-splittable}
+use Rattle.mesh_laws.specs.Ancestors.{ancestors_of}
+use Rattle.mesh_laws.proofs.DescentLemmas.{IsAddress-splittable}
 use Rattle.mesh_defs.proofs.ListLemmas.{IsIn, IsIn-among, among-in}
-use Rattle.tiling_laws.proofs.ConverseLemmas.{IsClosed-ancestors_of}
+use Rattle.mesh_laws.proofs.ConverseLemmas.{IsClosed-ancestors_of}
 use Rattle.mesh_defs.specs.Falling.{IsFalling}
 use Rattle.std.specs.List.{IsDistinct}
-use Rattle.least_laws.proofs.LeastLemmas.{length-ancestors, ancestor-worse}
+use Rattle.mesh_laws.proofs.LeastLemmas.{length-ancestors, ancestor-worse}
 use Rattle.certificate_laws.specs.declared.reason.Kind.{Kind}
 use Rattle.certificate_laws.specs.declared.reason.Kind.TheVariants.{Want, Parent, Mate}
 use Rattle.certificate_laws.specs.declared.reason.Reason.{Reason}

@@ -8,10 +8,10 @@ use Rattle.mesh_defs.specs.Triangle.{IsAddress, IsSplittable, IsMate}
 use Rattle.mesh_defs.specs.Tiling.{IsConforming}
 use Rattle.mesh_defs.specs.Priority.{worst_of}
 use Rattle.bintree_laws.proofs.CentreLemmas.{mate_unique, mate_symmetric}
-use Rattle.tiling_laws.proofs.DescentLemmas.{IsAddress-splittable}
-use Rattle.least_laws.proofs.SweepLemmas.{splittable-lt, lt-splittable}
+use Rattle.mesh_laws.proofs.DescentLemmas.{IsAddress-splittable}
+use Rattle.mesh_laws.proofs.SweepLemmas.{splittable-lt, lt-splittable}
 use Rattle.mesh_defs.proofs.ListLemmas.{IsIn, IsIn-among}
-use Rattle.closure_laws.proofs.DiamondLemmas.{mate_or_none}
+use Rattle.mesh_laws.proofs.DiamondLemmas.{mate_or_none}
 use Rattle.certificate_laws.specs.declared.reason.Reason.{Reason}
 use Rattle.certificate_laws.specs.declared.reason.Reject.{Reject}
 use Rattle.certificate_laws.specs.declared.reason.Reject.TheVariants.{BadLine, NotConforming, OverBudget, BadReason}

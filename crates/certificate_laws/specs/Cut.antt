@@ -4,7 +4,7 @@ use Rattle.std.specs.Prelude.{◌≡◌, ℕ, ◌+◌, ◌↔◌, nat_eq, IsTrue
 use Rattle.std.specs.List.{IsDistinct}
 use Rattle.mesh_defs.specs.Triangle.{IsAddress, IsMate}
 use Rattle.mesh_defs.specs.ClosedSet.{among}
-use Rattle.tiling_laws.specs.Ancestors.{ancestors_of}
+use Rattle.mesh_laws.specs.Ancestors.{ancestors_of}
 
 -- The entries are triangles of the grid, none twice and none above another; an ancestor's mate is an ancestor;
 -- and there are two entries more than ancestors.

@@ -75,7 +75,7 @@ impl Planes {
 
     /// How the cuboid lies to the planes.
     ///
-    /// Two corners decide a plane; the plain form, in the tests of `grid_tests`, looks at all eight.
+    /// Two corners decide a plane; the plain form, in the tests of `data_tests`, looks at all eight.
     /// Cost (not proved): at most two corners a plane.
     #[tactic(auto, unfolding(mesh_defs::specs::View::mark_of))]
     pub fn mark(&self, cuboid: &Cuboid) -> Mark

@@ -8,27 +8,27 @@ use Rattle.std.proofs.lemmas.List.Filters.{length-filter_both}
 use Rattle.std.proofs.lemmas.Map.Keys.{IsDistinct-cons}
 use Rattle.mesh_defs.specs.ClosedSet.{leaves_of, among}
 use Rattle.mesh_defs.specs.Greedy.{with_triangle}
-use Rattle.tiling_laws.proofs.DescentLemmas.{IsAddress-splittable}
+use Rattle.mesh_laws.proofs.DescentLemmas.{IsAddress-splittable}
 use Rattle.mesh_defs.proofs.ListLemmas.{IsIn-among}
 use Rattle.deferred_loop.specs.Seen.{PoolSet, SeenMesh, best_key, worst_key, sure, IsHead, IsLastHead, IsRated}
 use Rattle.deferred_loop.specs.Seen.{lower_of, upper_of}
 use Rattle.mesh_defs.specs.GridSet.{IsGridSet}
 use Rattle.bintree_addr.specs.declared.rank.Rank.{Rank}
 use Rattle.bintree_addr.specs.RankOrder.{ComesFirst}
-use Rattle.closure_laws.specs.Diamond.{IsInDiamond, CanMerge}
-use Rattle.frame_steps.specs.Lead.{IsLastLead}
-use Rattle.frame_steps.specs.Steps.{leaf_count, too_many, StepRun}
+use Rattle.mesh_laws.specs.Diamond.{IsInDiamond, CanMerge}
+use Rattle.mesh_laws.specs.Lead.{IsLastLead}
+use Rattle.mesh_laws.specs.Steps.{leaf_count, too_many, StepRun}
 use Rattle.mesh_defs.specs.Ranking.{IsBefore}
-use Rattle.closure_laws.specs.Order.{IsNoLater}
-use Rattle.frame_steps.specs.Deferred.{leaf, member, DiamondStraddles, zero_lower, DeferredFrame, IsDeferredFrame}
-use Rattle.frame_steps.specs.Deferred.{IsOpen, open_leaf, open_member}
-use Rattle.frame_steps.specs.Keys.{lower_key}
-use Rattle.closure_laws.proofs.SetListLemmas.{filter-in, filter-among, length-some}
-use Rattle.closure_laws.proofs.DiamondLemmas.{without_diamond}
-use Rattle.frame_steps.proofs.NextLemmas.{last_lead_or_none, some_lead}
-use Rattle.closure_laws.proofs.OrderLemmas.{no_later_from, no_later-le, no_later_trans}
-use Rattle.frame_steps.proofs.StraddleLemmas.{asked_leaf, asked_diamond, asked_over}
-use Rattle.frame_steps.proofs.KeyLemmas.{lead_no_later_key, IsAddress-entry}
+use Rattle.mesh_laws.specs.Order.{IsNoLater}
+use Rattle.mesh_laws.specs.Deferred.{leaf, member, DiamondStraddles, zero_lower, DeferredFrame, IsDeferredFrame}
+use Rattle.mesh_laws.specs.Deferred.{IsOpen, open_leaf, open_member}
+use Rattle.mesh_laws.specs.Keys.{lower_key}
+use Rattle.mesh_laws.proofs.SetListLemmas.{filter-in, filter-among, length-some}
+use Rattle.mesh_laws.proofs.DiamondLemmas.{without_diamond}
+use Rattle.mesh_laws.proofs.NextLemmas.{last_lead_or_none, some_lead}
+use Rattle.mesh_laws.proofs.OrderLemmas.{no_later_from, no_later-le, no_later_trans}
+use Rattle.mesh_laws.proofs.StraddleLemmas.{asked_leaf, asked_diamond, asked_over}
+use Rattle.mesh_laws.proofs.KeyLemmas.{lead_no_later_key, IsAddress-entry}
 use Rattle.deferred_loop.specs.Choice.{IsFirstRank}
 use Rattle.deferred_loop.specs.Kept.{IsSettled, IsOldLeaf, IsOldMember, IsCharged, IsMet, IsAllowed}
 use Rattle.deferred_loop.specs.declared.queued.Head.{Head}

@@ -9,20 +9,20 @@ use Rattle.mesh_defs.specs.Falling.{IsFalling}
 use Rattle.bintree_addr.specs.declared.rank.Rank.{Rank}
 use Rattle.bintree_addr.specs.declared.blocked.Blocked.{Blocked}
 use Rattle.bintree_addr.specs.RankOrder.{ComesFirst}
-use Rattle.closure_laws.specs.Diamond.{CanMerge, IsWithoutDiamond}
-use Rattle.closure_laws.specs.Frame.{IsFrame}
-use Rattle.closure_laws.proofs.ForcingLemmas.{with-old}
-use Rattle.closure_laws.proofs.SizeLemmas.{length-members, length-leaves_of}
-use Rattle.closure_laws.proofs.LeafLemmas.{leaves-most}
-use Rattle.closure_laws.proofs.SetListLemmas.{length-subset}
-use Rattle.closure_laws.proofs.DiamondLemmas.{without_diamond-closed}
-use Rattle.closure_laws.proofs.ChangeLemmas.{one_forced}
-use Rattle.closure_laws.proofs.FirstLeafLemmas.{first_leaf_splittable}
-use Rattle.closure_laws.proofs.FrameLemmas.{IsFrame-done, IsFrame-stopped}
-use Rattle.frame_steps.specs.Lead.{IsLead}
-use Rattle.frame_steps.specs.Steps.{leaf_count, DoesNotFit, makes_room, IsFinished, blocked, all_split}
-use Rattle.frame_steps.specs.Deferred.{DeferredFrame}
-use Rattle.frame_steps.proofs.FrameLemmas.{finished_end}
+use Rattle.mesh_laws.specs.Diamond.{CanMerge, IsWithoutDiamond}
+use Rattle.mesh_laws.specs.Frame.{IsFrame}
+use Rattle.mesh_laws.proofs.ForcingLemmas.{with-old}
+use Rattle.mesh_laws.proofs.SizeLemmas.{length-members, length-leaves_of}
+use Rattle.mesh_laws.proofs.LeafLemmas.{leaves-most}
+use Rattle.mesh_laws.proofs.SetListLemmas.{length-subset}
+use Rattle.mesh_laws.proofs.DiamondLemmas.{without_diamond-closed}
+use Rattle.mesh_laws.proofs.ChangeLemmas.{one_forced}
+use Rattle.mesh_laws.proofs.FirstLeafLemmas.{first_leaf_splittable}
+use Rattle.mesh_laws.proofs.FrameLemmas.{IsFrame-done, IsFrame-stopped}
+use Rattle.mesh_laws.specs.Lead.{IsLead}
+use Rattle.mesh_laws.specs.Steps.{leaf_count, DoesNotFit, makes_room, IsFinished, blocked, all_split}
+use Rattle.mesh_laws.specs.Deferred.{DeferredFrame}
+use Rattle.mesh_laws.proofs.FrameRunLemmas.{finished_end}
 use Rattle.deferred_loop.specs.Seen.{SeenMesh, HasRoom}
 use Rattle.deferred_loop.specs.Choice.{IsFirstRank, IsLastRank, IsNextSplit, IsNextMerge, IsNextEnd}
 use Rattle.deferred_loop.specs.Kept.{IsSettled}

@@ -5,9 +5,9 @@ use Rattle.mesh_defs.specs.GridSet.{IsGridSet}
 use Rattle.std.proofs.lemmas.Bool.{cases_Bool, both_ways, cond-true, cond-false, or_left, or_right, or_from, eqb-true}
 use Rattle.mesh_defs.specs.ClosedSet.{among}
 use Rattle.deferred_loop.specs.Seen.{PoolSet, SeenMesh, IsEntered, upper_of, lower_of}
-use Rattle.frame_steps.specs.Deferred.{DeferredFrame, IsEntry}
-use Rattle.frame_steps.specs.Stamps.{Stamp, Readings, stamp_now, ReadingsHold}
-use Rattle.frame_steps.proofs.KeyLemmas.{IsAddress-entry}
+use Rattle.mesh_laws.specs.Deferred.{DeferredFrame, IsEntry}
+use Rattle.mesh_laws.specs.Stamps.{Stamp, Readings, stamp_now, ReadingsHold}
+use Rattle.mesh_laws.proofs.KeyLemmas.{IsAddress-entry}
 use Rattle.deferred_loop.specs.Kept.{HasTrueKeys, IsCaughtUp}
 use Rattle.deferred_loop.specs.declared.gauge.Reading.{Reading}
 

@@ -4,15 +4,15 @@ use Rattle.std.proofs.Common.{subst, arith, ⊎_elim, Some}
 use Rattle.mesh_defs.specs.ClosedSet.{among}
 use Rattle.deferred_loop.specs.Seen.{PoolSet, SeenMesh, IsForgotten, IsCountedBy}
 use Rattle.mesh_defs.proofs.ListLemmas.{among-in}
-use Rattle.closure_laws.proofs.SizeLemmas.{length-members}
-use Rattle.frame_steps.specs.Steps.{IsSplitStep, IsMergeStep, IsFinished, IsFrameRun}
-use Rattle.frame_steps.specs.Deferred.{IsEntry, leaf, member, DeferredFrame, IsDeferredFrame, IsOpen, due_entry}
-use Rattle.frame_steps.specs.Deferred.{open_leaf, open_member}
-use Rattle.frame_steps.proofs.MeasureLemmas.{steps_left, split_steps_left, merge_steps_left, run_small}
-use Rattle.closure_laws.proofs.SetListLemmas.{length-distinct}
+use Rattle.mesh_laws.proofs.SizeLemmas.{length-members}
+use Rattle.mesh_laws.specs.Steps.{IsSplitStep, IsMergeStep, IsFinished, IsFrameRun}
+use Rattle.mesh_laws.specs.Deferred.{IsEntry, leaf, member, DeferredFrame, IsDeferredFrame, IsOpen, due_entry}
+use Rattle.mesh_laws.specs.Deferred.{open_leaf, open_member}
+use Rattle.mesh_laws.proofs.MeasureLemmas.{steps_left, split_steps_left, merge_steps_left, run_small}
+use Rattle.mesh_laws.proofs.SetListLemmas.{length-distinct}
 use Rattle.deferred_loop.proofs.ChoiceLemmas.{leaves_small}
 use Rattle.deferred_loop.proofs.TellLemmas.{entries_of, in_entries, length-entries}
-use Rattle.frame_steps.specs.Stamps.{Readings, is_due, stamp_now}
+use Rattle.mesh_laws.specs.Stamps.{Readings, is_due, stamp_now}
 use Rattle.deferred_loop.specs.Kept.{IsSettled, IsCharged, IsStamped}
 
 module _ (w : DeferredFrame) (is : IsDeferredFrame w) where

@@ -7,16 +7,16 @@ use Rattle.std.specs.List.{filter, IsDistinct}
 use Rattle.std.proofs.lemmas.Bool.{cases_lt, not_from_false, false_from_ne_true}
 use Rattle.mesh_defs.specs.Triangle.{IsAddress, IsMate}
 use Rattle.mesh_defs.specs.ClosedSet.{leaves_of, among}
-use Rattle.tiling_laws.proofs.DescentLemmas.{IsAddress-splittable}
+use Rattle.mesh_laws.proofs.DescentLemmas.{IsAddress-splittable}
 use Rattle.mesh_defs.proofs.ListLemmas.{IsIn, IsIn-among, among-in}
 use Rattle.mesh_defs.specs.GridSet.{IsGridSet, IsForced}
-use Rattle.frame_steps.specs.Deferred.{IsEntry, leaf as as_leaf, member as as_member}
-use Rattle.closure_laws.proofs.ForcingLemmas.{with-old}
-use Rattle.closure_laws.specs.Diamond.{IsInDiamond, CanMerge, IsWithoutDiamond}
-use Rattle.closure_laws.proofs.SetListLemmas.{in-filter, filter-in, length-parts, length-distinct}
+use Rattle.mesh_laws.specs.Deferred.{IsEntry, leaf as as_leaf, member as as_member}
+use Rattle.mesh_laws.proofs.ForcingLemmas.{with-old}
+use Rattle.mesh_laws.specs.Diamond.{IsInDiamond, CanMerge, IsWithoutDiamond}
+use Rattle.mesh_laws.proofs.SetListLemmas.{in-filter, filter-in, length-parts, length-distinct}
 use Rattle.bintree_laws.proofs.CentreLemmas.{mate_unique}
-use Rattle.closure_laws.proofs.DiamondLemmas.{mate_or_none, diamond_symmetric, diamond_closed}
-use Rattle.closure_laws.proofs.ChangeLemmas.{merge_new_leaf, merge_new_mergeable, split_new_leaf, split_diamonds}
+use Rattle.mesh_laws.proofs.DiamondLemmas.{mate_or_none, diamond_symmetric, diamond_closed}
+use Rattle.mesh_laws.proofs.ChangeLemmas.{merge_new_leaf, merge_new_mergeable, split_new_leaf, split_diamonds}
 
 -- members of one list that are not in another
 others : List ℕ → List ℕ → List ℕ

@@ -9,14 +9,14 @@ use Rattle.bintree_laws.proofs.LevelLemmas.{level-le}
 use Rattle.mesh_defs.specs.GridSet.{IsGridSet}
 use Rattle.bintree_addr.specs.declared.rank.Rank.{Rank}
 use Rattle.bintree_addr.specs.RankOrder.{ComesFirst}
-use Rattle.closure_laws.specs.Diamond.{IsInDiamond, CanMerge}
-use Rattle.closure_laws.specs.Order.{IsNoLater}
-use Rattle.frame_steps.specs.Deferred.{IsEntry, leaf, member, DeferredFrame, IsDeferredFrame}
-use Rattle.frame_steps.specs.Keys.{upper_key, lower_key, IsLastKey}
-use Rattle.closure_laws.proofs.DiamondLemmas.{diamond_trans, diamond_symmetric, leaf_outside}
-use Rattle.frame_steps.proofs.NextLemmas.{some_lead}
-use Rattle.frame_steps.proofs.KeyLemmas.{IsAddress-entry, first_known, zero_head, lead_no_later_key, all_before}
-use Rattle.frame_steps.proofs.KeyLemmas.{all_positive, upper_key-known}
+use Rattle.mesh_laws.specs.Diamond.{IsInDiamond, CanMerge}
+use Rattle.mesh_laws.specs.Order.{IsNoLater}
+use Rattle.mesh_laws.specs.Deferred.{IsEntry, leaf, member, DeferredFrame, IsDeferredFrame}
+use Rattle.mesh_laws.specs.Keys.{upper_key, lower_key, IsLastKey}
+use Rattle.mesh_laws.proofs.DiamondLemmas.{diamond_trans, diamond_symmetric, leaf_outside}
+use Rattle.mesh_laws.proofs.NextLemmas.{some_lead}
+use Rattle.mesh_laws.proofs.KeyLemmas.{IsAddress-entry, first_known, zero_head, lead_no_later_key, all_before}
+use Rattle.mesh_laws.proofs.KeyLemmas.{all_positive, upper_key-known}
 use Rattle.deferred_loop.specs.Choice.{Priorities, IsFirstRank, IsLastRank}
 use Rattle.deferred_loop.specs.Seen.{SeenMesh, best_key, worst_key, sure, IsDecided, IsToAsk, IsHead, IsLastHead}
 use Rattle.deferred_loop.specs.Kept.{frame_priorities, IsSettled, IsMet, IsAllowed, IsNoneMet}

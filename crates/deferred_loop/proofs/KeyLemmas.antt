@@ -3,13 +3,13 @@ use Rattle.std.proofs.Common.{◌≡◌, ℕ, ◌≤◌, inl, inr, Bool, true, f
 use Rattle.std.proofs.lemmas.Bool.{cases_Bool, both_ways, or_cases, or_parts, eqb-true, cond_both, cond-true}
 use Rattle.std.proofs.lemmas.Bool.{cond-false, leb-true, le-leb}
 use Rattle.mesh_defs.specs.ClosedSet.{IsClosed}
-use Rattle.tiling_laws.proofs.DescentLemmas.{IsAddress-splittable}
-use Rattle.closure_laws.specs.Diamond.{IsInDiamond, CanMerge}
+use Rattle.mesh_laws.proofs.DescentLemmas.{IsAddress-splittable}
+use Rattle.mesh_laws.specs.Diamond.{IsInDiamond, CanMerge}
 use Rattle.mesh_defs.specs.Ranking.{IsBefore}
-use Rattle.closure_laws.specs.Order.{IsNoLater}
-use Rattle.frame_steps.specs.Deferred.{DeferredFrame, IsDeferredFrame}
-use Rattle.frame_steps.specs.Keys.{upper_key, lower_key}
-use Rattle.closure_laws.proofs.DiamondLemmas.{diamond_trans, diamond_closed}
+use Rattle.mesh_laws.specs.Order.{IsNoLater}
+use Rattle.mesh_laws.specs.Deferred.{DeferredFrame, IsDeferredFrame}
+use Rattle.mesh_laws.specs.Keys.{upper_key, lower_key}
+use Rattle.mesh_laws.proofs.DiamondLemmas.{diamond_trans, diamond_closed}
 use Rattle.deferred_loop.specs.Seen.{SeenMesh, best_key, worst_key, sure, lower_of, upper_of}
 use Rattle.deferred_loop.specs.Kept.{IsTrueKey}
 

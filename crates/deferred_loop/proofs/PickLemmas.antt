@@ -4,20 +4,20 @@ use Rattle.std.proofs.Common.{sym, ◌∙◌, ap, subst, arith, ⊎_elim, Some}
 use Rattle.std.proofs.lemmas.Bool.{le-ltb}
 use Rattle.mesh_defs.specs.ClosedSet.{among}
 use Rattle.mesh_defs.specs.Ranking.{IsRankClosure}
-use Rattle.closure_laws.proofs.RankingLemmas.{ranking_of, IsRanking-of}
+use Rattle.mesh_laws.proofs.RankingLemmas.{ranking_of, IsRanking-of}
 use Rattle.mesh_defs.specs.GridSet.{IsGridSet}
 use Rattle.mesh_defs.specs.Falling.{IsFalling}
-use Rattle.closure_laws.proofs.RankLemmas.{IsRankClosure-unique}
-use Rattle.closure_laws.proofs.FrameLemmas.{IsRanking-unique}
-use Rattle.frame_steps.specs.Steps.{IsFrameRun}
-use Rattle.frame_steps.specs.Deferred.{LeafStraddles, DeferredFrame, IsDeferredFrame, IsOpen, due_entry, open_leaf}
-use Rattle.frame_steps.specs.Deferred.{open_member}
-use Rattle.closure_laws.proofs.ExistenceLemmas.{rank_closure_of}
-use Rattle.closure_laws.proofs.SetListLemmas.{length-distinct}
-use Rattle.frame_steps.proofs.StampLemmas.{stamped_frame}
-use Rattle.frame_steps.proofs.FrameLemmas.{frame_size, frame_no_merge, frame_no_split, frame_bound}
+use Rattle.mesh_laws.proofs.RankLemmas.{IsRankClosure-unique}
+use Rattle.mesh_laws.proofs.FrameLemmas.{IsRanking-unique}
+use Rattle.mesh_laws.specs.Steps.{IsFrameRun}
+use Rattle.mesh_laws.specs.Deferred.{LeafStraddles, DeferredFrame, IsDeferredFrame, IsOpen, due_entry, open_leaf}
+use Rattle.mesh_laws.specs.Deferred.{open_member}
+use Rattle.mesh_laws.proofs.ExistenceLemmas.{rank_closure_of}
+use Rattle.mesh_laws.proofs.SetListLemmas.{length-distinct}
+use Rattle.mesh_laws.proofs.StampLemmas.{stamped_frame}
+use Rattle.mesh_laws.proofs.FrameRunLemmas.{frame_size, frame_no_merge, frame_no_split, frame_bound}
 use Rattle.deferred_loop.specs.Choice.{Priorities, IsSparing}
-use Rattle.frame_steps.specs.Stamps.{Readings, is_due, stamp_now, StampsHold, ReadingsHold}
+use Rattle.mesh_laws.specs.Stamps.{Readings, is_due, stamp_now, StampsHold, ReadingsHold}
 use Rattle.deferred_loop.specs.Seen.{SeenMesh}
 use Rattle.deferred_loop.specs.Kept.{frame_priorities, IsFrameOf, IsStamped}
 use Rattle.deferred_loop.specs.Promise.{frame_of, IsAtMost, IsAtLeast, AreStampsGood}

@@ -6,13 +6,13 @@ use Rattle.mesh_defs.specs.Triangle.{IsAddress}
 use Rattle.mesh_defs.specs.ClosedSet.{leaves_of, among}
 use Rattle.deferred_loop.specs.Seen.{PoolSet, SeenMesh, IsBegun, lower_of, upper_of}
 use Rattle.mesh_defs.specs.GridSet.{IsGridSet}
-use Rattle.closure_laws.specs.Diamond.{CanMerge}
-use Rattle.frame_steps.specs.Steps.{StepRun, begin}
-use Rattle.frame_steps.specs.Deferred.{IsEntry, leaf, member, DeferredFrame, IsDeferredFrame, due_entry}
-use Rattle.frame_steps.specs.Stamps.{Stamp, Readings, is_due, stamp_now, counted_stamp}
+use Rattle.mesh_laws.specs.Diamond.{CanMerge}
+use Rattle.mesh_laws.specs.Steps.{StepRun, begin}
+use Rattle.mesh_laws.specs.Deferred.{IsEntry, leaf, member, DeferredFrame, IsDeferredFrame, due_entry}
+use Rattle.mesh_laws.specs.Stamps.{Stamp, Readings, is_due, stamp_now, counted_stamp}
 use Rattle.deferred_loop.specs.Kept.{IsFrameOf, HasTrueKeys, IsCharged, IsCaughtUp, IsStamped}
 use Rattle.deferred_loop.proofs.KeyLemmas.{can_merge_with}
-use Rattle.frame_steps.proofs.KeyLemmas.{IsAddress-entry}
+use Rattle.mesh_laws.proofs.KeyLemmas.{IsAddress-entry}
 
 -- an entry that is due counts with a stamp that is taken now
 counted_due : (r : Readings) (odometer : ℕ) (stamps : ℕ → Option Stamp) (a : ℕ) → is_due odometer (stamps a) ≡ true →

@@ -9,18 +9,18 @@ use Rattle.mesh_defs.proofs.ListLemmas.{IsIn-among, among-in, IsIn-append-left, 
 use Rattle.deferred_loop.specs.Seen.{PoolSet, SeenMesh, IsSame, IsRenewed, IsNewEntry, lower_of, upper_of, IsMergeOf}
 use Rattle.deferred_loop.specs.Seen.{IsSplitOf}
 use Rattle.mesh_defs.specs.GridSet.{IsGridSet, IsForced}
-use Rattle.closure_laws.specs.Diamond.{IsInDiamond, CanMerge, IsWithoutDiamond}
-use Rattle.frame_steps.specs.Steps.{leaf_count, IsSplitStep, IsMergeStep, StepRun, split, merge}
-use Rattle.frame_steps.specs.Deferred.{IsEntry, leaf, member, DeferredFrame, IsDeferredFrame}
-use Rattle.closure_laws.proofs.ChangeLemmas.{one_forced}
-use Rattle.closure_laws.proofs.FirstLeafLemmas.{first_leaf_splittable}
-use Rattle.closure_laws.proofs.DiamondLemmas.{without_diamond-closed}
+use Rattle.mesh_laws.specs.Diamond.{IsInDiamond, CanMerge, IsWithoutDiamond}
+use Rattle.mesh_laws.specs.Steps.{leaf_count, IsSplitStep, IsMergeStep, StepRun, split, merge}
+use Rattle.mesh_laws.specs.Deferred.{IsEntry, leaf, member, DeferredFrame, IsDeferredFrame}
+use Rattle.mesh_laws.proofs.ChangeLemmas.{one_forced}
+use Rattle.mesh_laws.proofs.FirstLeafLemmas.{first_leaf_splittable}
+use Rattle.mesh_laws.proofs.DiamondLemmas.{without_diamond-closed}
 use Rattle.deferred_loop.specs.Choice.{IsNextSplit, IsNextMerge}
-use Rattle.frame_steps.specs.Stamps.{Stamp, Readings, is_due, stamp_now}
+use Rattle.mesh_laws.specs.Stamps.{Stamp, Readings, is_due, stamp_now}
 use Rattle.deferred_loop.specs.Kept.{IsTrueKey, HasTrueKeys, IsSettled, IsOldLeaf, IsOldMember, IsCharged, IsAskedOnly}
 use Rattle.deferred_loop.specs.Kept.{IsCaughtUp, IsStamped}
 use Rattle.deferred_loop.proofs.KeyLemmas.{can_merge_with}
-use Rattle.frame_steps.proofs.KeyLemmas.{IsAddress-entry}
+use Rattle.mesh_laws.proofs.KeyLemmas.{IsAddress-entry}
 use Rattle.deferred_loop.proofs.FreshLemmas.{NewRoles, split_roles, merge_roles, few_fresh}
 
 among_left : (a : ℕ) (xs ys : List ℕ) → IsTrue (among xs a) → IsTrue (among (xs ++ ys) a)

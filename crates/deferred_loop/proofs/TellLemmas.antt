@@ -11,9 +11,9 @@ use Rattle.mesh_defs.specs.Greedy.{with_triangle}
 use Rattle.mesh_defs.proofs.ListLemmas.{IsIn, IsIn-contains, IsIn-among, IsIn-append-left, IsIn-append-right}
 use Rattle.deferred_loop.specs.Seen.{PoolSet, SeenMesh, IsRated, upper_of, lower_of}
 use Rattle.bintree_addr.specs.declared.rank.Rank.{Rank}
-use Rattle.closure_laws.proofs.SetListLemmas.{count-less}
-use Rattle.frame_steps.specs.Deferred.{DeferredFrame, IsEntry, leaf, member}
-use Rattle.frame_steps.specs.Stamps.{Stamp}
+use Rattle.mesh_laws.proofs.SetListLemmas.{count-less}
+use Rattle.mesh_laws.specs.Deferred.{DeferredFrame, IsEntry, leaf, member}
+use Rattle.mesh_laws.specs.Stamps.{Stamp}
 use Rattle.deferred_loop.specs.Kept.{IsTrueKey, IsSettled, IsCharged, IsAskedOnly}
 use Rattle.mesh_defs.proofs.TestLemmas.{or_none}
 

@@ -1,16 +1,16 @@
 -- Which step comes next, and that a frame changes no more than it must.
 -- Source: the dual-queue algorithm of Duchaineau et al., "ROAMing Terrain", IEEE Visualization 1997; the rules for
--- steps and for the end are those of `frame_steps`.
+-- steps and for the end are those of `mesh_laws`.
 -- Words: Priorities, IsFirstRank, IsLastRank, IsNextSplit, IsNextMerge, IsNextEnd, IsNext, IsSparing.
 use Rattle.std.specs.Prelude.{◌≡◌, ◌+◌, ◌≤◌, ℕ, List, length}
 use Rattle.mesh_defs.specs.ClosedSet.{IsSubset, among}
 use Rattle.mesh_defs.specs.Ranking.{IsRanking, IsRankClosure}
 use Rattle.mesh_defs.specs.Greedy.{IsFirstLeaf}
 use Rattle.mesh_defs.specs.GridSet.{IsForced}
-use Rattle.closure_laws.specs.Frame.{IsFrame}
+use Rattle.mesh_laws.specs.Frame.{IsFrame}
 use Rattle.bintree_addr.specs.declared.rank.Rank.{Rank}
-use Rattle.frame_steps.specs.Lead.{IsLastLead}
-use Rattle.frame_steps.specs.Steps.{leaf_count, MustMerge, IsFinished, AreLoose}
+use Rattle.mesh_laws.specs.Lead.{IsLastLead}
+use Rattle.mesh_laws.specs.Steps.{leaf_count, MustMerge, IsFinished, AreLoose}
 use Rattle.deferred_loop.specs.declared.next.Ending.{Ending}
 use Rattle.deferred_loop.specs.declared.next.Next.{Next}
 use Rattle.deferred_loop.specs.declared.next.Next.TheVariants.{Split, Merge, End}

@@ -10,11 +10,11 @@ use Rattle.mesh_defs.specs.Ranking.{RanksBefore}
 use Rattle.mesh_defs.specs.GridSet.{IsGridSet}
 use Rattle.bintree_addr.specs.declared.rank.Rank.{Rank}
 use Rattle.bintree_addr.specs.RankOrder.{ComesFirst}
-use Rattle.closure_laws.specs.Diamond.{IsInDiamond, CanMerge}
-use Rattle.frame_steps.specs.Lead.{IsLead}
-use Rattle.frame_steps.specs.Steps.{leaf_count, StepRun}
-use Rattle.frame_steps.specs.Deferred.{IsEntry, DeferredFrame, IsOpen}
-use Rattle.frame_steps.specs.Stamps.{Readings, is_due, stamp_now, HasStamps}
+use Rattle.mesh_laws.specs.Diamond.{IsInDiamond, CanMerge}
+use Rattle.mesh_laws.specs.Lead.{IsLead}
+use Rattle.mesh_laws.specs.Steps.{leaf_count, StepRun}
+use Rattle.mesh_laws.specs.Deferred.{IsEntry, DeferredFrame, IsOpen}
+use Rattle.mesh_laws.specs.Stamps.{Readings, is_due, stamp_now, HasStamps}
 use Rattle.deferred_loop.specs.Choice.{Priorities, IsFirstRank}
 use Rattle.deferred_loop.specs.Seen.{SeenMesh, upper_of, lower_of}
 use Rattle.deferred_loop.specs.declared.limit.Limit.{Limit}

@@ -4,8 +4,8 @@ use Rattle.std.specs.Prelude.{◌≡◌, ◌≢◌, ℕ, ◌+◌, ◌*◌, ◌�
 use Rattle.std.specs.List.{IsDistinct}
 use Rattle.mesh_defs.specs.ClosedSet.{among}
 use Rattle.mesh_defs.specs.Ranking.{IsRanking, IsRankClosure}
-use Rattle.frame_steps.specs.Deferred.{IsEntry, DeferredFrame, IsOpen}
-use Rattle.frame_steps.specs.Stamps.{Readings, is_due, stamp_now, counted_stamp}
+use Rattle.mesh_laws.specs.Deferred.{IsEntry, DeferredFrame, IsOpen}
+use Rattle.mesh_laws.specs.Stamps.{Readings, is_due, stamp_now, counted_stamp}
 use Rattle.deferred_loop.specs.Choice.{Priorities}
 use Rattle.deferred_loop.specs.Seen.{SeenMesh}
 

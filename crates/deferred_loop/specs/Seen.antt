@@ -13,11 +13,11 @@ use Rattle.mesh_defs.specs.ClosedSet.{leaves_of, among}
 use Rattle.mesh_defs.specs.Ranking.{IsBefore}
 use Rattle.mesh_defs.specs.Greedy.{with_triangle}
 use Rattle.mesh_defs.specs.GridSet.{IsForced}
-use Rattle.closure_laws.specs.Order.{IsNoLater}
-use Rattle.closure_laws.specs.Diamond.{IsInDiamond, CanMerge, IsWithoutDiamond}
+use Rattle.mesh_laws.specs.Order.{IsNoLater}
+use Rattle.mesh_laws.specs.Diamond.{IsInDiamond, CanMerge, IsWithoutDiamond}
 use Rattle.bintree_addr.specs.declared.rank.Rank.{Rank}
-use Rattle.frame_steps.specs.Deferred.{IsEntry}
-use Rattle.frame_steps.specs.Stamps.{Stamp, is_due}
+use Rattle.mesh_laws.specs.Deferred.{IsEntry}
+use Rattle.mesh_laws.specs.Stamps.{Stamp, is_due}
 use Rattle.deferred_loop.specs.declared.queued.Head.{Head}
 use Rattle.deferred_loop.specs.declared.queued.Last.{Last}
 use Rattle.deferred_loop.specs.declared.gauge.Reading.{Reading}

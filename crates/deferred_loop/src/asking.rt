@@ -3,8 +3,8 @@
 ghost use Rattle.std.specs.Prelude.{◌≡◌, ◌+◌, ◌*◌, ◌≤◌, ℕ, [], false, IfSome, MatchOption, All};
 ghost use Rattle.mesh_defs.specs.Triangle.{level_of};
 ghost use Rattle.mesh_defs.specs.ClosedSet.{leaves_of, among};
-ghost use Rattle.frame_steps.specs.Steps.{leaf_count};
-ghost use Rattle.frame_steps.specs.Deferred.{DeferredFrame, IsDeferredFrame, IsEntry};
+ghost use Rattle.mesh_laws.specs.Steps.{leaf_count};
+ghost use Rattle.mesh_laws.specs.Deferred.{DeferredFrame, IsDeferredFrame, IsEntry};
 ghost use Rattle.deferred_loop.specs.Choice.{IsFirstRank, IsLastRank};
 ghost use Rattle.deferred_loop.specs.Seen.{SeenMesh, IsRated};
 ghost use Rattle.deferred_loop.specs.Kept.{frame_priorities, IsSettled, IsAskedOnly, IsMet, IsAllowed, IsNoneMet};

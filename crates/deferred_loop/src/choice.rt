@@ -2,8 +2,8 @@
 
 ghost use Rattle.std.specs.Prelude.{◌≡◌, ◌≤◌, ◌<◌, ℕ, All};
 ghost use Rattle.mesh_defs.specs.ClosedSet.{leaves_of, among};
-ghost use Rattle.frame_steps.specs.Steps.{leaf_count};
-ghost use Rattle.frame_steps.specs.Deferred.{DeferredFrame, IsDeferredFrame};
+ghost use Rattle.mesh_laws.specs.Steps.{leaf_count};
+ghost use Rattle.mesh_laws.specs.Deferred.{DeferredFrame, IsDeferredFrame};
 ghost use Rattle.deferred_loop.specs.Choice.{IsFirstRank, IsNext};
 ghost use Rattle.deferred_loop.specs.Seen.{SeenMesh};
 ghost use Rattle.deferred_loop.specs.Kept.{frame_priorities, IsSettled, IsAskedOnly, SplitsUnasked, IsStepAt};

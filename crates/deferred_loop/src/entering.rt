@@ -4,8 +4,8 @@ ghost use Rattle.std.specs.Prelude.{◌≡◌, ℕ, ◌+◌, ◌-◌, ◌<◌, �
 ghost use Rattle.mesh_defs.specs.declared.counters.TheConstants.{LONGEST_WAY};
 ghost use Rattle.mesh_defs.specs.Triangle.{IsAddress};
 ghost use Rattle.mesh_defs.specs.ClosedSet.{among};
-ghost use Rattle.frame_steps.specs.Deferred.{DeferredFrame, IsDeferredFrame};
-ghost use Rattle.frame_steps.specs.Stamps.{ReadingsHold};
+ghost use Rattle.mesh_laws.specs.Deferred.{DeferredFrame, IsDeferredFrame};
+ghost use Rattle.mesh_laws.specs.Stamps.{ReadingsHold};
 ghost use Rattle.deferred_loop.specs.Seen.{SeenMesh, IsQuiet};
 ghost use Rattle.deferred_loop.specs.Log.{emptied};
 ghost use Rattle.deferred_loop.specs.Kept.{frame_priorities, IsFrameOf, HasTrueKeys, IsSettled, IsCharged, IsCaughtUp};

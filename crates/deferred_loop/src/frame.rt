@@ -5,10 +5,10 @@ ghost use Rattle.mesh_defs.specs.declared.counters.TheConstants.{LONGEST_WAY, CH
 ghost use Rattle.mesh_defs.specs.ClosedSet.{among};
 ghost use Rattle.mesh_defs.specs.GridSet.{IsGridSet};
 ghost use Rattle.mesh_defs.specs.Falling.{IsFalling};
-ghost use Rattle.frame_steps.specs.Steps.{IsFrameRun};
-ghost use Rattle.frame_steps.specs.Deferred.{DeferredFrame, IsDeferredFrame, IsOpen};
-ghost use Rattle.closure_laws.specs.Frame.{IsFrame};
-ghost use Rattle.frame_steps.specs.Stamps.{StampsHold, ReadingsHold};
+ghost use Rattle.mesh_laws.specs.Steps.{IsFrameRun};
+ghost use Rattle.mesh_laws.specs.Deferred.{DeferredFrame, IsDeferredFrame, IsOpen};
+ghost use Rattle.mesh_laws.specs.Frame.{IsFrame};
+ghost use Rattle.mesh_laws.specs.Stamps.{StampsHold, ReadingsHold};
 ghost use Rattle.deferred_loop.specs.Choice.{IsSparing};
 ghost use Rattle.deferred_loop.specs.Seen.{SeenMesh, IsQuiet, HasRoom, IsCountedBy};
 ghost use Rattle.deferred_loop.specs.Log.{emptied, IsLogged, IsFrameLog};

@@ -2,7 +2,7 @@
 
 ghost use Rattle.std.specs.Prelude.{◌≡◌, ℕ, ◌+◌, ◌-◌, ◌*◌, ◌<◌, ◌≤◌, ◌^◌};
 ghost use Rattle.mesh_defs.specs.Triangle.{level_of};
-ghost use Rattle.frame_steps.specs.Stamps.{Readings};
+ghost use Rattle.mesh_laws.specs.Stamps.{Readings};
 ghost use Rattle.deferred_loop.specs.Choice.{Priorities};
 
 use bintree_addr::{Rank, Tri};

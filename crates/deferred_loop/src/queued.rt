@@ -6,9 +6,9 @@ ghost use Rattle.mesh_defs.specs.declared.counters.TheConstants.{LONGEST_WAY, MO
 ghost use Rattle.mesh_defs.specs.Triangle.{IsSplittable};
 ghost use Rattle.mesh_defs.specs.ClosedSet.{leaves_of, among};
 ghost use Rattle.mesh_defs.specs.GridSet.{IsForced, IsGain};
-ghost use Rattle.closure_laws.specs.Diamond.{CanMerge};
-ghost use Rattle.frame_steps.specs.Steps.{leaf_count};
-ghost use Rattle.frame_steps.specs.Deferred.{IsEntry};
+ghost use Rattle.mesh_laws.specs.Diamond.{CanMerge};
+ghost use Rattle.mesh_laws.specs.Steps.{leaf_count};
+ghost use Rattle.mesh_laws.specs.Deferred.{IsEntry};
 ghost use Rattle.deferred_loop.specs.Seen.{SeenMesh, IsHead, IsLastHead, IsRated, IsEntered, IsSplitOf, IsMergeOf};
 ghost use Rattle.deferred_loop.specs.Seen.{IsBegun, IsForgotten, IsQuiet};
 ghost use Rattle.deferred_loop.specs.Log.{Log, emptied, IsLogged};

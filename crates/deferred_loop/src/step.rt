@@ -2,9 +2,9 @@
 
 ghost use Rattle.std.specs.Prelude.{◌≡◌, ℕ, ◌+◌, ◌-◌, ◌<◌, ◌≤◌, ◌^◌, length};
 ghost use Rattle.mesh_defs.specs.declared.counters.TheConstants.{LONGEST_WAY, MOST_CHANGES};
-ghost use Rattle.frame_steps.specs.Steps.{IsSplitStep, IsMergeStep};
-ghost use Rattle.frame_steps.specs.Deferred.{DeferredFrame, IsDeferredFrame};
-ghost use Rattle.frame_steps.specs.Stamps.{ReadingsHold};
+ghost use Rattle.mesh_laws.specs.Steps.{IsSplitStep, IsMergeStep};
+ghost use Rattle.mesh_laws.specs.Deferred.{DeferredFrame, IsDeferredFrame};
+ghost use Rattle.mesh_laws.specs.Stamps.{ReadingsHold};
 ghost use Rattle.deferred_loop.specs.Choice.{IsNextSplit, IsNextMerge};
 ghost use Rattle.deferred_loop.specs.Seen.{PoolSet, SeenMesh, HasRoom, IsCountedBy};
 ghost use Rattle.deferred_loop.specs.Log.{IsLogged};

@@ -6,11 +6,11 @@ ghost use Rattle.mesh_defs.specs.ClosedSet.{IsClosed, IsLeastClosed, among};
 ghost use Rattle.mesh_defs.specs.Greedy.{with_triangle};
 ghost use Rattle.mesh_defs.specs.GridSet.{IsAscending};
 ghost use Rattle.mesh_defs.specs.declared.level.TheConstants.{GREATEST_LEVEL};
-ghost use Rattle.closure_laws.specs.Forcing.{IsPrepared};
+ghost use Rattle.mesh_laws.specs.Forcing.{IsPrepared};
 
 use crate::members::{contains, insert};
 use bintree_addr::Tri;
-use roam_errors::NoMemory;
+use mesh_defs::NoMemory;
 
 /// Splits the triangle, and before it what it stands on: its parent, its mate and its mate's parent.
 ///

@@ -8,7 +8,7 @@ ghost use Rattle.mesh_defs.specs.declared.level.TheConstants.{GREATEST_LEVEL};
 
 use crate::members::contains;
 use bintree_addr::Tri;
-use roam_errors::NoMemory;
+use mesh_defs::NoMemory;
 
 /// Adds the leaves at and below the triangle, which has so many levels below it.
 fn push_leaves(members: &[Tri], levels: u32, t: Tri, out: &mut Vec<Tri>) -> Result<(), NoMemory>

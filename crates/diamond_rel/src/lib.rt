@@ -2,7 +2,7 @@
 //!
 //! A mesh is refined by forced splits: a triangle is split with its mate, after their parents. The
 //! set of all that were split says everything of the mesh, which is its leaves. `Split` keeps that
-//! set as an ascending vector. The laws of closed sets stand below, in `closure_laws`; priorities, and a
+//! set as an ascending vector. The laws of closed sets stand below, in `mesh_laws`; priorities, and a
 //! mesh with links between its leaves, are the business of the crates above.
 
 #![tactic(auto)]

@@ -6,7 +6,7 @@ ghost use Rattle.mesh_defs.specs.Greedy.{with_triangle};
 ghost use Rattle.mesh_defs.specs.GridSet.{IsAscending};
 
 use bintree_addr::Tri;
-use roam_errors::NoMemory;
+use mesh_defs::NoMemory;
 
 /// Whether the triangle is a member.
 ///

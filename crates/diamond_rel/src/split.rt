@@ -4,7 +4,7 @@ ghost use Rattle.std.specs.Prelude.{◌≡◌, ℕ, ◌+◌, ◌≤◌, List, []
 ghost use Rattle.mesh_defs.specs.Triangle.{IsSplittable};
 ghost use Rattle.mesh_defs.specs.Tiling.{IsConforming};
 ghost use Rattle.mesh_defs.specs.ClosedSet.{IsClosed, leaves_of, among};
-ghost use Rattle.tiling_laws.specs.Ancestors.{ancestors_of, AreLeaves};
+ghost use Rattle.mesh_laws.specs.Ancestors.{ancestors_of, AreLeaves};
 ghost use Rattle.mesh_defs.specs.GridSet.{IsGridSet, IsForced, IsGain};
 ghost use Rattle.mesh_defs.specs.declared.level.TheConstants.{GREATEST_LEVEL};
 
@@ -12,10 +12,10 @@ use crate::forcing::force;
 use crate::leaves::push_all_leaves;
 use crate::members::contains;
 use bintree_addr::Tri;
-use roam_errors::NoMemory;
+use mesh_defs::NoMemory;
+use mesh_laws::conformity_laws;
 use std::alloc::Global;
 use std::marker::Model;
-use tiling_laws::conformity_laws;
 
 /// The triangles that are split: with each its parent, and its mate where it has one.
 ///

@@ -11,7 +11,7 @@ ghost use Rattle.draw_buffer.specs.Exchange.{addresses_of, KeepsUntold, IsGiven}
 use crate::exchange::{Exchange, MOST_TRIANGLES};
 use crate::indices::Indices;
 use bintree_addr::Tri;
-use roam_errors::NoMemory;
+use mesh_defs::NoMemory;
 use std::alloc::Global;
 use std::marker::Model;
 

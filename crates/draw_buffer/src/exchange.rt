@@ -13,7 +13,7 @@ use crate::indices::{Indices, grid_indices};
 use crate::places::PlaceTable;
 use crate::vertices::{VertexTable, note};
 use bintree_addr::Tri;
-use roam_errors::NoMemory;
+use mesh_defs::NoMemory;
 use std::alloc::Global;
 use std::marker::Model;
 

@@ -20,4 +20,4 @@ pub use buffer::DrawBuffer;
 pub use exchange::MOST_TRIANGLES;
 pub use indices::Indices;
 pub use laws::{limit_laws, times_laws};
-pub use roam_errors::NoMemory;
+pub use mesh_defs::NoMemory;

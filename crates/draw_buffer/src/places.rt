@@ -5,7 +5,7 @@ ghost use Rattle.std.specs.Prelude.{slice_set, swap_remove};
 ghost use Rattle.draw_buffer.specs.Times.{times};
 
 use bintree_addr::Tri;
-use roam_errors::NoMemory;
+use mesh_defs::NoMemory;
 use std::alloc::Global;
 use std::marker::Model;
 

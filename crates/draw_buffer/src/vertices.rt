@@ -4,7 +4,7 @@ ghost use Rattle.std.specs.Prelude.{◌≡◌, ◌≢◌, ℕ, ◌+◌, ◌^◌,
 ghost use Rattle.std.specs.Prelude.{vec_capacity};
 ghost use Rattle.draw_buffer.specs.Times.{same};
 
-use roam_errors::NoMemory;
+use mesh_defs::NoMemory;
 use std::alloc::Global;
 use std::marker::Model;
 

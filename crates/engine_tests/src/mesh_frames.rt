@@ -5,7 +5,7 @@
 ghost use Rattle.std.specs.Prelude.{◌≡◌, ℕ, ◌+◌, ◌*◌, ◌/◌, ◌<◌, ◌≤◌, ◌^◌, true, Some, get_or, IfOk};
 ghost use Rattle.mesh_defs.specs.declared.counters.TheConstants.{LONGEST_WAY, CHANGES_AT_FRAME};
 ghost use Rattle.mesh_defs.specs.Falling.{IsFalling};
-ghost use Rattle.frame_steps.specs.Stamps.{Stamp};
+ghost use Rattle.mesh_laws.specs.Stamps.{Stamp};
 ghost use Rattle.roam_mesh.specs.Mesh.{stamp_of};
 
 use bintree_addr::{Rank, Slot, Tri};

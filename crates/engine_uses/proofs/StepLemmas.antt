@@ -11,7 +11,7 @@ use Rattle.std.proofs.lemmas.List.Sums.{sum_by-append}
 use Rattle.std.proofs.lemmas.Map.Views.{any-filter_same}
 use Rattle.mesh_defs.specs.ClosedSet.{among}
 use Rattle.mesh_defs.proofs.ListLemmas.{IsIn, IsIn-among}
-use Rattle.edge_laws.proofs.SlotLemmas.{counted_cons, none_counted}
+use Rattle.mesh_laws.proofs.SlotLemmas.{counted_cons, none_counted}
 use Rattle.mesh_arrays.specs.Changes.{alone}
 use Rattle.draw_buffer.specs.Times.{times}
 

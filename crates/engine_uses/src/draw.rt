@@ -10,9 +10,9 @@ ghost use Rattle.engine_uses.specs.Best.{IsBestSeen};
 ghost use Rattle.engine_uses.specs.Step.{IsInStep, IsBehind};
 
 use crate::step::{Sight, best_frame};
-use closure_laws::set_leaf_laws;
 use draw_buffer::{DrawBuffer, times_laws};
 use frame_loop::{Engine, NoMemory};
+use mesh_laws::set_leaf_laws;
 use std::alloc::Global;
 
 /// A drawing buffer of the engine's mesh, with room for each mesh that the engine may come to.

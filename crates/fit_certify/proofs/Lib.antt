@@ -1,3 +1,4 @@
 pub mod ReplayLemmas
 pub mod SettleLemmas
 pub mod MeshLemmas
+pub mod KeepingLemmas

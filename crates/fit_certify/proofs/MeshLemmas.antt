@@ -1,11 +1,11 @@
 -- The reasons of a sound certificate, replayed, make its mesh.
 use Rattle.std.proofs.Common.{◌≡◌, ℕ, Bool, false, List, Option, Some, None, IfSome, IfNone, sym, ◌∙◌, subst}
 use Rattle.mesh_defs.specs.ClosedSet.{leaves_of}
-use Rattle.closure_laws.proofs.ClosureLemmas.{leaves_of-same}
-use Rattle.fit_certificate_laws.specs.declared.reason.Off.{Off}
-use Rattle.fit_certificate_laws.specs.declared.reason.Target.{Target}
-use Rattle.fit_certificate_laws.specs.Certificate.{FitCertificate, LeadsTo, IsFirstBadFit, IsFitSound}
-use Rattle.fit_certificate_laws.proofs.LeadLemmas.{leads-unique, leads-no_bad}
+use Rattle.mesh_laws.proofs.ClosureLemmas.{leaves_of-same}
+use Rattle.certificate_laws.specs.declared.fit_reason.Off.{Off}
+use Rattle.certificate_laws.specs.declared.fit_reason.Target.{Target}
+use Rattle.certificate_laws.specs.FitCertificate.{FitCertificate, LeadsTo, IsFirstBadFit, IsFitSound}
+use Rattle.certificate_laws.proofs.LeadLemmas.{leads-unique, leads-no_bad}
 
 pub mesh-listed : (n : ℕ) (heights : List ℕ) (target : Target) (cert : FitCertificate) (mesh : List ℕ) (own : ℕ)
     (reasons : List Off) (old has : ℕ → Bool)

@@ -4,9 +4,9 @@ use Rattle.std.proofs.Common.{sym, ◌∙◌, ap, subst, arith}
 use Rattle.std.proofs.lemmas.List.{take_more, take-append-drop, length-take-le}
 use Rattle.mesh_defs.specs.ClosedSet.{IsLeastClosed}
 use Rattle.mesh_defs.specs.Greedy.{with_triangle}
-use Rattle.fit_certificate_laws.specs.declared.reason.Off.{Off}
-use Rattle.fit_certificate_laws.specs.Certificate.{IsFitReason, LeadsTo, IsFirstBadFit}
-use Rattle.fit_certificate_laws.proofs.LeadLemmas.{leads-next}
+use Rattle.certificate_laws.specs.declared.fit_reason.Off.{Off}
+use Rattle.certificate_laws.specs.FitCertificate.{IsFitReason, LeadsTo, IsFirstBadFit}
+use Rattle.certificate_laws.proofs.LeadLemmas.{leads-next}
 
 -- the first ones with one more
 take-next : (reasons : List Off) (k : ℕ) (r : Off) → k < length reasons → r ≡ get_or reasons k r

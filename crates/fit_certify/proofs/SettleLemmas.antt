@@ -11,19 +11,19 @@ use Rattle.mesh_defs.specs.Priority.{worst_of}
 use Rattle.mesh_defs.proofs.ListLemmas.{IsIn-contains, Contains-in}
 use Rattle.mesh_defs.proofs.WorstLemmas.{worst-le}
 use Rattle.bintree_laws.proofs.LevelLemmas.{level-le}
-use Rattle.closure_laws.proofs.LeafLemmas.{leaves-most, four-power}
-use Rattle.least_laws.specs.Sweep.{is_flagged}
-use Rattle.least_laws.proofs.SweepLemmas.{splittable-lt}
-use Rattle.least_laws.proofs.FlagLemmas.{end-high}
-use Rattle.deviation_laws.specs.PlaneHeight.{offs_in}
+use Rattle.mesh_laws.proofs.LeafLemmas.{leaves-most, four-power}
+use Rattle.mesh_laws.specs.Sweep.{is_flagged}
+use Rattle.mesh_laws.proofs.SweepLemmas.{splittable-lt}
+use Rattle.mesh_laws.proofs.FlagLemmas.{end-high}
+use Rattle.fit_laws.specs.PlaneHeight.{offs_in}
 use Rattle.mesh_measure.specs.Above.{IsAbove}
 use Rattle.fit_laws.specs.Error.{error_of}
 use Rattle.fit_laws.proofs.SettledLemmas.{outer-leaf}
 use Rattle.fit_laws.proofs.FitLemmas.{step-grown}
 use Rattle.fit_laws.proofs.ErrorLemmas.{error-finest}
-use Rattle.fit_certificate_laws.specs.declared.reason.Off.{Off}
-use Rattle.fit_certificate_laws.specs.Certificate.{LeadsTo}
-use Rattle.fit_certificate_laws.proofs.LeadLemmas.{leads-next, leads-grown}
+use Rattle.certificate_laws.specs.declared.fit_reason.Off.{Off}
+use Rattle.certificate_laws.specs.FitCertificate.{LeadsTo}
+use Rattle.certificate_laws.proofs.LeadLemmas.{leads-next, leads-grown}
 use Rattle.fit_certify.specs.Settling.{IsGoingOn}
 
 -- the error is the greatest way off the plane

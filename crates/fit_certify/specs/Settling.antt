@@ -2,9 +2,9 @@
 -- Words: IsGoingOn.
 use Rattle.std.specs.Prelude.{ℕ, Bool, List}
 use Rattle.mesh_defs.specs.ClosedSet.{IsClosed}
-use Rattle.least_laws.specs.Sweep.{is_flagged}
-use Rattle.fit_certificate_laws.specs.declared.reason.Off.{Off}
-use Rattle.fit_certificate_laws.specs.Certificate.{LeadsTo}
+use Rattle.mesh_laws.specs.Sweep.{is_flagged}
+use Rattle.certificate_laws.specs.declared.fit_reason.Off.{Off}
+use Rattle.certificate_laws.specs.FitCertificate.{LeadsTo}
 
 -- the flags go on from old ones to new ones as the list of reasons does
 pub record IsGoingOn (n : ℕ) (heights : List ℕ) (tolerance : ℕ) (old : List Bool) (before : List Off)

@@ -5,8 +5,8 @@ ghost use Rattle.mesh_defs.specs.Triangle.{IsSplittable};
 ghost use Rattle.mesh_defs.specs.ClosedSet.{IsClosed, IsLeastClosed};
 ghost use Rattle.mesh_defs.specs.Greedy.{with_triangle};
 ghost use Rattle.mesh_defs.specs.declared.level.TheConstants.{GREATEST_LEVEL};
-ghost use Rattle.closure_laws.specs.Forcing.{IsPrepared};
-ghost use Rattle.least_laws.specs.Sweep.{is_flagged};
+ghost use Rattle.mesh_laws.specs.Forcing.{IsPrepared};
+ghost use Rattle.mesh_laws.specs.Sweep.{is_flagged};
 
 use address_flags::{flag, is_set};
 use bintree_addr::Tri;

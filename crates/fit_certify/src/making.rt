@@ -2,18 +2,18 @@
 
 ghost use Rattle.std.specs.Prelude.{◌≡◌, ℕ, ◌+◌, ◌-◌, ◌*◌, ◌^◌, ◌≤◌, false, List, IfOk, length};
 ghost use Rattle.mesh_defs.specs.ClosedSet.{IsClosed, leaves_of};
-ghost use Rattle.least_laws.specs.Sweep.{is_flagged};
+ghost use Rattle.mesh_laws.specs.Sweep.{is_flagged};
 ghost use Rattle.fit_laws.specs.Error.{error_of};
-ghost use Rattle.fit_certificate_laws.specs.Certificate.{LeadsTo, IsFitSound};
-ghost use Rattle.fit_certificate_laws.specs.declared.limits.TheConstants.{MOST_REASONS};
-ghost use Rattle.fit_certificate_laws.specs.Making.{IsPossible, IsBestTolerance, IsBelow, HasNoneBehind};
+ghost use Rattle.certificate_laws.specs.FitCertificate.{LeadsTo, IsFitSound};
+ghost use Rattle.certificate_laws.specs.declared.limits.TheConstants.{MOST_REASONS};
+ghost use Rattle.certificate_laws.specs.Making.{IsPossible, IsBestTolerance, IsBelow, HasNoneBehind};
 
 use crate::settle::settle;
 use address_flags::end;
-use fit_certificate_laws::{FitCert, Off, Target};
+use certificate_laws::{FitCert, Off, Target};
 use fit_mesh::Fit;
+use mesh_defs::NoMemory;
 use pgm_grid::Grid;
-use roam_errors::NoMemory;
 use std::alloc::Global;
 
 /// A sound certificate of the best mesh for an error or a budget: the mesh of `Fit::frame` of `fit_mesh`.

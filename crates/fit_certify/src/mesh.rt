@@ -2,16 +2,16 @@
 
 ghost use Rattle.std.specs.Prelude.{◌≡◌, ℕ, ◌+◌, ◌*◌, ◌^◌, ◌≤◌, false, List, All, IfOk, length, take};
 ghost use Rattle.mesh_defs.specs.Triangle.{level_of};
-ghost use Rattle.least_laws.specs.Sweep.{is_flagged};
-ghost use Rattle.fit_certificate_laws.specs.declared.reason.Target.{Target};
-ghost use Rattle.fit_certificate_laws.specs.Certificate.{IsFitSound};
+ghost use Rattle.mesh_laws.specs.Sweep.{is_flagged};
+ghost use Rattle.certificate_laws.specs.declared.fit_reason.Target.{Target};
+ghost use Rattle.certificate_laws.specs.FitCertificate.{IsFitSound};
 
 use crate::replay::replay;
 use address_flags::{end, list_leaves};
 use bintree_addr::Tri;
-use fit_certificate_laws::FitCert;
+use certificate_laws::FitCert;
+use mesh_defs::NoMemory;
 use pgm_grid::Grid;
-use roam_errors::NoMemory;
 use std::alloc::Global;
 
 /// The triangles that the reasons before the mesh make, depth first: for a sound certificate its mesh.

@@ -4,14 +4,14 @@ ghost use Rattle.std.specs.Prelude.{◌≡◌, ℕ, ◌+◌, ◌*◌, ◌^◌, �
 ghost use Rattle.std.specs.Prelude.{slice_index_or};
 ghost use Rattle.mesh_defs.specs.Triangle.{IsSplittable};
 ghost use Rattle.mesh_defs.specs.ClosedSet.{IsClosed, leaves_of};
-ghost use Rattle.least_laws.specs.Sweep.{is_flagged};
-ghost use Rattle.fit_certificate_laws.specs.Certificate.{IsOff, IsFitReason, LeadsTo, IsFirstBadFit};
-ghost use Rattle.fit_certificate_laws.specs.declared.limits.TheConstants.{MOST_REASONS};
+ghost use Rattle.mesh_laws.specs.Sweep.{is_flagged};
+ghost use Rattle.certificate_laws.specs.FitCertificate.{IsOff, IsFitReason, LeadsTo, IsFirstBadFit};
+ghost use Rattle.certificate_laws.specs.declared.limits.TheConstants.{MOST_REASONS};
 
 use crate::force::force;
 use address_flags::is_set;
 use bintree_addr::Tri;
-use fit_certificate_laws::Off;
+use certificate_laws::Off;
 use mesh_measure::off_point;
 use pgm_grid::Grid;
 

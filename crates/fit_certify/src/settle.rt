@@ -4,20 +4,20 @@ ghost use Rattle.std.specs.Prelude.{◌≡◌, ◌+◌, ◌*◌, ◌^◌, ◌<�
 ghost use Rattle.mesh_defs.specs.Triangle.{IsSplittable};
 ghost use Rattle.mesh_defs.specs.ClosedSet.{IsClosed, leaves_of};
 ghost use Rattle.mesh_defs.specs.Priority.{worst_of};
-ghost use Rattle.least_laws.specs.Sweep.{is_flagged};
+ghost use Rattle.mesh_laws.specs.Sweep.{is_flagged};
 ghost use Rattle.fit_laws.specs.Error.{error_of};
-ghost use Rattle.fit_certificate_laws.specs.Certificate.{LeadsTo};
-ghost use Rattle.fit_certificate_laws.specs.declared.limits.TheConstants.{MOST_REASONS};
+ghost use Rattle.certificate_laws.specs.FitCertificate.{LeadsTo};
+ghost use Rattle.certificate_laws.specs.declared.limits.TheConstants.{MOST_REASONS};
 ghost use Rattle.fit_certify.specs.Settling.{IsGoingOn};
 
 use crate::force::force;
 use crate::replay::is_leaf;
 use address_flags::end;
 use bintree_addr::Tri;
-use fit_certificate_laws::Off;
+use certificate_laws::Off;
+use mesh_defs::NoMemory;
 use mesh_measure::point_above;
 use pgm_grid::Grid;
-use roam_errors::NoMemory;
 use std::alloc::Global;
 
 /// Splits each leaf that is off by more than the tolerance, with what that forces, until none is. Answers the reasons.

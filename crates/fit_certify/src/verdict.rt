@@ -3,17 +3,17 @@
 ghost use Rattle.std.specs.Prelude.{◌≡◌, ℕ, ◌+◌, ◌*◌, ◌^◌, ◌<◌, ◌≤◌, ◌↔◌, false, IsTrue, IfOk, length};
 ghost use Rattle.mesh_defs.specs.ClosedSet.{IsClosed, leaves_of};
 ghost use Rattle.mesh_defs.specs.Priority.{worst_of};
-ghost use Rattle.least_laws.specs.Sweep.{is_flagged};
+ghost use Rattle.mesh_laws.specs.Sweep.{is_flagged};
 ghost use Rattle.fit_laws.specs.Error.{error_of};
-ghost use Rattle.fit_certificate_laws.specs.Certificate.{LeadsTo, IsFor, IsWithinTarget, IsEnough, IsFitVerdict};
+ghost use Rattle.certificate_laws.specs.FitCertificate.{LeadsTo, IsFor, IsWithinTarget, IsEnough, IsFitVerdict};
 
 use crate::replay::replay;
 use address_flags::{end, list_leaves};
 use bintree_addr::Tri;
-use fit_certificate_laws::{FitCert, Reject, Target, Verdict};
+use certificate_laws::{FitCert, FitReject, FitVerdict, Target};
 use fit_mesh::worst_error;
+use mesh_defs::NoMemory;
 use pgm_grid::Grid;
-use roam_errors::NoMemory;
 use std::alloc::Global;
 
 /// The verdict on a certificate: that it is sound, or the first test that fails.
@@ -26,7 +26,7 @@ pub fn check(
     grid: &Grid,
     cert: &FitCert,
     target: Target,
-) -> Result<Verdict, NoMemory>
+) -> Result<FitVerdict, NoMemory>
     ensures verdict { IfOk result (IsFitVerdict grid.now.n grid.now.heights target cert.now) }
 {
     let mut flags = vec![in alloc; false; end(grid.n()) as usize]?;
@@ -41,7 +41,7 @@ fn verdict(
     target: Target,
     flags: &mut [bool],
     room: &mut [Tri],
-) -> Verdict
+) -> FitVerdict
     requires flags { length flags.old ≡ 2 ^ (2 * grid.now.n + 1) }
     requires room { length room.old ≡ 2 ^ (2 * grid.now.n + 1) }
     requires empty { (a : ℕ) → is_flagged flags.old a ≡ false }
@@ -50,10 +50,10 @@ fn verdict(
     let _level = grid.n();
     let tolerance = cert.tolerance();
     if !is_for(target, tolerance) {
-        return rejected(Reject::OtherTolerance);
+        return rejected(FitReject::OtherTolerance);
     }
     match replay(grid, tolerance, cert.needed(), flags) {
-        Some(index) => rejected(Reject::BadReason { index }),
+        Some(index) => rejected(FitReject::BadReason { index }),
         None => mesh_verdict(grid, cert, target, flags, room),
     }
 }
@@ -65,7 +65,7 @@ fn mesh_verdict(
     target: Target,
     flags: &mut [bool],
     room: &mut [Tri],
-) -> Verdict
+) -> FitVerdict
     requires flags { length flags.old ≡ 2 ^ (2 * grid.now.n + 1) }
     requires room { length room.old ≡ 2 ^ (2 * grid.now.n + 1) }
     requires own { IsFor target cert.now.tolerance }
@@ -77,20 +77,20 @@ fn mesh_verdict(
     let tolerance = cert.tolerance();
     let mesh = measure(grid, flags, room);
     if mesh.error > tolerance {
-        return rejected(Reject::OverTolerance);
+        return rejected(FitReject::OverTolerance);
     }
     if !is_within(target, mesh.triangles) {
-        return rejected(Reject::OverBudget);
+        return rejected(FitReject::OverBudget);
     }
     if let Some(place) = replay(grid, tolerance.saturating_sub(1), cert.beyond(), flags) {
-        return rejected(Reject::BadReason {
+        return rejected(FitReject::BadReason {
             index: cert.needed().len() as u32 + place,
         });
     }
     if !is_enough(target, tolerance, list_leaves(flags, grid.n(), room)) {
-        return rejected(Reject::TooFewReasons);
+        return rejected(FitReject::TooFewReasons);
     }
-    Verdict::Certified {
+    FitVerdict::Certified {
         triangles: mesh.triangles as u32,
         deviation: mesh.error,
     }
@@ -98,13 +98,13 @@ fn mesh_verdict(
 
 /// A mesh as its number of triangles and its greatest error.
 #[derive(Clone, Copy)]
-struct Measures {
-    triangles: usize,
-    error: u32,
+pub(crate) struct Measures {
+    pub(crate) triangles: usize,
+    pub(crate) error: u32,
 }
 
 /// Those of the flagged set, whose leaves go to the front of the room.
-fn measure(grid: &Grid, flags: &[bool], room: &mut [Tri]) -> Measures
+pub(crate) fn measure(grid: &Grid, flags: &[bool], room: &mut [Tri]) -> Measures
     requires room { length room.old ≡ 2 ^ (2 * grid.now.n + 1) }
     ensures triangles { result.triangles ≡ length (leaves_of grid.now.n (is_flagged flags.now)) }
     ensures error { result.error
@@ -119,10 +119,10 @@ fn measure(grid: &Grid, flags: &[bool], room: &mut [Tri]) -> Measures
 }
 
 /// The verdict that this is the first test that fails.
-fn rejected(why: Reject) -> Verdict
-    ensures { result ≡ Verdict.Rejected why }
+pub(crate) fn rejected(why: FitReject) -> FitVerdict
+    ensures { result ≡ FitVerdict.Rejected why }
 {
-    Verdict::Rejected { why }
+    FitVerdict::Rejected { why }
 }
 
 /// Whether a certificate with this tolerance may be for the target.

@@ -6,9 +6,9 @@ use Rattle.mesh_defs.specs.Tiling.{IsConforming}
 use Rattle.mesh_defs.specs.ClosedSet.{IsClosed, leaves_of}
 use Rattle.mesh_defs.specs.Priority.{worst_of}
 use Rattle.mesh_defs.proofs.TestLemmas.{same_tests}
-use Rattle.tiling_laws.specs.Ancestors.{ancestors_of}
-use Rattle.closure_laws.proofs.ClosureLemmas.{nothing_closed, leaves_of-more, leaves_of-none}
-use Rattle.least_laws.proofs.LeastLemmas.{length-ancestors}
+use Rattle.mesh_laws.specs.Ancestors.{ancestors_of}
+use Rattle.mesh_laws.proofs.ClosureLemmas.{nothing_closed, leaves_of-more, leaves_of-none}
+use Rattle.mesh_laws.proofs.LeastLemmas.{length-ancestors}
 use Rattle.fit_laws.specs.Error.{IsExactAtFinest}
 use Rattle.fit_laws.specs.Settled.{IsNeeded, IsLeastSettled, IsMadeBy}
 use Rattle.fit_laws.specs.Budget.{IsBudgetMesh}

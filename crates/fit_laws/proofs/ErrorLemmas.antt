@@ -8,9 +8,9 @@ use Rattle.mesh_defs.specs.Triangle.{level_of, IsAddress}
 use Rattle.mesh_defs.specs.Thickness.{thickness_under, thickness_of}
 use Rattle.mesh_defs.specs.BoundingBox.{greatest}
 use Rattle.mesh_defs.specs.Priority.{worst_of}
-use Rattle.deviation_laws.specs.PlaneHeight.{offs_in, deviation_of, thickest_of}
-use Rattle.deviation_laws.proofs.ListLemmas.{deviation_of-le, deviation_of-more, deviation_of-none}
-use Rattle.least_laws.proofs.LeastLemmas.{worst_of-next}
+use Rattle.fit_laws.specs.PlaneHeight.{offs_in, deviation_of, thickest_of}
+use Rattle.fit_laws.proofs.ListLemmas.{deviation_of-le, deviation_of-more, deviation_of-none}
+use Rattle.mesh_laws.proofs.LeastLemmas.{worst_of-next}
 use Rattle.fit_laws.specs.Error.{error_of, IsExactAtFinest}
 
 -- the greatest error of the first ones is their deviation

@@ -12,18 +12,18 @@ use Rattle.mesh_defs.specs.Falling.{IsFalling}
 use Rattle.mesh_defs.proofs.ListLemmas.{IsIn, IsIn-contains, Contains-in}
 use Rattle.mesh_defs.proofs.TestLemmas.{same_tests}
 use Rattle.bintree_laws.proofs.LevelLemmas.{level-le}
-use Rattle.tiling_laws.specs.Ancestors.{ancestors_of}
-use Rattle.tiling_laws.proofs.ConformityLemmas.{IsConforming-leaves_of}
-use Rattle.tiling_laws.proofs.ConverseLemmas.{IsCovered, member_or_covered}
-use Rattle.closure_laws.proofs.ForcingLemmas.{with-old, with-new}
-use Rattle.closure_laws.proofs.ClosureLemmas.{IsOuter, IsLeastClosed-same, nothing_closed, closure_of, leaves_of-same}
-use Rattle.closure_laws.proofs.ClosureLemmas.{leaves_of-more}
-use Rattle.closure_laws.proofs.SizeLemmas.{length-leaves_of}
-use Rattle.closure_laws.proofs.LeafLemmas.{leaves-most}
-use Rattle.closure_laws.proofs.SetListLemmas.{list_of, ascending-list_of, among-list_of, length-less}
-use Rattle.least_laws.specs.Least.{is_worse, IsLyingIn, IsLeastMesh}
-use Rattle.least_laws.proofs.LeastLemmas.{entry_outside, length-ancestors, above_leaf-member, under_cases, least_found}
-use Rattle.least_laws.proofs.LeastLemmas.{least_within, least_inside}
+use Rattle.mesh_laws.specs.Ancestors.{ancestors_of}
+use Rattle.mesh_laws.proofs.ConformityLemmas.{IsConforming-leaves_of}
+use Rattle.mesh_laws.proofs.ConverseLemmas.{IsCovered, member_or_covered}
+use Rattle.mesh_laws.proofs.ForcingLemmas.{with-old, with-new}
+use Rattle.mesh_laws.proofs.ClosureLemmas.{IsOuter, IsLeastClosed-same, nothing_closed, closure_of, leaves_of-same}
+use Rattle.mesh_laws.proofs.ClosureLemmas.{leaves_of-more}
+use Rattle.mesh_laws.proofs.SizeLemmas.{length-leaves_of}
+use Rattle.mesh_laws.proofs.LeafLemmas.{leaves-most}
+use Rattle.mesh_laws.proofs.SetListLemmas.{list_of, ascending-list_of, among-list_of, length-less}
+use Rattle.mesh_laws.specs.Least.{is_worse, IsLyingIn, IsLeastMesh}
+use Rattle.mesh_laws.proofs.LeastLemmas.{entry_outside, length-ancestors, above_leaf-member, under_cases, least_found}
+use Rattle.mesh_laws.proofs.LeastLemmas.{least_within, least_inside}
 use Rattle.fit_laws.specs.Error.{IsExactAtFinest}
 use Rattle.fit_laws.specs.Settled.{IsNeeded, IsLeastSettled}
 use Rattle.fit_laws.proofs.SettledLemmas.{outer-leaf, settled-ancestors, nothing_needed, needed-step}

@@ -3,13 +3,13 @@
 use Rattle.std.proofs.Common.{◌≡◌, ℕ, Bool, List, sym, ◌∙◌, ⊎_elim}
 use Rattle.mesh_defs.specs.ClosedSet.{IsClosed, IsSubset, leaves_of}
 use Rattle.mesh_defs.proofs.TestLemmas.{same_tests}
-use Rattle.tiling_laws.specs.Ancestors.{ancestors_of}
-use Rattle.tiling_laws.proofs.DescentLemmas.{IsAddress-splittable}
-use Rattle.tiling_laws.proofs.ConformityLemmas.{IsConforming-leaves_of, member_above}
-use Rattle.tiling_laws.proofs.ConverseLemmas.{IsCovered, member_or_covered}
-use Rattle.closure_laws.proofs.ClosureLemmas.{leaves_of-same}
-use Rattle.least_laws.specs.Least.{IsLeastMesh}
-use Rattle.least_laws.proofs.LeastLemmas.{above_leaf-member}
+use Rattle.mesh_laws.specs.Ancestors.{ancestors_of}
+use Rattle.mesh_laws.proofs.DescentLemmas.{IsAddress-splittable}
+use Rattle.mesh_laws.proofs.ConformityLemmas.{IsConforming-leaves_of, member_above}
+use Rattle.mesh_laws.proofs.ConverseLemmas.{IsCovered, member_or_covered}
+use Rattle.mesh_laws.proofs.ClosureLemmas.{leaves_of-same}
+use Rattle.mesh_laws.specs.Least.{IsLeastMesh}
+use Rattle.mesh_laws.proofs.LeastLemmas.{above_leaf-member}
 use Rattle.fit_laws.specs.Budget.{IsBudgetMesh}
 use Rattle.fit_laws.proofs.BudgetLemmas.{budget_unique}
 use Rattle.fit_laws.proofs.SettledLemmas.{outer-leaf}

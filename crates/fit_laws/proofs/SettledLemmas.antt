@@ -10,10 +10,10 @@ use Rattle.mesh_defs.specs.Greedy.{with_triangle}
 use Rattle.mesh_defs.specs.Priority.{worst_of}
 use Rattle.mesh_defs.proofs.ListLemmas.{IsIn, Contains-in, count-some, some-count}
 use Rattle.mesh_defs.proofs.WorstLemmas.{worst-le, le-worst}
-use Rattle.tiling_laws.specs.Ancestors.{ancestors_of}
-use Rattle.tiling_laws.proofs.ConverseLemmas.{IsClosed-ancestors_of, AreLeaves-ancestors_of}
-use Rattle.closure_laws.proofs.ForcingLemmas.{with-cases}
-use Rattle.closure_laws.proofs.ClosureLemmas.{IsOuter, IsOuter-leaves_of, leaf-outer}
+use Rattle.mesh_laws.specs.Ancestors.{ancestors_of}
+use Rattle.mesh_laws.proofs.ConverseLemmas.{IsClosed-ancestors_of, AreLeaves-ancestors_of}
+use Rattle.mesh_laws.proofs.ForcingLemmas.{with-cases}
+use Rattle.mesh_laws.proofs.ClosureLemmas.{IsOuter, IsOuter-leaves_of, leaf-outer}
 use Rattle.fit_laws.specs.Settled.{both, IsFineEnough, IsNeeded}
 
 -- leaves

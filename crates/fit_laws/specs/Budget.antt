@@ -3,7 +3,7 @@
 use Rattle.std.specs.Prelude.{ℕ, ◌≤◌, List, length}
 use Rattle.mesh_defs.specs.Tiling.{IsConforming}
 use Rattle.mesh_defs.specs.Priority.{worst_of}
-use Rattle.least_laws.specs.Least.{IsLeastMesh}
+use Rattle.mesh_laws.specs.Least.{IsLeastMesh}
 
 -- Conforming and within the budget; no conforming list within the budget has a lower greatest error; and each
 -- conforming list with an error as low refines this one, so it has at least as many triangles.

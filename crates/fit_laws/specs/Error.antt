@@ -4,7 +4,7 @@
 use Rattle.std.specs.Prelude.{◌≡◌, ℕ, ◌*◌, List}
 use Rattle.mesh_defs.specs.Triangle.{level_of, IsAddress}
 use Rattle.mesh_defs.specs.BoundingBox.{greatest}
-use Rattle.deviation_laws.specs.PlaneHeight.{offs_in}
+use Rattle.fit_laws.specs.PlaneHeight.{offs_in}
 
 -- The error of triangle a over a height field, times 2 ^ n: how far the surface is from the triangle's plane at most,
 -- up or down, at a grid point that the triangle holds.

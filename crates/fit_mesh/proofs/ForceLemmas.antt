@@ -1,22 +1,21 @@
--- Closures of lists: of the empty one, and with one entry more.
-use Rattle.std.proofs.Common.{◌≡◌, ℕ, Bool, true, List, [], ◌∷◌, ◌++◌, sym, ◌∙◌, subst, ⊎_elim}
-use Rattle.mesh_defs.specs.ClosedSet.{IsLeastClosed, among}
-use Rattle.mesh_defs.specs.Greedy.{with_triangle}
-use Rattle.closure_laws.proofs.ForcingLemmas.{with-cases, with-old, with-new}
-use Rattle.fit_mesh.proofs.LogLemmas.{among-more}
+-- Closures of lists, with one entry more; parents; and what is behind a list that is behind another.
+use Rattle.std.proofs.Common.{◌≡◌, ℕ, ◌*◌, ◌/◌, ◌^◌, ◌+◌, ◌≤◌, List, ◌++◌}
+use Rattle.std.proofs.Common.{◌∙◌, ap, append_assoc, arith, pow-add}
+use Rattle.mesh_defs.specs.Triangle.{IsAddress, IsSplittable}
+use Rattle.mesh_laws.proofs.SweepLemmas.{lt-splittable}
+use Rattle.fit_mesh.specs.Log.{Extends}
 
--- what one triangle more forces
-pub closure-more : (n : ℕ) (xs : List ℕ) (t : ℕ) (has next : ℕ → Bool) → IsLeastClosed n (among xs) has →
-    IsLeastClosed n (with_triangle has t) next → IsLeastClosed n (among (xs ++ t ∷ [])) next
-closure-more n xs t has next before after = record {
-  closed = after.closed;
-  holds = λ a listed. ⊎_elim
-      (λ old. after.holds a (with-old has t a (before.holds a old)))
-      (λ same. subst (λ z. next z ≡ true) same (after.holds t (with-new has t)))
-      (with-cases (among xs) t a (sym (among-more xs t a) ∙ listed));
-  least = λ other closed splits. after.least other closed (λ a h. ⊎_elim
-      (λ old. before.least other closed
-      (λ b listed. splits b (among-more xs t b ∙ with-old (among xs) t b listed)) a old)
-      (λ same. subst (λ z. other z ≡ true) same (splits t (among-more xs t t ∙ with-new (among xs) t)))
-      (with-cases has t a h));
-}
+-- the parent of a triangle of the grid may be split
+pub parent-splittable : (n a : ℕ) → IsAddress n a → 4 ≤ a → IsSplittable n (a / 2)
+parent-splittable n a address big =
+    let p : 2 ^ (2 * n + 2) ≡ 2 ^ (2 * n + 1) * 2 ^ 1 = ap (λ k. 2 ^ k) (let e : 2 * n + 2 ≡ (2 * n + 1) + 1 = omega arith in e)
+    ∙ pow-add 2 (2 * n + 1) 1 in
+    let high = address.high in
+    lt-splittable n (a / 2) (omega arith) (omega arith)
+
+-- of three lists
+pub extends-extends : (some more all : List ℕ) → Extends some more → Extends more all → Extends some all
+extends-extends some more all first second = (
+  first.0 ++ second.0,
+  second.1 ∙ ap (λ (l : List ℕ). l ++ second.0) first.1 ∙ append_assoc some first.0 second.0,
+)

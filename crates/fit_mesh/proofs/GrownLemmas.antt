@@ -13,10 +13,10 @@ use Rattle.mesh_defs.specs.Greedy.{with_triangle}
 use Rattle.mesh_defs.specs.Priority.{worst_of}
 use Rattle.mesh_defs.proofs.ListLemmas.{among-in, Contains-in}
 use Rattle.mesh_defs.proofs.WorstLemmas.{worst-le, le-worst}
-use Rattle.closure_laws.proofs.ClosureLemmas.{IsOuter, leaf-outer, leaves_of-same, nothing_closed}
-use Rattle.closure_laws.proofs.SizeLemmas.{length-leaves_once}
-use Rattle.closure_laws.proofs.LeafLemmas.{leaves_under-whole}
-use Rattle.least_laws.specs.Sweep.{is_flagged}
+use Rattle.mesh_laws.proofs.ClosureLemmas.{IsOuter, leaf-outer, leaves_of-same, nothing_closed}
+use Rattle.mesh_laws.proofs.SizeLemmas.{length-leaves_once}
+use Rattle.mesh_laws.proofs.LeafLemmas.{leaves_under-whole}
+use Rattle.mesh_laws.specs.Sweep.{is_flagged}
 use Rattle.fit_laws.specs.Settled.{IsNeeded, IsLeastSettled}
 use Rattle.fit_laws.specs.Budget.{IsBudgetMesh}
 use Rattle.fit_laws.proofs.SettledLemmas.{needed-step, needed-lower}
@@ -27,6 +27,7 @@ use Rattle.fit_mesh.specs.Log.{Extends, HasLog}
 use Rattle.fit_mesh.specs.Waiting.{pair_cmp, IsWaitingEntry, AreKept, AreLeft, IsFirst, IsWaiting}
 use Rattle.fit_mesh.specs.Grown.{IsNeededBelow, IsBest}
 use Rattle.fit_mesh.specs.Found.{IsFound}
+use Rattle.fit_mesh.proofs.LogLemmas.{log-none}
 use Rattle.fit_mesh.proofs.PendingLemmas.{outer-of}
 
 -- there are two leaves more than entries of the log
@@ -147,7 +148,7 @@ below-step n p low has next t needed outer above least k less =
 -- the beginning
 
 -- the empty set has the two halves of the square as leaves
-base_leaves : (n : ℕ) → leaves_of n (among []) ≡ 2 ∷ (3 ∷ [])
+pub base_leaves : (n : ℕ) → leaves_of n (among []) ≡ 2 ∷ (3 ∷ [])
 unfolding leaves_of
 base_leaves n =
     ap₂ (λ (x y : List ℕ). x ++ y) (leaves_under-whole (2 * n) (among []) 2 refl)
@@ -164,7 +165,7 @@ module _ (n : ℕ) (p : ℕ → ℕ) (flags : List Bool) (empty : (a : ℕ) → 
   pub start-grown : length flags ≡ 2 ^ (2 * n + 1) → HasLog n flags []
   start-grown room = record {
     room = room;
-    logged = record { same = empty; once = λ a h. absurd (false≢true h) };
+    logged = log-none flags empty;
     closed = closed-same n (λ a. false) (is_flagged flags) (λ a. sym (empty a)) (nothing_closed n);
   }
 

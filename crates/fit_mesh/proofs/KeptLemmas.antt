@@ -1,27 +1,22 @@
--- The parts of a mesh that is kept, after another mesh was put into them.
-use Rattle.std.proofs.Common.{◌≡◌, ℕ, ◌≤◌, Bool, List, length, take, sym, ◌∙◌, ap, subst, arith}
+-- A mesh that is kept with its numbers, after another mesh was put in its place.
+use Rattle.std.proofs.Common.{◌≡◌, ℕ, ◌+◌, ◌*◌, ◌^◌, ◌<◌, ◌≤◌, List, length, sym, ◌∙◌, ap, subst, arith}
+use Rattle.mesh_defs.specs.HeightField.{side_of}
 use Rattle.mesh_defs.specs.Tiling.{IsConforming}
 use Rattle.obj_write.specs.Numbers.{numbers_of}
 use Rattle.fit_mesh.specs.Kept.{IsKeptForFit}
 
--- the mesh with its numbers that was found for the grid's n, in a table, a room and a heap no smaller
-pub kept-next : (n k budget : ℕ) (flags next found : List Bool) (room list more : List ℕ) (before count : ℕ)
-    (numbers vertices : List ℕ) (capacity later : ℕ) → IsKeptForFit n budget flags room before numbers capacity →
-    n ≡ k → next ≡ found → length found ≡ length flags → list ≡ more → length more ≡ length room → count ≤ length more →
-    IsConforming k (take count more) → length vertices ≡ length numbers → vertices ≡ numbers_of k (take count more) →
-    capacity ≤ later → IsKeptForFit n budget next list count vertices later
-kept-next n k budget flags next found room list more before count numbers vertices capacity later kept same is marks at
-    size within conforming places numbered roomy = record {
-      n_low = kept.n_low;
-      n_high = kept.n_high;
+-- a conforming mesh of the grid with the numbers of its vertices, and a heap no smaller
+pub kept-next : (n j k budget : ℕ) (leaves list numbers vertices : List ℕ) (capacity later : ℕ) →
+    IsKeptForFit n budget leaves numbers capacity → j ≡ n → n ≡ k → IsConforming k list →
+    length vertices ≡ length numbers → vertices ≡ numbers_of j list → capacity ≤ later →
+    IsKeptForFit j budget list vertices later
+kept-next n j k budget leaves list numbers vertices capacity later kept own same conforming places numbered roomy =
+    let at : j ≡ k = own ∙ same in record {
+      n_low = (let low = kept.n_low in omega arith);
+      n_high = (let high = kept.n_high in omega arith);
       budget_low = kept.budget_low;
-      flagged = ap length is ∙ marks ∙ kept.flagged;
-      roomy = ap length at ∙ size ∙ kept.roomy;
-      within = subst (λ (l : List ℕ). count ≤ length l) (sym at) within;
-      conforming = subst (λ (l : List ℕ). IsConforming n (take count l)) (sym at)
-          (subst (λ j. IsConforming j (take count more)) (sym same) conforming);
-      places = places ∙ kept.places;
-      numbered = numbered ∙ ap (λ j. numbers_of j (take count more)) (sym same)
-          ∙ ap (λ (l : List ℕ). numbers_of n (take count l)) (sym at);
-      waiting = λ small. (let old = kept.waiting small in omega arith);
+      conforming = subst (λ i. IsConforming i list) (sym at) conforming;
+      places = places ∙ kept.places ∙ ap (λ i. side_of i * side_of i) (sym own);
+      numbered = numbered;
+      waiting = λ small. (let old = kept.waiting (subst (λ i. budget < 2 ^ (2 * i + 1)) own small) in omega arith);
     }

@@ -1,3 +1,4 @@
+pub mod DemandLemmas
 pub mod ErrorLemmas
 pub mod ForceLemmas
 pub mod GrownLemmas
@@ -7,3 +8,4 @@ pub mod LimitLemmas
 pub mod LogLemmas
 pub mod PendingLemmas
 pub mod SettleLemmas
+pub mod SplitLemmas

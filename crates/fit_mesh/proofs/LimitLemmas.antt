@@ -2,7 +2,7 @@
 use Rattle.std.proofs.Common.{ℕ, List}
 use Rattle.fit_laws.specs.Error.{IsExactAtFinest}
 use Rattle.fit_laws.proofs.ErrorLemmas.{error-finest}
-use Rattle.tolerance_laws.proofs.ExcessLemmas.{excess-finest}
+use Rattle.fit_laws.proofs.ExcessLemmas.{excess-finest}
 use Rattle.fit_mesh.specs.declared.limit.Limit.{Limit}
 use Rattle.fit_mesh.specs.declared.limit.Limit.TheVariants.{Common, Own}
 use Rattle.fit_mesh.specs.Limit.{error_within}

@@ -8,11 +8,11 @@ use Rattle.mesh_defs.specs.Triangle.{IsAddress, IsSplittable}
 use Rattle.mesh_defs.specs.ClosedSet.{IsClosed, IsLeastClosed, leaves_of, among}
 use Rattle.mesh_defs.specs.Greedy.{with_triangle}
 use Rattle.std.proofs.Math.Nat.{pow-succ'}
-use Rattle.least_laws.proofs.SweepLemmas.{splittable-lt}
+use Rattle.mesh_laws.proofs.SweepLemmas.{splittable-lt}
 use Rattle.mesh_defs.proofs.ListLemmas.{IsIn-contains, Contains-in, IsIn, IsIn-among, among-in, IsIn-append}
-use Rattle.closure_laws.proofs.ForcingLemmas.{with-old}
-use Rattle.closure_laws.proofs.ClosureLemmas.{IsOuter, leaf-outer}
-use Rattle.least_laws.specs.Sweep.{is_flagged}
+use Rattle.mesh_laws.proofs.ForcingLemmas.{with-old}
+use Rattle.mesh_laws.proofs.ClosureLemmas.{IsOuter, leaf-outer}
+use Rattle.mesh_laws.specs.Sweep.{is_flagged}
 use Rattle.fit_mesh.specs.Log.{IsLog, Extends}
 use Rattle.fit_mesh.specs.Waiting.{pair_cmp, AreKept, IsPending, IsWaiting}
 use Rattle.fit_laws.proofs.SettledLemmas.{outer-leaf}

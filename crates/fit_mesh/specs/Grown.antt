@@ -24,7 +24,7 @@ pub record IsBest (n : ℕ) (error : ℕ → ℕ) (tolerance budget low : ℕ) (
   pub needed : IsNeeded n (max low tolerance) error (among (take mark log))
   pub within : length (leaves_of n (among (take mark log))) ≤ budget
 
--- of the children of the first entries, and of 2 and 3, each that is above the tolerance is a member
+-- of the children of these, each that is above the tolerance is a member
 abbrev pub AreSettled : ℕ → (ℕ → ℕ) → ℕ → (ℕ → Bool) → List ℕ → Type 0
 AreSettled n error tolerance has asked =
-    (a : ℕ) → IsAddress n a → (4 ≤ a → IsTrue (among asked (a / 2))) → tolerance < error a → IsTrue (has a)
+    (a : ℕ) → IsAddress n a → 4 ≤ a → IsTrue (among asked (a / 2)) → tolerance < error a → IsTrue (has a)

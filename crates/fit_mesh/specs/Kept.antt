@@ -1,6 +1,6 @@
 -- The mesh that is kept, in room for every mesh of its grid. This project's own words.
 -- Words: FitMesh, IsKeptForFit.
-use Rattle.std.specs.Prelude.{◌≡◌, ℕ, ◌+◌, ◌*◌, ◌^◌, ◌<◌, ◌≤◌, Bool, List, length, take}
+use Rattle.std.specs.Prelude.{◌≡◌, ℕ, ◌+◌, ◌*◌, ◌^◌, ◌<◌, ◌≤◌, List, length}
 use Rattle.mesh_defs.specs.HeightField.{side_of}
 use Rattle.mesh_defs.specs.Tiling.{IsConforming}
 use Rattle.mesh_defs.specs.declared.level.TheConstants.{GREATEST_LEVEL}
@@ -12,17 +12,13 @@ pub record FitMesh : Type 0 where
   pub budget : ℕ
   pub leaves : List ℕ
 
--- a flag for each address below the finest level, room for all finest triangles, of which the first are the mesh, the
--- numbers of its vertices, and a heap with room for the leaves of a mesh of the budget, where that is no bound
-pub record IsKeptForFit (n budget : ℕ) (flags : List Bool) (room : List ℕ) (count : ℕ) (numbers : List ℕ)
-    (capacity : ℕ) : Type 0 where
+-- a mesh, the numbers of its vertices, and a heap with room for the leaves of a mesh of the budget, where that is no
+-- bound
+pub record IsKeptForFit (n budget : ℕ) (leaves numbers : List ℕ) (capacity : ℕ) : Type 0 where
   pub n_low : 1 ≤ n
   pub n_high : n ≤ GREATEST_LEVEL
   pub budget_low : 2 ≤ budget
-  pub flagged : length flags ≡ 2 ^ (2 * n + 1)
-  pub roomy : length room ≡ 2 ^ (2 * n + 1)
-  pub within : count ≤ length room
-  pub conforming : IsConforming n (take count room)
+  pub conforming : IsConforming n leaves
   pub places : length numbers ≡ side_of n * side_of n
-  pub numbered : numbers ≡ numbers_of n (take count room)
+  pub numbered : numbers ≡ numbers_of n leaves
   pub waiting : budget < 2 ^ (2 * n + 1) → 2 * budget ≤ capacity

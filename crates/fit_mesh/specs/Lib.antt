@@ -3,4 +3,6 @@ pub mod Kept
 pub mod Limit
 pub mod Log
 pub mod Found
+pub mod Required
+pub mod Splits
 pub mod Waiting

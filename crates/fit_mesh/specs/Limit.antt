@@ -3,7 +3,7 @@
 use Rattle.std.specs.Prelude.{◌≡◌, ℕ, ◌*◌, List, length}
 use Rattle.mesh_defs.specs.HeightField.{side_of}
 use Rattle.fit_laws.specs.Error.{error_of}
-use Rattle.tolerance_laws.specs.Excess.{excess_of}
+use Rattle.fit_laws.specs.Excess.{excess_of}
 use Rattle.fit_mesh.specs.declared.limit.Limit.{Limit}
 use Rattle.fit_mesh.specs.declared.limit.Limit.TheVariants.{Common, Own}
 

@@ -8,58 +8,53 @@ ghost use Rattle.mesh_defs.specs.Tiling.{IsConforming};
 ghost use Rattle.mesh_defs.specs.ClosedSet.{leaves_of, among};
 ghost use Rattle.mesh_defs.specs.MeshText.{vertices_of};
 ghost use Rattle.mesh_defs.specs.declared.level.TheConstants.{GREATEST_LEVEL};
-ghost use Rattle.tiling_laws.specs.Ancestors.{ancestors_of};
-ghost use Rattle.deviation_laws.specs.PlaneHeight.{deviation_of};
-ghost use Rattle.least_laws.specs.Least.{IsLeastMesh};
+ghost use Rattle.mesh_laws.specs.Ancestors.{ancestors_of};
+ghost use Rattle.fit_laws.specs.PlaneHeight.{deviation_of};
+ghost use Rattle.mesh_laws.specs.Least.{IsLeastMesh};
 ghost use Rattle.obj_write.specs.Numbers.{numbers_of};
 ghost use Rattle.fit_laws.specs.Error.{error_of};
 ghost use Rattle.fit_laws.specs.Budget.{IsBudgetMesh};
-ghost use Rattle.required_laws.specs.Required.{IsLeastMeshWith};
-ghost use Rattle.tolerance_laws.specs.Excess.{excess_of};
+ghost use Rattle.fit_laws.specs.Required.{IsLeastMeshWith};
+ghost use Rattle.fit_laws.specs.Excess.{excess_of};
 ghost use Rattle.fit_mesh.specs.Limit.{tolerance_of, error_within, IsComplete};
+ghost use Rattle.fit_mesh.specs.Required.{is_required, IsAskable};
 
-use crate::find::{find_mesh, find_mesh_within};
-use crate::limit::Limit;
-use address_flags::{end, list_leaves};
+use crate::limit::{Limit, worst_under};
+use crate::required::Required;
+use crate::splits::SplitSet;
+use address_flags::end;
 use bintree_addr::Tri;
-use closure_laws::base_mesh;
+use mesh_defs::NoMemory;
 use obj_write::VertexTable;
 use pgm_grid::Grid;
-use roam_errors::NoMemory;
 use std::alloc::Global;
 use std::collections::BinaryHeap;
 use std::marker::Model;
 
-/// The mesh of the last frame, in room for every mesh of its grid.
+/// The mesh of the last frame, with the numbers of its vertices, in room for every mesh of its grid.
 ///
-/// At n = 11 it takes less than 60 MB: a byte for each splittable triangle, and four for each finest triangle
-/// and each grid point; and, where the budget is below all finest triangles, 16 bytes for each of its triangles.
+/// At n = 11 it takes up to 92 MB, as far as meshes need it: a byte for each splittable triangle, four for each grid
+/// point, and eight for each triangle of a mesh; and, where the budget is below all finest triangles, 16 bytes for each
+/// of its triangles.
 #[derive(Drop)]
 pub struct Fit {
-    n: u32,
     /// The most triangles of a mesh.
     budget: u32,
-    /// For each address below the finest level, whether it is split.
-    flags: Vec<bool>,
-    /// Room for all finest triangles; the first `count` are the mesh.
-    room: Vec<Tri>,
-    count: usize,
+    set: SplitSet,
     numbers: VertexTable,
     /// Room for the leaves that wait for a split.
     heap: BinaryHeap<(u32, u32)>,
 }
 
 impl Model for Fit {
-    ghost use Rattle.std.specs.Prelude.{take};
     ghost use Rattle.std.specs.BinaryHeap.{heap_capacity};
     ghost use Rattle.fit_mesh.specs.Kept.{FitMesh, IsKeptForFit};
 
     ghost Value = { FitMesh };
 
-    ghost view = { λ f. record { n = f.n; budget = f.budget; leaves = take f.count f.room.items } };
+    ghost view = { λ f. record { n = f.set.n; budget = f.budget; leaves = f.set.leaves } };
 
-    ghost invariant = { λ f. IsKeptForFit f.n f.budget f.flags.items f.room.items f.count f.numbers
-        (heap_capacity f.heap) };
+    ghost invariant = { λ f. IsKeptForFit f.set.n f.budget f.set.leaves f.numbers (heap_capacity f.heap) };
 }
 
 /// What a frame tells of its mesh.
@@ -85,19 +80,13 @@ impl Fit {
         ensures budget { IfOk result (λ f. f.budget ≡ budget) }
         ensures base { IfOk result (λ f. f.leaves ≡ 2 ∷ (3 ∷ [])) }
     {
-        base_mesh(n);
-        let flags = vec![in alloc; false; end(n) as usize]?;
-        let mut room = vec![in alloc; Tri::LOWER; end(n) as usize]?;
-        let count = list_leaves(&flags, n, &mut room);
+        let set = SplitSet::make(alloc, n)?;
         let mut numbers = VertexTable::new(alloc, n)?;
-        numbers.number(&room[..count], n);
+        numbers.number(set.leaves(), n);
         let heap = BinaryHeap::with_capacity(alloc, waiting_room(n, budget))?;
         Ok(Fit {
-            n,
             budget,
-            flags,
-            room,
-            count,
+            set,
             numbers,
             heap,
         })
@@ -139,21 +128,8 @@ impl Fit {
         ensures vertices { result.vertices ≡ length (vertices_of grid.now.n self.new.leaves) }
         ensures within { length self.new.leaves ≤ self.old.budget }
     {
-        let counts = find_mesh(
-            grid,
-            tolerance,
-            self.budget,
-            &mut self.heap,
-            &mut self.flags,
-            &mut self.room,
-            &mut self.numbers,
-        );
-        self.count = counts.triangles;
-        FitNote {
-            triangles: counts.triangles as u32,
-            vertices: counts.vertices,
-            deviation: counts.deviation,
-        }
+        let worst = self.set.find(grid, tolerance, self.budget, &mut self.heap);
+        told(&self.set, &mut self.numbers, worst)
     }
 
     /// The mesh of the fewest triangles for a tolerance, in units of height, times 2^n, in which these triangles are
@@ -181,7 +157,8 @@ impl Fit {
         ensures triangles { result.triangles ≡ length self.new.leaves }
         ensures vertices { result.vertices ≡ length (vertices_of grid.now.n self.new.leaves) }
     {
-        self.keep_within(grid, Limit::Common(tolerance), required)
+        let required = Required::Triangles(required);
+        self.frame_for(grid, Limit::Common(tolerance), required)
     }
 
     /// The mesh of the fewest triangles within the tolerances of the grid points, in which these triangles are split,
@@ -190,7 +167,7 @@ impl Fit {
     ///
     /// Tolerances are by grid point, in row order as heights are, in units of height, times 2^n. One of `u32::MAX` is
     /// met by every height, so such a point does not count: where there are no data, at sea, or outside an area. With
-    /// one tolerance for all points it is the mesh of `frame_with` (`tolerance_laws`). The deviation of the note is
+    /// one tolerance for all points it is the mesh of `frame_with` (`fit_laws`). The deviation of the note is
     /// over all grid points, those that do not count too.
     /// Cost (not proved): that of `frame_with`, but a product more for each grid point of a triangle that is asked.
     pub fn frame_within(&mut self, grid: &Grid, tolerances: &[u32], required: &[Tri]) -> FitNote
@@ -212,38 +189,30 @@ impl Fit {
         ensures triangles { result.triangles ≡ length self.new.leaves }
         ensures vertices { result.vertices ≡ length (vertices_of grid.now.n self.new.leaves) }
     {
-        self.keep_within(grid, Limit::Own(tolerances), required)
+        let required = Required::Triangles(required);
+        self.frame_for(grid, Limit::Own(tolerances), required)
     }
 
-    /// The mesh within a limit becomes the mesh.
-    fn keep_within(&mut self, grid: &Grid, limit: Limit, required: &[Tri]) -> FitNote
+    /// The mesh of the fewest triangles within a limit, in which all that is required is split, becomes the mesh: what
+    /// `frame_with` and `frame_within` say of limits and of triangles, and of required points too. Takes no memory.
+    pub fn frame_for(&mut self, grid: &Grid, limit: Limit, required: Required) -> FitNote
         requires grid { grid.now.n ≡ self.old.n }
         requires complete { IsComplete grid.now.n limit }
-        requires splittable { All (λ a. IsSplittable grid.now.n a) required.now }
+        requires askable { IsAskable grid.now.n required }
         ensures n { self.new.n ≡ self.old.n }
         ensures budget { self.new.budget ≡ self.old.budget }
         ensures least { let e = error_within grid.now.n grid.now.heights limit.entry in
-            IsLeastMeshWith grid.now.n (tolerance_of limit.entry) e (among required.now) self.new.leaves }
+            IsLeastMeshWith grid.now.n (tolerance_of limit.entry) e (is_required grid.now.n required.entry)
+            self.new.leaves }
         ensures order { leaves_of grid.now.n (ancestors_of self.new.leaves) ≡ self.new.leaves }
         ensures deviation { result.deviation
             ≡ deviation_of grid.now.n grid.now.heights self.new.leaves }
         ensures triangles { result.triangles ≡ length self.new.leaves }
         ensures vertices { result.vertices ≡ length (vertices_of grid.now.n self.new.leaves) }
     {
-        let counts = find_mesh_within(
-            grid,
-            limit,
-            required,
-            &mut self.flags,
-            &mut self.room,
-            &mut self.numbers,
-        );
-        self.count = counts.triangles;
-        FitNote {
-            triangles: counts.triangles as u32,
-            vertices: counts.vertices,
-            deviation: counts.deviation,
-        }
+        self.set.fit(grid, limit, required);
+        let worst = worst_under(grid, self.set.leaves(), limit);
+        told(&self.set, &mut self.numbers, worst)
     }
 
     /// The triangles of the mesh, depth first: 2 before 3, and left child before right child.
@@ -251,7 +220,7 @@ impl Fit {
         ensures value { result.now ≡ self.now.leaves }
         ensures conforming { IsConforming self.now.n self.now.leaves }
     {
-        &self.room[..self.count]
+        self.set.leaves()
     }
 
     /// The numbers of the vertices of the mesh.
@@ -259,6 +228,22 @@ impl Fit {
         ensures value { result.now ≡ numbers_of self.now.n self.now.leaves }
     {
         &self.numbers
+    }
+}
+
+/// Numbers the vertices of a mesh of this greatest error, and tells of it.
+fn told(set: &SplitSet, numbers: &mut VertexTable, worst: u32) -> FitNote
+    requires numbers { length numbers.old ≡ side_of set.now.n * side_of set.now.n }
+    ensures deviation { result.deviation ≡ worst }
+    ensures triangles { result.triangles ≡ length set.now.leaves }
+    ensures vertices { result.vertices ≡ length (vertices_of set.now.n set.now.leaves) }
+    ensures numbers { numbers.new ≡ numbers_of set.now.n set.now.leaves }
+    ensures places { length numbers.new ≡ length numbers.old }
+{
+    FitNote {
+        triangles: set.triangles(),
+        vertices: numbers.number(set.leaves(), set.n()),
+        deviation: worst,
     }
 }
 

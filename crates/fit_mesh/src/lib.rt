@@ -4,10 +4,11 @@
 //! from its plane at a grid point, at most. Leaves that are worse than the tolerance are split, with what
 //! that forces; with a budget, the worst leaf first, and each set whose worst falls below all before it is
 //! marked. Triangles may be required, as for points that a mesh must have. `Fit` takes its room once, and a frame takes
-//! none. The laws stand below, in `fit_laws` and `required_laws`.
+//! none. The laws stand below, in `fit_laws`.
 
 #![tactic(auto)]
 
+mod demand;
 mod error;
 mod find;
 mod fit;
@@ -15,7 +16,14 @@ mod force;
 mod grow;
 mod leaves;
 mod limit;
+mod list;
+mod required;
 mod settle;
+mod splits;
 
+pub use demand::point_of;
 pub use error::worst_error;
 pub use fit::{Fit, FitNote, are_splittable};
+pub use limit::Limit;
+pub use required::Required;
+pub use splits::SplitSet;

@@ -1,16 +1,19 @@
 //! By how much a mesh may be off, and whether a triangle is off by more.
 
-ghost use Rattle.std.specs.Prelude.{◌≡◌, ◌*◌, ◌<◌, ◌≤◌, ◌↔◌, IsTrue};
+ghost use Rattle.std.specs.Prelude.{◌≡◌, ◌*◌, ◌<◌, ◌≤◌, ◌↔◌, All, IsTrue};
 ghost use Rattle.mesh_defs.specs.Triangle.{level_of};
+ghost use Rattle.mesh_defs.specs.Priority.{worst_of};
+ghost use Rattle.fit_laws.specs.Error.{error_of};
 ghost use Rattle.fit_mesh.specs.Limit.{tolerance_of, error_within, IsComplete};
 
+use crate::error::{worst_error, worst_within};
 use bintree_addr::Tri;
 use mesh_measure::{exceeds, exceeds_own};
 use pgm_grid::Grid;
 
 /// By how much a mesh may be off at a grid point, in units of height, times 2^n.
 #[derive(Clone, Copy)]
-pub(crate) enum Limit<'a> {
+pub enum Limit<'a> {
     /// At each by so much.
     Common(u32),
     /// At each by its own tolerance, in row order.
@@ -27,5 +30,18 @@ pub(crate) fn is_over(grid: &Grid, t: Tri, limit: Limit) -> bool
     match limit {
         Limit::Common(tolerance) => exceeds(grid, t, tolerance),
         Limit::Own(tolerances) => exceeds_own(grid, t, tolerances),
+    }
+}
+
+/// The greatest error of a triangle of the list, none of which is off by more than the limit.
+pub(crate) fn worst_under(grid: &Grid, leaves: &[Tri], limit: Limit) -> u32
+    requires levels { All (λ a. level_of a ≤ 2 * grid.now.n) leaves.now }
+    requires within { worst_of (error_within grid.now.n grid.now.heights limit) leaves.now
+        ≤ tolerance_of limit }
+    ensures { result ≡ worst_of (error_of grid.now.n grid.now.heights) leaves.now }
+{
+    match limit {
+        Limit::Common(tolerance) => worst_within(grid, leaves, tolerance),
+        Limit::Own(_) => worst_error(grid, leaves),
     }
 }

@@ -5,12 +5,12 @@ use Rattle.std.proofs.lemmas.Bool.{cases_lt, cases_Bool, true≢false}
 use Rattle.std.proofs.lemmas.Option.{IfSome_then}
 use Rattle.mesh_defs.specs.Triangle.{level_of}
 use Rattle.bintree_addr.specs.declared.slot.Slot.{Slot}
-use Rattle.edge_laws.specs.Edge.{mate_of}
-use Rattle.edge_laws.proofs.MateLemmas.{mate_of-low}
+use Rattle.mesh_laws.specs.Edge.{mate_of}
+use Rattle.mesh_laws.proofs.MateLemmas.{mate_of-low}
 use Rattle.triangle_pool.specs.declared.pool.Born.{Born}
-use Rattle.edge_laws.specs.Slots.{address_at, has_children, IsLive, split_set, IsPool, IsSplit, diamond_size, HasLeaf}
+use Rattle.mesh_laws.specs.Slots.{address_at, has_children, IsLive, split_set, IsPool, IsSplit, diamond_size, HasLeaf}
 use Rattle.triangle_pool.specs.Answer.{numbers, AreChildren, IsBorn, IsBirth}
-use Rattle.edge_laws.proofs.SlotLemmas.{has_children-set, set-has_children, size_one, size_two}
+use Rattle.mesh_laws.proofs.SlotLemmas.{has_children-set, set-has_children, size_one, size_two}
 use Rattle.force_split.specs.Chain.{IsChain, IsChained, IsBornOf, IsAnswer, AreAnswers, chain_size}
 use Rattle.force_split.proofs.ChainLemmas.{chained_shut, chained_up, chained_step, next_coarse}
 

@@ -5,13 +5,13 @@ use Rattle.std.proofs.lemmas.Bool.{cases_Bool, true≢false}
 use Rattle.mesh_defs.specs.Triangle.{level_of}
 use Rattle.mesh_defs.specs.ClosedSet.{IsClosed, IsSubset}
 use Rattle.bintree_laws.proofs.LevelLemmas.{level_of-parent}
-use Rattle.edge_laws.specs.Edge.{mate_of}
-use Rattle.edge_laws.proofs.MateLemmas.{mate_of-back, mate_of-low, mate_of-level}
-use Rattle.edge_laws.specs.Slots.{address_at, has_children, split_set, IsPool, HasLeaf}
-use Rattle.edge_laws.proofs.SlotLemmas.{parent_has_children, has_children-set, set_false, member_mate, same_closed}
-use Rattle.edge_laws.specs.LeafAcross.{IsGrown}
-use Rattle.edge_laws.proofs.ChainLemmas.{least_step}
-use Rattle.closure_laws.proofs.ForcingLemmas.{with-old, with-new, with-cases}
+use Rattle.mesh_laws.specs.Edge.{mate_of}
+use Rattle.mesh_laws.proofs.MateLemmas.{mate_of-back, mate_of-low, mate_of-level}
+use Rattle.mesh_laws.specs.Slots.{address_at, has_children, split_set, IsPool, HasLeaf}
+use Rattle.mesh_laws.proofs.SlotLemmas.{parent_has_children, has_children-set, set_false, member_mate, same_closed}
+use Rattle.mesh_laws.specs.LeafAcross.{IsGrown}
+use Rattle.mesh_laws.proofs.ChainLemmas.{least_step}
+use Rattle.mesh_laws.proofs.ForcingLemmas.{with-old, with-new, with-cases}
 use Rattle.force_split.specs.Chain.{IsNextInChain, IsChain, IsLow, IsChained}
 
 -- ---- the sets along a chain

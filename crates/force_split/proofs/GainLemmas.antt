@@ -8,15 +8,15 @@ use Rattle.mesh_defs.specs.Triangle.{level_of}
 use Rattle.mesh_defs.specs.ClosedSet.{IsClosed, IsLeastClosed, leaves_of, among}
 use Rattle.mesh_defs.specs.GridSet.{IsAscending, IsForced}
 use Rattle.mesh_defs.specs.Greedy.{with_triangle}
-use Rattle.edge_laws.specs.Edge.{mate_of}
-use Rattle.edge_laws.specs.LeafAcross.{IsGrown}
+use Rattle.mesh_laws.specs.Edge.{mate_of}
+use Rattle.mesh_laws.specs.LeafAcross.{IsGrown}
 use Rattle.mesh_defs.proofs.ListLemmas.{among-in}
-use Rattle.closure_laws.proofs.ClosureLemmas.{leaves_of-same, IsLeastClosed-unique}
-use Rattle.closure_laws.proofs.SizeLemmas.{length-leaves_once, length-leaves_of}
-use Rattle.edge_laws.proofs.MateLemmas.{mate_of-other}
-use Rattle.edge_laws.specs.Slots.{address_at, split_set, IsPool}
-use Rattle.edge_laws.proofs.SlotLemmas.{size_one, size_two, members_of, among-members, members_once, same_closed}
-use Rattle.edge_laws.proofs.SlotLemmas.{counted_cons, none_counted}
+use Rattle.mesh_laws.proofs.ClosureLemmas.{leaves_of-same, IsLeastClosed-unique}
+use Rattle.mesh_laws.proofs.SizeLemmas.{length-leaves_once, length-leaves_of}
+use Rattle.mesh_laws.proofs.MateLemmas.{mate_of-other}
+use Rattle.mesh_laws.specs.Slots.{address_at, split_set, IsPool}
+use Rattle.mesh_laws.proofs.SlotLemmas.{size_one, size_two, members_of, among-members, members_once, same_closed}
+use Rattle.mesh_laws.proofs.SlotLemmas.{counted_cons, none_counted}
 use Rattle.force_split.specs.Chain.{IsChain, IsChained, IsGainOf, chain_size}
 use Rattle.force_split.proofs.ChainLemmas.{chained_step, chained_shut, next_coarse}
 

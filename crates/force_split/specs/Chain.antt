@@ -3,9 +3,9 @@ use Rattle.std.specs.Prelude.{◌≡◌, ℕ, ◌+◌, ◌/◌, ◌≤◌, ◌�
 use Rattle.mesh_defs.specs.Triangle.{level_of}
 use Rattle.mesh_defs.specs.ClosedSet.{IsLeastClosed, leaves_of}
 use Rattle.mesh_defs.specs.Greedy.{with_triangle}
-use Rattle.edge_laws.specs.Edge.{mate_of}
+use Rattle.mesh_laws.specs.Edge.{mate_of}
 use Rattle.triangle_pool.specs.declared.pool.Born.{Born}
-use Rattle.edge_laws.specs.Slots.{address_at, split_set, diamond_size, HasLeaf, IsMateLive}
+use Rattle.mesh_laws.specs.Slots.{address_at, split_set, diamond_size, HasLeaf, IsMateLive}
 use Rattle.triangle_pool.specs.Answer.{AreChildren, IsBorn}
 
 -- What follows a leaf in its chain: the coarser leaf across its base, and nothing where the leaf across is as fine as

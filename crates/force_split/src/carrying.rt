@@ -7,8 +7,8 @@ ghost use Rattle.arrayvec.specs.ArrayVec.{array_vec_len};
 ghost use Rattle.mesh_defs.specs.Triangle.{level_of};
 ghost use Rattle.mesh_defs.specs.ClosedSet.{IsLeastClosed};
 ghost use Rattle.mesh_defs.specs.Greedy.{with_triangle};
-ghost use Rattle.edge_laws.specs.Edge.{mate_of};
-ghost use Rattle.edge_laws.specs.Slots.{address_at, has_children, IsLive, IsPool, split_set, room_of, diamond_size};
+ghost use Rattle.mesh_laws.specs.Edge.{mate_of};
+ghost use Rattle.mesh_laws.specs.Slots.{address_at, has_children, IsLive, IsPool, split_set, room_of, diamond_size};
 ghost use Rattle.triangle_pool.specs.Answer.{numbers};
 ghost use Rattle.force_split.specs.Chain.{IsChain, IsChained, IsBornOf, AreAnswers, chain_size};
 

@@ -6,9 +6,9 @@ ghost use Rattle.arrayvec.specs.ArrayVec.{array_vec_len};
 ghost use Rattle.mesh_defs.specs.Triangle.{level_of};
 ghost use Rattle.mesh_defs.specs.ClosedSet.{among};
 ghost use Rattle.mesh_defs.specs.GridSet.{IsAscending, IsForced};
-ghost use Rattle.edge_laws.specs.Edge.{mate_of};
+ghost use Rattle.mesh_laws.specs.Edge.{mate_of};
 ghost use Rattle.triangle_pool.specs.Answer.{numbers};
-ghost use Rattle.edge_laws.specs.Slots.{address_at, split_set, HasLeaf, IsMateLive, diamond_size};
+ghost use Rattle.mesh_laws.specs.Slots.{address_at, split_set, HasLeaf, IsMateLive, diamond_size};
 ghost use Rattle.force_split.specs.Chain.{IsChain, IsGainOf, chain_size};
 
 use arrayvec::ArrayVec;

@@ -9,7 +9,7 @@ use Rattle.mesh_defs.specs.declared.mark.Mark.{Mark}
 use Rattle.mesh_defs.specs.declared.mark.Mark.TheVariants.{Inside, Cut, Outside}
 use Rattle.mesh_defs.specs.ClosedSet.{leaves_under}
 use Rattle.mesh_defs.specs.MeshText.{is_same_mark}
-use Rattle.tiling_laws.proofs.DescentLemmas.{IsDown, IsSplittable-down, All-leaves_under}
+use Rattle.mesh_laws.proofs.DescentLemmas.{IsDown, IsSplittable-down, All-leaves_under}
 use Rattle.mesh_defs.specs.State.{SceneState}
 use Rattle.frame_loop.specs.Marks.{marks_seen, HasMarks}
 use Rattle.frame_loop.specs.Turn.{mark_under}

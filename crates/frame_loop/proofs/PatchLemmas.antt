@@ -8,8 +8,8 @@ use Rattle.mesh_defs.specs.Triangle.{IsSplittable}
 use Rattle.mesh_defs.specs.ClosedSet.{IsClosed, leaves_of}
 use Rattle.bintree_laws.specs.Corners.{IsInSquare}
 use Rattle.bintree_laws.proofs.CornerLemmas.{IsWithin-corners_of}
-use Rattle.vertex_laws.specs.Vertex.{centre_of}
-use Rattle.vertex_laws.proofs.VertexLemmas.{centre-member, vertex-same}
+use Rattle.mesh_laws.specs.Vertex.{centre_of}
+use Rattle.mesh_laws.proofs.VertexLemmas.{centre-member, vertex-same}
 use Rattle.obj_write.specs.declared.patch.VertexChange.{VertexChange}
 use Rattle.std.specs.Option.{IfSome}
 use Rattle.mesh_defs.proofs.ListLemmas.{Contains-in, IsIn-among}
@@ -17,7 +17,7 @@ use Rattle.deferred_loop.specs.Log.{IsListed}
 use Rattle.obj_write.specs.Numbers.{numbers_of}
 use Rattle.obj_write.specs.VertexMarks.{is_vertex}
 use Rattle.obj_write.specs.Patch.{AreChanges}
-use Rattle.leaf_list.specs.List.{IsCovered}
+use Rattle.mesh_arrays.specs.List.{IsCovered}
 use Rattle.frame_loop.specs.Patch.{change_of, AreNumbersBefore}
 
 -- the centre of a triangle lies in the square

@@ -4,10 +4,10 @@ use Rattle.mesh_defs.specs.ClosedSet.{among}
 use Rattle.mesh_defs.specs.GridSet.{IsGridSet}
 use Rattle.mesh_defs.specs.Falling.{IsFalling}
 use Rattle.mesh_defs.proofs.ListLemmas.{among-in}
-use Rattle.frame_steps.specs.Steps.{begin}
-use Rattle.frame_steps.proofs.RunLemmas.{run_set}
-use Rattle.frame_steps.proofs.FrameLemmas.{merge_spares}
-use Rattle.frame_steps.specs.Stamps.{is_due}
+use Rattle.mesh_laws.specs.Steps.{begin}
+use Rattle.mesh_laws.proofs.RunLemmas.{run_set}
+use Rattle.mesh_laws.proofs.FrameRunLemmas.{merge_spares}
+use Rattle.mesh_laws.specs.Stamps.{is_due}
 use Rattle.deferred_loop.specs.Seen.{SeenMesh}
 use Rattle.deferred_loop.specs.Promise.{IsAtLeast}
 use Rattle.roam_mesh.specs.Mesh.{stamp_of, seen_of}

@@ -10,10 +10,10 @@ use Rattle.mesh_defs.specs.Thickness.{thickness_of}
 use Rattle.mesh_defs.specs.View.{ViewPlane}
 use Rattle.mesh_defs.specs.Priority.{seen_ratio, priority_of}
 use Rattle.bintree_laws.proofs.LevelLemmas.{level_of-parent}
-use Rattle.tiling_laws.proofs.ConformityLemmas.{IsUnder, self, below}
-use Rattle.closure_laws.proofs.SizeLemmas.{under-true}
+use Rattle.mesh_laws.proofs.ConformityLemmas.{IsUnder, self, below}
+use Rattle.mesh_laws.proofs.SizeLemmas.{under-true}
 use Rattle.roam_mesh.specs.Mesh.{MeshState}
-use Rattle.leaf_list.specs.Below.{is_at_or_below}
+use Rattle.mesh_arrays.specs.Below.{is_at_or_below}
 use Rattle.mesh_defs.specs.State.{SceneState}
 use Rattle.frame_loop.specs.Outlook.{IsSamePriority}
 use Rattle.frame_loop.specs.Changes.{LeafChanges}

@@ -1,8 +1,8 @@
 -- What a frame took out of a mesh and what it put in. This project's own.
 -- Words: LeafChanges, no_changes, changes_of, AreChangesOf.
 use Rattle.std.specs.Prelude.{ℕ, List, []}
-use Rattle.leaf_list.specs.Change.{IsChange}
-use Rattle.leaf_list.specs.List.{ListState}
+use Rattle.mesh_arrays.specs.ListChange.{IsChange}
+use Rattle.mesh_arrays.specs.List.{ListState}
 
 -- the triangles that it took out, and those that it put in
 pub record LeafChanges : Type 0 where

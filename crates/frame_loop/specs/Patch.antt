@@ -2,10 +2,10 @@
 -- Words: change_of, AreNumbersBefore.
 use Rattle.std.specs.Prelude.{◌≡◌, ℕ, Bool, List}
 use Rattle.mesh_defs.specs.ClosedSet.{IsClosed, leaves_of}
-use Rattle.vertex_laws.specs.Vertex.{centre_of}
+use Rattle.mesh_laws.specs.Vertex.{centre_of}
 use Rattle.obj_write.specs.declared.patch.VertexChange.{VertexChange}
 use Rattle.obj_write.specs.Numbers.{numbers_of}
-use Rattle.leaf_list.specs.List.{IsCovered}
+use Rattle.mesh_arrays.specs.List.{IsCovered}
 
 -- the centre of a triangle, which is a vertex where the triangle is a member
 abbrev pub change_of : ℕ → (ℕ → Bool) → ℕ → VertexChange

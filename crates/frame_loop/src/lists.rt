@@ -4,14 +4,14 @@ ghost use Rattle.std.specs.Prelude.{◌≡◌, ◌*◌, ◌/◌, ◌≤◌, [], 
 ghost use Rattle.mesh_defs.specs.HeightField.{side_of};
 ghost use Rattle.mesh_defs.specs.ClosedSet.{leaves_of};
 ghost use Rattle.mesh_defs.specs.declared.level.TheConstants.{GREATEST_LEVEL};
-ghost use Rattle.edge_laws.specs.Slots.{split_set};
+ghost use Rattle.mesh_laws.specs.Slots.{split_set};
 ghost use Rattle.triangle_pool.specs.declared.pool.TheConstants.{MOST_LEAVES};
 ghost use Rattle.frame_loop.specs.declared.lists.TheConstants.{MENDED_SHARE};
 
 use bintree_addr::Point;
-use leaf_list::LeafList;
+use mesh_arrays::LeafList;
+use mesh_defs::NoMemory;
 use obj_write::{VertexChange, VertexTable};
-use roam_errors::NoMemory;
 use std::alloc::Global;
 use triangle_pool::Pool;
 

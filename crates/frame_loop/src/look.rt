@@ -2,10 +2,10 @@
 
 ghost use Rattle.std.specs.Prelude.{◌≡◌, ℕ, ◌*◌, ◌≤◌, ◌&&◌, not, true, false, nat_eq};
 ghost use Rattle.mesh_defs.specs.Triangle.{level_of};
-ghost use Rattle.edge_laws.specs.Slots.{address_at, IsLive};
+ghost use Rattle.mesh_laws.specs.Slots.{address_at, IsLive};
 ghost use Rattle.mesh_defs.specs.State.{scene_of};
 ghost use Rattle.frame_loop.specs.Engine.{IsExpired, AreAllExpired};
-ghost use Rattle.leaf_list.specs.Below.{is_at_or_below};
+ghost use Rattle.mesh_arrays.specs.Below.{is_at_or_below};
 ghost use Rattle.frame_loop.specs.Turn.{with_planes, mark_under, is_turn, is_settled, is_turned};
 
 use crate::engine::Engine;

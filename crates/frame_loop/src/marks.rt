@@ -5,7 +5,7 @@ ghost use Rattle.mesh_defs.specs.Triangle.{level_of};
 ghost use Rattle.mesh_defs.specs.ClosedSet.{leaves_of, leaves_under};
 ghost use Rattle.mesh_defs.specs.declared.mark.Mark.TheVariants.{Inside, Cut, Outside};
 ghost use Rattle.mesh_defs.specs.MeshText.{triangle_mark, is_same_mark};
-ghost use Rattle.edge_laws.specs.Slots.{address_at, split_set, IsLive};
+ghost use Rattle.mesh_laws.specs.Slots.{address_at, split_set, IsLive};
 ghost use Rattle.frame_loop.specs.Marks.{HasMarks};
 
 use bintree_addr::{Slot, Tri};

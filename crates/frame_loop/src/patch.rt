@@ -4,13 +4,13 @@ ghost use Rattle.std.specs.Prelude.{◌≡◌, ◌*◌, ◌/◌, ◌≤◌, fals
 ghost use Rattle.std.specs.Prelude.{slice_index};
 ghost use Rattle.mesh_defs.specs.Triangle.{IsSplittable};
 ghost use Rattle.mesh_defs.specs.declared.level.TheConstants.{GREATEST_LEVEL};
-ghost use Rattle.edge_laws.specs.Slots.{address_at, split_set};
-ghost use Rattle.leaf_list.specs.Change.{IsChange};
+ghost use Rattle.mesh_laws.specs.Slots.{address_at, split_set};
+ghost use Rattle.mesh_arrays.specs.ListChange.{IsChange};
 ghost use Rattle.frame_loop.specs.Listing.{IsListing};
 ghost use Rattle.frame_loop.specs.Patch.{change_of, AreNumbersBefore};
 
 use bintree_addr::{Slot, Tri};
-use leaf_list::LeafList;
+use mesh_arrays::LeafList;
 use obj_write::{VertexChange, VertexTable};
 use triangle_pool::Pool;
 

@@ -8,7 +8,7 @@ use Rattle.mesh_defs.specs.declared.point.Point.{Point}
 use Rattle.mesh_defs.specs.Triangle.{level_of, corners_of, child, IsSplittable}
 use Rattle.mesh_defs.specs.BoundingBox.{holds_point}
 use Rattle.bintree_laws.specs.Corners.{HasEvenBase, IsCounterclockwise}
-use Rattle.tiling_laws.proofs.OrientationLemmas.{counterclockwise}
+use Rattle.mesh_laws.proofs.OrientationLemmas.{counterclockwise}
 use Rattle.height_edit.specs.Holders.{held_from, holders}
 use Rattle.height_edit.specs.Weights.{weight_in, weights, offspring}
 use Rattle.height_edit.proofs.WeightLemmas.{weight-children, weight-held, weight-not-held, weight-halves}

@@ -2,3 +2,5 @@ mod ClosedLists
 mod RankingExamples
 mod CornerExample
 mod TileNumbers
+mod FrameExampleLemmas
+mod FrameStepExamples

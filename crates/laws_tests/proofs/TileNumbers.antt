@@ -3,9 +3,9 @@
 use Rattle.std.proofs.Common.{ℕ, Bool, ◌&&◌, nat_eq, IsTrue, refl}
 use Rattle.mesh_defs.specs.Triangle.{level_of}
 use Rattle.mesh_defs.specs.BoundingBox.{point}
-use Rattle.tile_laws.specs.Tile.{quarter, in_tile}
-use Rattle.tile_laws.specs.Glue.{tile_of, local_of}
-use Rattle.tile_laws.specs.Mirror.{mirrored}
+use Rattle.mosaic_laws.specs.Tile.{quarter, in_tile}
+use Rattle.mosaic_laws.specs.Glue.{tile_of, local_of}
+use Rattle.mosaic_laws.specs.Mirror.{mirrored}
 
 -- the quarter k of the tile in this column and row has this address, in a grid of 2 ^ p columns and rows of tiles
 abbrev is_quarter : ℕ → ℕ → ℕ → ℕ → ℕ → Bool

@@ -17,62 +17,62 @@ fn laws_of_the_bintree_are_calls() {
 
 #[test]
 fn laws_of_tilings_are_calls() {
-    tiling_laws::sample_laws();
-    tiling_laws::orientation_laws();
-    tiling_laws::leaf_laws();
-    tiling_laws::conformity_laws();
+    mesh_laws::sample_laws();
+    mesh_laws::orientation_laws();
+    mesh_laws::leaf_laws();
+    mesh_laws::conformity_laws();
 }
 
 #[test]
 fn laws_of_closed_sets_are_calls() {
-    closure_laws::closed_set_laws();
-    closure_laws::set_leaf_laws();
-    closure_laws::member_laws();
-    closure_laws::rank_laws();
-    closure_laws::greedy_laws();
-    closure_laws::frame_laws();
-    closure_laws::base_mesh(1);
-    closure_laws::base_mesh(11);
+    mesh_laws::closed_set_laws();
+    mesh_laws::set_leaf_laws();
+    mesh_laws::member_laws();
+    mesh_laws::rank_laws();
+    mesh_laws::greedy_laws();
+    mesh_laws::frame_laws();
+    mesh_laws::base_mesh(1);
+    mesh_laws::base_mesh(11);
 }
 
 #[test]
 fn laws_of_vertices_are_calls() {
-    vertex_laws::vertex_laws();
+    mesh_laws::vertex_laws();
 }
 
 #[test]
 fn laws_of_edges_are_calls() {
-    edge_laws::edge_laws();
-    edge_laws::leaf_laws();
-    edge_laws::chain_laws();
-    edge_laws::slot_laws();
+    mesh_laws::edge_laws();
+    mesh_laws::leaf_edge_laws();
+    mesh_laws::chain_laws();
+    mesh_laws::slot_laws();
 }
 
 #[test]
 fn laws_of_strips_are_calls() {
-    strip_laws::strip_laws();
-    strip_laws::turn_laws();
+    mesh_laws::strip_laws();
+    mesh_laws::turn_laws();
 }
 
 #[test]
 fn laws_of_deviations_are_calls() {
-    deviation_laws::deviation_laws();
+    fit_laws::deviation_laws();
 }
 
 #[test]
 fn laws_of_frames_are_calls() {
-    frame_steps::step_laws();
-    frame_steps::frame_laws();
-    frame_steps::loop_laws();
-    frame_steps::straddling_laws();
-    frame_steps::queue_laws();
-    frame_steps::stamp_laws();
+    mesh_laws::step_laws();
+    mesh_laws::frame_run_laws();
+    mesh_laws::loop_laws();
+    mesh_laws::straddling_laws();
+    mesh_laws::queue_laws();
+    mesh_laws::stamp_laws();
 }
 
 #[test]
 fn laws_of_least_meshes_are_calls() {
-    least_laws::least_laws();
-    least_laws::sweep_laws();
+    mesh_laws::least_laws();
+    mesh_laws::sweep_laws();
 }
 
 #[test]
@@ -85,19 +85,19 @@ fn laws_of_certificates_are_calls() {
 
 #[test]
 fn laws_of_required_triangles_are_calls() {
-    required_laws::required_laws();
+    fit_laws::required_laws();
 }
 
 #[test]
 fn laws_of_tiles_are_calls() {
-    tile_laws::quarter_laws();
-    tile_laws::address_laws();
-    tile_laws::place_laws();
-    tile_laws::mate_laws();
-    tile_laws::side_laws();
-    tile_laws::closed_laws();
-    tile_laws::list_laws();
-    tile_laws::height_laws();
+    mosaic_laws::quarter_laws();
+    mosaic_laws::address_laws();
+    mosaic_laws::place_laws();
+    mosaic_laws::mate_laws();
+    mosaic_laws::side_laws();
+    mosaic_laws::closed_laws();
+    mosaic_laws::list_laws();
+    mosaic_laws::height_laws();
 }
 
 #[test]

@@ -12,5 +12,6 @@ mod addresses;
 mod closed_sets;
 #[cfg(test)]
 mod law_calls;
+mod worked_frames;
 #[cfg(test)]
 mod worked_numbers;

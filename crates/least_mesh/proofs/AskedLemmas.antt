@@ -2,12 +2,12 @@
 use Rattle.std.proofs.Common.{◌≡◌, ℕ, ◌+◌, ◌*◌, ◌^◌, ◌<◌, ◌≤◌, Bool, true, false, List, length, set, replicate, sym}
 use Rattle.std.proofs.Common.{◌∙◌, subst, arith, ⊎_elim}
 use Rattle.std.proofs.lemmas.Bool.{cases_lt, ne_eqb}
-use Rattle.least_laws.specs.Least.{is_worse}
-use Rattle.least_laws.specs.Sweep.{is_flagged}
-use Rattle.least_laws.proofs.FlagLemmas.{flagged-set, flagged-unset}
-use Rattle.least_laws.proofs.SweepLemmas.{splittable-lt}
-use Rattle.least_laws.proofs.LeastLemmas.{not_worse}
-use Rattle.closure_laws.proofs.ForcingLemmas.{with-new}
+use Rattle.mesh_laws.specs.Least.{is_worse}
+use Rattle.mesh_laws.specs.Sweep.{is_flagged}
+use Rattle.mesh_laws.proofs.FlagLemmas.{flagged-set, flagged-unset}
+use Rattle.mesh_laws.proofs.SweepLemmas.{splittable-lt}
+use Rattle.mesh_laws.proofs.LeastLemmas.{not_worse}
+use Rattle.mesh_laws.proofs.ForcingLemmas.{with-new}
 use Rattle.least_mesh.specs.Asked.{AreWantedFlagged}
 use Rattle.mesh_defs.proofs.TestLemmas.{or_none}
 

@@ -5,10 +5,10 @@ use Rattle.mesh_defs.specs.Triangle.{level_of, IsAddress}
 use Rattle.mesh_defs.specs.Tiling.{IsConforming}
 use Rattle.mesh_defs.specs.ClosedSet.{IsLeastClosed, leaves_of}
 use Rattle.bintree_laws.proofs.LevelLemmas.{level-le}
-use Rattle.tiling_laws.proofs.DescentLemmas.{IsAddress-leaves_of}
-use Rattle.tiling_laws.proofs.ConformityLemmas.{IsConforming-leaves_of}
-use Rattle.least_laws.specs.Least.{is_worse, IsLeastList}
-use Rattle.least_laws.specs.Sweep.{is_flagged}
+use Rattle.mesh_laws.proofs.DescentLemmas.{IsAddress-leaves_of}
+use Rattle.mesh_laws.proofs.ConformityLemmas.{IsConforming-leaves_of}
+use Rattle.mesh_laws.specs.Least.{is_worse, IsLeastList}
+use Rattle.mesh_laws.specs.Sweep.{is_flagged}
 
 -- the same wanted triangles have the same least closed sets
 least-wanted : (n : ℕ) (wanted other has : ℕ → Bool) → ((a : ℕ) → wanted a ≡ other a) → IsLeastClosed n wanted has →

@@ -4,7 +4,7 @@ ghost use Rattle.std.specs.Prelude.{◌≡◌, ℕ, ◌+◌, ◌*◌, ◌^◌, �
 ghost use Rattle.mesh_defs.specs.Triangle.{IsSplittable};
 ghost use Rattle.mesh_defs.specs.ClosedSet.{IsLeastClosed};
 ghost use Rattle.mesh_defs.specs.declared.level.TheConstants.{GREATEST_LEVEL};
-ghost use Rattle.least_laws.specs.Sweep.{is_flagged, IsMarked};
+ghost use Rattle.mesh_laws.specs.Sweep.{is_flagged, IsMarked};
 
 use address_flags::{end, flag, flag_parent};
 use bintree_addr::{Tri, level_laws};

@@ -2,8 +2,8 @@
 
 ghost use Rattle.std.specs.Prelude.{◌≡◌, ℕ, ◌+◌, ◌*◌, ◌/◌, ◌^◌, ◌<◌, ◌≤◌, false, length, replicate};
 ghost use Rattle.mesh_defs.specs.State.{priority_seen};
-ghost use Rattle.least_laws.specs.Least.{is_worse};
-ghost use Rattle.least_laws.specs.Sweep.{is_flagged};
+ghost use Rattle.mesh_laws.specs.Least.{is_worse};
+ghost use Rattle.mesh_laws.specs.Sweep.{is_flagged};
 
 use address_flags::end;
 use bintree_addr::{Tri, level_laws};

@@ -3,11 +3,13 @@
 //! A reason is an address, a column and a row.
 
 ghost use Rattle.std.specs.Prelude.{◌≤◌, IfOk, length};
-ghost use Rattle.fit_certificate_laws.specs.declared.limits.TheConstants.{MOST_REASONS};
+ghost use Rattle.certificate_laws.specs.declared.limits.TheConstants.{MOST_REASONS};
 
 use bintree_addr::Tri;
-use fit_cert_text::FitCertReader;
-use fit_certify::{FitCert, MOST_REASONS, Off, Reject, Target, Verdict, check, make, mesh_of};
+use cert_text::FitCertReader;
+use fit_certify::{
+    FitCert, FitReject, FitVerdict, MOST_REASONS, Off, Target, check, make, mesh_of,
+};
 use pgm_grid::Grid;
 use std::alloc::Global;
 use std::test::Fail;
@@ -49,15 +51,20 @@ fn corner(alloc: Global) -> Result<Grid, Fail> {
 type Parts<'a> = (u32, &'a [(u32, u32, u32)], &'a [(u32, u32, u32)]);
 
 /// The verdict on the certificate of these parts.
-fn verdict_on(alloc: Global, grid: &Grid, parts: Parts, target: Target) -> Result<Verdict, Fail> {
+fn verdict_on(
+    alloc: Global,
+    grid: &Grid,
+    parts: Parts,
+    target: Target,
+) -> Result<FitVerdict, Fail> {
     let (tolerance, needed, beyond) = parts;
     let cert = FitCert::new(tolerance, reasons(alloc, needed)?, reasons(alloc, beyond)?);
     Ok(check(alloc, grid, &cert, target)?)
 }
 
 /// The verdict that a certificate is sound.
-fn certified(triangles: u32, deviation: u32) -> Verdict {
-    Verdict::Certified {
+fn certified(triangles: u32, deviation: u32) -> FitVerdict {
+    FitVerdict::Certified {
         triangles,
         deviation,
     }
@@ -78,7 +85,7 @@ fn budget(triangles: u32) -> Target {
 fn a_peak_is_certified_for_errors_and_budgets(rt: HostRuntime) -> Result<(), Fail> {
     let grid = peak(rt.alloc())?;
     let top = [(2, 1, 1)];
-    let cases: [(Parts, Target, Verdict); 7] = [
+    let cases: [(Parts, Target, FitVerdict); 7] = [
         ((20, &[], &[]), error(20), certified(2, 20)),
         ((20, &[], &top), error(20), certified(2, 20)),
         ((19, &top, &[]), error(19), certified(4, 0)),
@@ -102,10 +109,10 @@ fn a_peak_is_certified_for_errors_and_budgets(rt: HostRuntime) -> Result<(), Fai
 fn each_test_that_fails_is_told(rt: HostRuntime) -> Result<(), Fail> {
     let grid = peak(rt.alloc())?;
     let top = [(2, 1, 1)];
-    let first = Reject::BadReason { index: 1 };
-    let second = Reject::BadReason { index: 2 };
-    let cases: [(Parts, Target, Reject); 11] = [
-        ((19, &top, &[]), error(18), Reject::OtherTolerance),
+    let first = FitReject::BadReason { index: 1 };
+    let second = FitReject::BadReason { index: 2 };
+    let cases: [(Parts, Target, FitReject); 11] = [
+        ((19, &top, &[]), error(18), FitReject::OtherTolerance),
         ((20, &top, &[]), error(20), first),
         ((0, &[(2, 2, 2)], &[]), error(0), first),
         ((0, &[(2, 3, 0)], &[]), error(0), first),
@@ -113,13 +120,13 @@ fn each_test_that_fails_is_told(rt: HostRuntime) -> Result<(), Fail> {
         ((0, &[(4, 1, 1)], &[]), error(0), first),
         ((0, &[(2, 1, 1), (3, 1, 1)], &[]), error(0), second),
         ((19, &top, &[(3, 1, 1)]), error(19), second),
-        ((19, &[], &top), error(19), Reject::OverTolerance),
-        ((0, &top, &[]), budget(3), Reject::OverBudget),
-        ((20, &[], &top), budget(4), Reject::TooFewReasons),
+        ((19, &[], &top), error(19), FitReject::OverTolerance),
+        ((0, &top, &[]), budget(3), FitReject::OverBudget),
+        ((20, &[], &top), budget(4), FitReject::TooFewReasons),
     ];
     for (parts, target, why) in cases {
         let verdict = verdict_on(rt.alloc(), &grid, parts, target)?;
-        assert_eq!(rt; verdict, Verdict::Rejected { why }, "{why:?} {target:?}");
+        assert_eq!(rt; verdict, FitVerdict::Rejected { why }, "{why:?} {target:?}");
     }
     Ok(())
 }
@@ -130,14 +137,14 @@ fn reasons_make_leaves_for_those_behind_them(rt: HostRuntime) -> Result<(), Fail
     let grid = corner(rt.alloc())?;
     let made = [(2, 1, 0), (4, 1, 0), (5, 0, 1)];
     let turned = [(4, 1, 0), (2, 1, 0), (5, 0, 1)];
-    let cases: [(Parts, Target, Verdict); 3] = [
+    let cases: [(Parts, Target, FitVerdict); 3] = [
         ((2, &made, &[]), error(2), certified(6, 2)),
         ((3, &[], &made), budget(5), certified(2, 3)),
         (
             (2, &turned, &[]),
             error(2),
-            Verdict::Rejected {
-                why: Reject::BadReason { index: 1 },
+            FitVerdict::Rejected {
+                why: FitReject::BadReason { index: 1 },
             },
         ),
     ];
@@ -187,14 +194,14 @@ fn the_reasons_before_the_mesh_make_it(rt: HostRuntime) -> Result<(), Fail> {
 }
 
 /// The verdict on the certificate that is made for an error.
-fn made_for_error(alloc: Global, grid: &Grid, tolerance: u32) -> Result<Verdict, Fail> {
+fn made_for_error(alloc: Global, grid: &Grid, tolerance: u32) -> Result<FitVerdict, Fail> {
     let target = error(tolerance);
     let cert = make(alloc, grid, Target::Error { tolerance })?;
     Ok(check(alloc, grid, &cert, target)?)
 }
 
 /// The verdict on the certificate that is made for a budget.
-fn made_for_budget(alloc: Global, grid: &Grid, triangles: u32) -> Result<Verdict, Fail> {
+fn made_for_budget(alloc: Global, grid: &Grid, triangles: u32) -> Result<FitVerdict, Fail> {
     if triangles < 2 {
         return Err("a budget".into());
     }
@@ -222,7 +229,7 @@ fn what_is_made_is_certified(rt: HostRuntime) -> Result<(), Fail> {
 }
 
 /// The verdict on the certificate of these lines, for the grid with a peak.
-fn verdict_of_lines(alloc: Global, lines: &[&str], target: Target) -> Result<Verdict, Fail> {
+fn verdict_of_lines(alloc: Global, lines: &[&str], target: Target) -> Result<FitVerdict, Fail> {
     let grid = peak(alloc)?;
     let mut reader = FitCertReader::new(alloc, 1);
     for line in lines {

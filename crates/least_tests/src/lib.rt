@@ -18,6 +18,8 @@ mod fit_required;
 #[cfg(test)]
 mod hill;
 #[cfg(test)]
+mod kept_certificates;
+#[cfg(test)]
 mod least_frames;
 #[cfg(test)]
 mod points;

@@ -1,8 +1,8 @@
 //! The triangles whose centres grid points are, worked by hand.
 
+use address_flags::centred_at;
 use bintree_addr::{Point, Tri};
 use std::test::Fail;
-use vertex_addr::centred_at;
 
 /// A point, and the address of the triangle, or 0 where there is none.
 type Row = (u32, u32, u32);

@@ -1,14 +1,14 @@
 -- The chief of a diamond in a pool: all members have the same one, and one slot has it.
 use Rattle.std.proofs.Common.{◌≡◌, ap, sym, ◌∙◌, true, ℕ, ◌≤◌, arith, inl, inr, List}
 use Rattle.bintree_addr.specs.declared.slot.Slot.{Slot}
-use Rattle.closure_laws.specs.Diamond.{IsInDiamond}
-use Rattle.edge_laws.specs.Edge.{mate_of}
-use Rattle.edge_laws.specs.Slots.{address_at, has_children, IsLive, IsPool}
-use Rattle.edge_laws.proofs.MateLemmas.{mate_of-low}
-use Rattle.edge_laws.proofs.IsMateLemmas.{mate_of-IsMate}
-use Rattle.edge_laws.proofs.SlotLemmas.{has_children-set}
-use Rattle.edge_laws.specs.Chief.{chief_of}
-use Rattle.edge_laws.proofs.ChiefLemmas.{chief_of-low, chief_of-mate}
+use Rattle.mesh_laws.specs.Diamond.{IsInDiamond}
+use Rattle.mesh_laws.specs.Edge.{mate_of}
+use Rattle.mesh_laws.specs.Slots.{address_at, has_children, IsLive, IsPool}
+use Rattle.mesh_laws.proofs.MateLemmas.{mate_of-low}
+use Rattle.mesh_laws.proofs.IsMateLemmas.{mate_of-IsMate}
+use Rattle.mesh_laws.proofs.SlotLemmas.{has_children-set}
+use Rattle.mesh_laws.specs.Chief.{chief_of}
+use Rattle.mesh_laws.proofs.ChiefLemmas.{chief_of-low, chief_of-mate}
 
 -- all members of a split diamond have the same chief
 chief_of-same : (n : ℕ) (pairs : List ℕ) (a b : ℕ) → IsPool n pairs → 2 ≤ a → has_children pairs a ≡ true →

@@ -1,11 +1,11 @@
 //! Under which slot the entry of a diamond stands.
 
 ghost use Rattle.std.specs.Prelude.{◌≡◌, true};
-ghost use Rattle.closure_laws.specs.Diamond.{IsInDiamond};
-ghost use Rattle.edge_laws.specs.Edge.{mate_of};
-ghost use Rattle.edge_laws.specs.Slots.{IsLive, has_children};
+ghost use Rattle.mesh_laws.specs.Diamond.{IsInDiamond};
+ghost use Rattle.mesh_laws.specs.Edge.{mate_of};
+ghost use Rattle.mesh_laws.specs.Slots.{IsLive, has_children};
 ghost use Rattle.triangle_pool.specs.Answer.{triangle_at};
-ghost use Rattle.edge_laws.specs.Chief.{chief_of};
+ghost use Rattle.mesh_laws.specs.Chief.{chief_of};
 
 use bintree_addr::Slot;
 use triangle_pool::Pool;

@@ -11,5 +11,5 @@ mod queue;
 
 pub use bintree_addr::{Rank, Slot};
 pub use diamond::chief;
+pub use mesh_defs::NoMemory;
 pub use queue::MergeQueue;
-pub use roam_errors::NoMemory;

@@ -11,7 +11,7 @@ use Rattle.mesh_defs.specs.Triangle.{corners_of, IsAddress}
 use Rattle.mesh_defs.specs.Tiling.{is_within, IsConforming}
 use Rattle.bintree_laws.specs.Corners.{IsWithin, IsCounterclockwise}
 use Rattle.bintree_laws.proofs.CornerLemmas.{IsWithin-corners_of}
-use Rattle.tiling_laws.proofs.OrientationLemmas.{counterclockwise}
+use Rattle.mesh_laws.proofs.OrientationLemmas.{counterclockwise}
 use Rattle.mesh_arrays.specs.Indices.{index_of, indices_of, point_at, triangles_at, CoversOnce}
 
 -- a grid point is found at its place

@@ -2,3 +2,9 @@ pub mod IndexLemmas
 pub mod IndexLawLemmas
 pub mod ChangeLemmas
 pub mod OrderLemmas
+pub mod SlotLemmas
+pub mod ListOrderLemmas
+pub mod UnderLemmas
+pub mod ListChangeLemmas
+pub mod MarkLemmas
+pub mod PatchLemmas

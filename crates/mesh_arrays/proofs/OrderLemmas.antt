@@ -13,7 +13,7 @@ use Rattle.mesh_defs.specs.declared.level.TheConstants.{GREATEST_LEVEL}
 use Rattle.bintree_laws.proofs.LevelLemmas.{pow_next, level_of-left, level_of-right, level_of-root, level_of-below}
 use Rattle.bintree_laws.proofs.LevelLemmas.{lt-pow-level}
 use Rattle.std.proofs.lemmas.Nat.{mul-le, pow-add}
-use Rattle.tiling_laws.proofs.DescentLemmas.{IsDown, IsDown-left, IsDown-right, IsDown-2, IsDown-3, IsAddress-leaves_of}
+use Rattle.mesh_laws.proofs.DescentLemmas.{IsDown, IsDown-left, IsDown-right, IsDown-2, IsDown-3, IsAddress-leaves_of}
 use Rattle.mesh_arrays.specs.Changes.{IsTriangle, end_of, IsDepthFirst}
 
 abbrev EndsBefore : ℕ → ℕ → Type 0

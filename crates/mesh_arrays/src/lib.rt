@@ -1,15 +1,26 @@
-//! The triangles of a mesh as plain numbers in a caller's arrays, for graphics cards and other languages.
+//! A mesh as arrays: its leaves depth first, mended from mesh to mesh, and triangles as plain numbers.
 //!
-//! Indices are places of a triangle's corners in the list of heights, three for each triangle, so that one array of
-//! all grid points serves every mesh. Addresses name the triangles from mesh to mesh; `list_changes` says which of
-//! them two meshes have alone. No call takes memory, and what a mesh is is not looked at.
+//! A `LeafList` has the leaves of a pool as they stood. A patch marks the triangles that may have changed and all
+//! above them, and walks the pool from the two halves of the square down: below a triangle without a mark the leaves
+//! are copied in one piece. What went and what came is written beside it. For graphics cards and other languages
+//! triangles become indices, places of their corners in the list of heights, or addresses; `list_changes` says which
+//! two meshes have alone. Nothing here knows priorities or frames, and no call but `LeafList::new` takes memory.
 
 #![tactic(auto)]
 
 mod changes;
 mod indices;
 mod laws;
+mod list;
+mod marks;
+mod order;
+mod patch;
+mod walk;
 
+pub use bintree_addr::Tri;
 pub use changes::{Changes, list_changes};
 pub use indices::{write_addresses, write_indices};
 pub use laws::{change_laws, index_laws};
+pub use list::LeafList;
+pub use mesh_defs::NoMemory;
+pub use triangle_pool::Pool;

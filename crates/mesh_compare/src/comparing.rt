@@ -16,8 +16,8 @@ use crate::piece::match_piece;
 use crate::window::Window;
 use arrayvec::ArrayVec;
 use bintree_addr::Tri;
-use cull_marks::Planes;
-use obj_write::{LONGEST_PIECE, MeshLines, MeshView, SparseView, VertexTable};
+use obj_write::{LONGEST_PIECE, MeshLines, SparseView, VertexTable};
+use pgm_grid::Grid;
 use roam_edge::{Failed, NoMemory, Shelf};
 use std::alloc::Global;
 use thiserror::Error;
@@ -38,8 +38,7 @@ pub enum CompareFault {
 ///
 /// The answer is the first place, counted from 0, where they differ or where only one goes on, and none where they
 /// are equal. The file is read in pieces of 64 KiB at most, to its end or to the end of the piece with that place.
-/// Cost (not proved): that of `VertexTable::number`, and a few steps a byte; 64 KiB, and a little more than four
-/// bytes for each grid point.
+/// It is `compare_heights` of the heights.
 pub fn compare<F: Shelf>(
     alloc: Global,
     w: &Wedges,
@@ -69,20 +68,48 @@ pub fn compare<F: Shelf>(
     ensures opens { F.opens shelf.new ≡ F.opens shelf.old }
     ensures in_time { IsInTime (F.late shelf.old) (F.faults shelf.old) (F.late shelf.new) }
 {
-    let n = w.grid().n();
+    compare_heights(alloc, w.grid(), leaves, spacing, shelf)
+}
+
+/// The same over heights alone.
+///
+/// Cost (not proved): that of `VertexTable::number`, and a few steps a byte; 64 KiB, and a little more than four
+/// bytes for each grid point.
+pub fn compare_heights<F: Shelf>(
+    alloc: Global,
+    grid: &Grid,
+    leaves: &[Tri],
+    spacing: u32,
+    shelf: &mut F,
+) -> Result<Option<u64>, CompareFault>
+    requires levels { All (λ a. level_of a ≤ 2 * grid.now.n) leaves.now }
+    requires few { length leaves.now < 2 ^ 31 }
+    requires spacing_low { 1 ≤ spacing }
+    requires spacing_high { spacing ≤ GREATEST_SPACING }
+    requires not_ended { F.ended shelf.old ≡ false }
+    ensures place { IfOk result (λ found. FindsDifference
+        (mesh_text grid.now.n grid.now.heights spacing [] leaves.now) (F.rest shelf.old) found) }
+    ensures ended { IfOk result (λ found. found ≡ None → F.ended shelf.new ≡ true) }
+    ensures all_read { IfOk result (λ found. found ≡ None → (rest : List ℕ) → F.rest shelf.old ≡ Some rest →
+        F.rest shelf.new ≡ Some []) }
+    ensures calm { IfOk result (λ _. F.faults shelf.new ≡ F.faults shelf.old) }
+    ensures failed { result ≡ Err CompareFault.Failed → Rose (F.faults shelf.old) (F.faults shelf.new) }
+    // What was read before a failed read is a prefix of the text.
+    ensures cut { result ≡ Err CompareFault.Failed → IsReadInPart
+        (mesh_text grid.now.n grid.now.heights spacing [] leaves.now) (F.rest shelf.old) (F.rest shelf.new) }
+    ensures goes_on { result ≡ Err CompareFault.Failed → F.ended shelf.new ≡ false }
+    ensures no_memory { result ≡ Err CompareFault.NoMemory → shelf.new ≡ shelf.old }
+    ensures told { StaysTold (F.rest shelf.old) (F.rest shelf.new) }
+    ensures files { F.files shelf.new ≡ F.files shelf.old }
+    ensures opens { F.opens shelf.new ≡ F.opens shelf.old }
+    ensures in_time { IsInTime (F.late shelf.old) (F.faults shelf.old) (F.late shelf.new) }
+{
+    let n = grid.n();
     let Ok((mut window, mut table)) = room(alloc, n) else {
         return Err(CompareFault::NoMemory);
     };
     table.number(leaves, n);
-    let planes = Planes::none();
-    let mesh = MeshView {
-        wedges: w,
-        leaves,
-        numbers: table.numbers(),
-        spacing,
-        planes: &planes,
-    };
-    let lines = MeshLines::new(SparseView::by_table(mesh, &table));
+    let lines = MeshLines::new(SparseView::of_heights(grid, leaves, &table, spacing));
     match compare_lines(lines, &mut window, shelf) {
         Ok(found) => Ok(found),
         Err(Failed) => Err(CompareFault::Failed),

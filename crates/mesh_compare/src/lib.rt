@@ -11,5 +11,5 @@ mod laws;
 mod piece;
 mod window;
 
-pub use comparing::{CompareFault, compare};
+pub use comparing::{CompareFault, compare, compare_heights};
 pub use laws::difference_laws;

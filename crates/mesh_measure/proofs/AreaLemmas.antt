@@ -8,9 +8,10 @@ use Rattle.mesh_defs.specs.Triangle.{level_of, corners_of}
 use Rattle.mesh_defs.specs.Thickness.{height_of}
 use Rattle.mesh_defs.specs.BoundingBox.{point}
 use Rattle.bintree_laws.specs.Corners.{IsInSquare}
-use Rattle.tiling_laws.proofs.DescentLemmas.{IsAddress-level}
-use Rattle.deviation_laws.specs.PlaneHeight.{doubled_area, area_of, weighted, plane_height}
-use Rattle.deviation_laws.proofs.PlaneLemmas.{area_of-some}
+use Rattle.bintree_laws.proofs.WeightLemmas.{HasArea-corners_of}
+use Rattle.mesh_laws.proofs.DescentLemmas.{IsAddress-level}
+use Rattle.fit_laws.specs.PlaneHeight.{doubled_area, area_of, weighted, plane_height}
+use Rattle.fit_laws.proofs.PlaneLemmas.{area_of-some}
 use Rattle.mesh_measure.specs.declared.areas.Across.{Across}
 use Rattle.mesh_measure.specs.declared.areas.Areas.{Areas}
 use Rattle.mesh_measure.specs.declared.shape.Facet.{Facet}
@@ -79,3 +80,12 @@ pub area-some : (n : ℕ) (heights : List ℕ) (a : ℕ) (facet : Facet) → 2 �
 area-some n heights a facet low fits f is =
     let some = area_of-some n a (IsAddress-level n a low fits) in
     let same : facet.area ≡ area_of (corners_of n a) = f.area ∙ ap area_of is in omega arith
+
+-- it is a power of 2
+pub area-power : (n a : ℕ) (c : Corners) (area log_area : ℕ) → level_of a ≤ 2 * n → c ≡ corners_of n a → area ≡ area_of c →
+    log_area ≡ 2 * n - level_of a → area ≡ 2 ^ log_area
+area-power n a c area log_area fits is size at =
+    let h = HasArea-corners_of n a fits in
+    let same : area_of c ≡ area_of (corners_of n a) = ap area_of is in
+    let power : 2 ^ log_area ≡ 2 ^ (2 * n - level_of a) = ap (λ k. 2 ^ k) at in
+    omega (arith, h.area)

@@ -6,11 +6,11 @@ use Rattle.mesh_defs.specs.Triangle.{IsAddress, corners_of}
 use Rattle.mesh_defs.specs.BoundingBox.{points_of, is_in_closed, holds_point, greatest}
 use Rattle.bintree_laws.specs.Areas.{IsInRectangle}
 use Rattle.mesh_defs.proofs.PointLemmas.{greatest-le}
-use Rattle.deviation_laws.specs.PlaneHeight.{off_plane, offs_in}
+use Rattle.fit_laws.specs.PlaneHeight.{off_plane, offs_in}
 use Rattle.mesh_measure.specs.declared.shape.Bounds.{Bounds}
 use Rattle.mesh_measure.specs.Facet.{AreBounds}
 use Rattle.mesh_measure.specs.Most.{IsMost, IsInBounds}
-use Rattle.deviation_laws.proofs.PlaneLemmas.{IsInRectangle-held, held-le}
+use Rattle.fit_laws.proofs.PlaneLemmas.{IsInRectangle-held, held-le}
 
 -- a held point lies within the bounds of the corners
 pub IsInBounds-held : (n a : ℕ) (c : Corners) (bounds : Bounds) (r : Point) → IsAddress n a →

@@ -1,5 +1,5 @@
 -- The error of a triangle: how great it is by its gaps, and whether it is above a tolerance.
-use Rattle.std.proofs.Common.{◌≡◌, ℕ, ◌-◌, ◌*◌, ◌/◌, ◌^◌, ◌<◌, ◌≤◌, ◌↔◌, inl, inr, true, List, sym}
+use Rattle.std.proofs.Common.{◌≡◌, ℕ, ◌-◌, ◌*◌, ◌/◌, ◌^◌, ◌<◌, ◌≤◌, ◌↔◌, true, List, sym}
 use Rattle.std.proofs.Common.{◌∙◌, ap, subst, arith, ⊎_elim, mul-le-mul_left}
 use Rattle.std.proofs.Math.Nat.{le-div_iff_mul-le, le_of_mul-le-mul_left, mul-sub}
 use Rattle.std.proofs.lemmas.Bool.{cases_lt}
@@ -12,12 +12,12 @@ use Rattle.mesh_defs.specs.BoundingBox.{points_of, is_in_closed, holds_point, gr
 use Rattle.mesh_defs.proofs.PointLemmas.{greatest-le}
 use Rattle.bintree_laws.specs.Corners.{IsWithin}
 use Rattle.bintree_laws.proofs.CornerLemmas.{IsWithin-corners_of}
-use Rattle.deviation_laws.specs.PlaneHeight.{area_of, off_plane, offs_in, excess_at, excesses_in}
-use Rattle.deviation_laws.proofs.PlaneLemmas.{area_of-some, held-le}
+use Rattle.fit_laws.specs.PlaneHeight.{area_of, off_plane, offs_in, excess_at, excesses_in}
+use Rattle.fit_laws.proofs.PlaneLemmas.{area_of-some, held-le}
 use Rattle.mesh_measure.specs.declared.shape.Bounds.{Bounds}
 use Rattle.mesh_measure.specs.Facet.{AreBounds}
-use Rattle.mesh_measure.specs.Most.{gap_of, gap_beyond, IsMost, IsMostUntil, IsMostReached, IsInBounds}
-use Rattle.mesh_measure.proofs.GapLemmas.{off_plane-gap, IsMost-off_plane}
+use Rattle.mesh_measure.specs.Most.{gap_of, gap_beyond, IsMostUntil, IsMostReached, IsInBounds}
+use Rattle.mesh_measure.proofs.GapLemmas.{off_plane-gap}
 use Rattle.mesh_measure.proofs.BoxLemmas.{IsInBounds-held, greatest-most}
 
 -- ---- bounds
@@ -31,20 +31,6 @@ bounds-in_grid n a c bounds is b =
     let high = b.high in (omega arith, omega arith)
 
 -- ---- the error by the gaps
-
--- the greatest gap, times 2^n over twice the area
-pub error-most : (n : ℕ) (heights : List ℕ) (a : ℕ) (c : Corners) (bounds : Bounds) (m area limit most : ℕ) →
-    IsAddress n a → c ≡ corners_of n a →
-    AreBounds c bounds → m ≡ 2 ^ n → area ≡ area_of c → most ≤ limit →
-    IsMostUntil (IsInBounds c bounds) (gap_of c (height_of n heights)) limit most →
-    m * most / area ≡ greatest (offs_in n heights a)
-error-most n heights a c bounds m area limit most address is b side size few h =
-    let whole : IsMost (IsInBounds c bounds) (gap_of c (height_of n heights)) most =
-    record { bound = h.bound few; reached = h.reached } in
-    let gaps : IsMost (IsInBounds c bounds) (gap_of (corners_of n a) (height_of n heights)) most =
-    subst (λ d. IsMost (IsInBounds c bounds) (gap_of d (height_of n heights)) most) is whole in
-    greatest-most n heights a c bounds (m * most / area) address is b
-    (IsMost-off_plane n heights a (IsInBounds c bounds) m area most address side (size ∙ ap area_of is) gaps)
 
 -- a gap is at most a part of the tolerance exactly where the surface is at most the tolerance off
 gap-iff : (n : ℕ) (heights : List ℕ) (a tolerance : ℕ) (r : Point) → IsAddress n a →
@@ -85,32 +71,26 @@ error-above n heights a tolerance limit most c address is at above reached = ⊎
     (cases_lt tolerance off))
     reached
 
--- the gap that was found says whether the error is above the tolerance
-pub error-iff : (n : ℕ) (heights : List ℕ) (a tolerance limit most : ℕ) (c : Corners) (bounds : Bounds) →
-    IsAddress n a → c ≡ corners_of n a →
-    AreBounds c bounds → limit ≡ area_of c * tolerance / 2 ^ n →
-    IsMostUntil (IsInBounds c bounds) (gap_of c (height_of n heights)) limit most →
-    (limit < most) ↔ (tolerance < greatest (offs_in n heights a))
-error-iff n heights a tolerance limit most c bounds address is b at h = (
-  λ above. error-above n heights a tolerance limit most c address is at above (⊎_elim
-      (λ none. inl none)
-      (λ (s : (r : Point) × IsInBounds c bounds r × (gap_of c (height_of n heights) r ≡ most)).
-      inr (s.0, s.1.held, s.2))
-      h.reached),
+-- the distance that was found says whether the error is above the tolerance
+pub off-iff : (n : ℕ) (heights : List ℕ) (a tolerance most : ℕ) (c : Corners) (bounds : Bounds) → IsAddress n a →
+    c ≡ corners_of n a → AreBounds c bounds →
+    IsMostUntil (IsInBounds c bounds) (off_plane n heights a) tolerance most →
+    (tolerance < most) ↔ (tolerance < greatest (offs_in n heights a))
+off-iff n heights a tolerance most c bounds address is b h = (
   λ above. ⊎_elim
-      (λ (less : limit < most). less)
-      (λ (fits : most ≤ limit).
-      let few : greatest (offs_in n heights a) ≤ tolerance =
-      greatest-le tolerance (off_plane n heights a) (holds_point n a)
-      (λ r held.
-      let inside : is_in_closed c r ≡ true = subst (λ d. is_in_closed d r ≡ true) (sym is) held in
-      let gap : gap_of c (height_of n heights) r ≤ most =
-      h.bound fits r (IsInBounds-held n a c bounds r address is b inside) in
-      let le : gap_of c (height_of n heights) r ≤ area_of c * tolerance / 2 ^ n = omega arith in
-      (gap-iff n heights a tolerance r address).0
-      (subst (λ d. gap_of d (height_of n heights) r ≤ area_of d * tolerance / 2 ^ n) is le)) (points_of n) in
+      (λ none. absurd (omega arith))
+      (λ (s : (r : Point) × IsInBounds c bounds r × (off_plane n heights a r ≡ most)).
+      let held : holds_point n a s.0 ≡ true = subst (λ d. is_in_closed d s.0 ≡ true) is s.1.held in
+      let le = held-le (off_plane n heights a) n a s.0 address held in
+      let same = s.2 in
+      omega arith)
+      h.reached,
+  λ above. ⊎_elim
+      (λ (less : tolerance < most). less)
+      (λ (fits : most ≤ tolerance).
+      let same = greatest-most n heights a c bounds most address is b record { bound = h.bound fits; reached = h.reached } in
       absurd (omega arith))
-      (cases_lt limit most),
+      (cases_lt tolerance most),
 )
 
 -- ---- the excess by the gaps

@@ -5,3 +5,4 @@ pub mod ErrorLemmas
 pub mod GapLemmas
 pub mod LineLemmas
 pub mod MostLemmas
+pub mod RowLemmas

@@ -4,8 +4,8 @@ use Rattle.mesh_defs.specs.declared.point.Point.{Point}
 use Rattle.mesh_defs.specs.declared.point.Corners.{Corners}
 use Rattle.mesh_defs.specs.BoundingBox.{point, is_left_or_on}
 use Rattle.std.proofs.lemmas.Bool.{leb-true}
-use Rattle.deviation_laws.specs.PlaneHeight.{doubled_area}
-use Rattle.deviation_laws.proofs.PlaneLemmas.{left_or_on-held}
+use Rattle.fit_laws.specs.PlaneHeight.{doubled_area}
+use Rattle.fit_laws.proofs.PlaneLemmas.{left_or_on-held}
 use Rattle.mesh_measure.specs.declared.areas.Across.{Across}
 use Rattle.mesh_measure.specs.declared.areas.Areas.{Areas}
 use Rattle.mesh_measure.specs.declared.line.Line.{Line}

@@ -5,7 +5,7 @@ use Rattle.std.proofs.lemmas.Bool.{cases_lt}
 use Rattle.mesh_defs.specs.declared.point.Point.{Point}
 use Rattle.mesh_defs.specs.declared.point.Corners.{Corners}
 use Rattle.mesh_defs.specs.BoundingBox.{point, is_in_closed}
-use Rattle.deviation_laws.specs.PlaneHeight.{area_of}
+use Rattle.fit_laws.specs.PlaneHeight.{area_of}
 use Rattle.mesh_measure.specs.declared.columns.Columns.{Columns}
 use Rattle.mesh_measure.specs.declared.line.Line.{Line}
 use Rattle.mesh_measure.specs.declared.shape.Bounds.{Bounds}
@@ -86,20 +86,7 @@ gap-along c f y from area k line heights size lined height inside =
     ap₂ (λ i j. i * j) size height in
     omega arith
 
--- so along a row the greatest gap
-pub IsMost-gaps : (c : Corners) (f : Point → ℕ) (y left right area : ℕ) (row : HeldRow) (heights : List ℕ) (most : ℕ) →
-    area ≡ area_of c → IsHeldRow c f y left right row → length heights ≡ row.columns.end - row.columns.from →
-    ((k : ℕ) → k < length heights → slice_index heights k ≡ f (point (row.columns.from + k) y)) →
-    IsGreatestAlong (length heights) (gap_on area row.line heights) most →
-    IsMost (IsInRow c y left (right + 1)) (gap_of c f) most
-IsMost-gaps c f y left right area row heights most size h count there greatest =
-    let ordered = h.ordered in
-    IsMost-along c (gap_of c f) y left right (length heights) row.columns (gap_on area row.line heights) most
-    (omega arith) count h.held
-    (λ k below inside. gap-along c f y row.columns.from area k row.line heights size h.lined (there k below) inside)
-    greatest
-
--- and the greatest beyond the points' own tolerances
+-- so along a row the greatest beyond the points' own tolerances
 pub IsMost-excesses : (c : Corners) (f t : Point → ℕ) (y left right area m side : ℕ) (row : HeldRow)
     (heights tolerances : List ℕ) (most : ℕ) →
     area ≡ area_of c → side ≡ m → IsHeldRow c f y left right row →

@@ -3,7 +3,7 @@
 use Rattle.std.specs.Prelude.{◌≡◌, ℕ, ◌^◌, ◌<◌, ◌≤◌, true, List}
 use Rattle.mesh_defs.specs.declared.point.Point.{Point}
 use Rattle.mesh_defs.specs.BoundingBox.{holds_point}
-use Rattle.deviation_laws.specs.PlaneHeight.{off_plane}
+use Rattle.fit_laws.specs.PlaneHeight.{off_plane}
 
 -- r is a point of the grid that triangle a holds, where the surface is farther from its plane than the tolerance
 pub record IsAbove (n : ℕ) (heights : List ℕ) (a tolerance : ℕ) (r : Point) : Type 0 where

@@ -6,11 +6,12 @@ use Rattle.mesh_defs.specs.Thickness.{height_of}
 use Rattle.mesh_defs.specs.BoundingBox.{least_of_3, greatest_of_3}
 use Rattle.mesh_defs.specs.declared.level.TheConstants.{GREATEST_LEVEL}
 use Rattle.bintree_laws.specs.Corners.{IsWithin}
-use Rattle.deviation_laws.specs.PlaneHeight.{area_of}
+use Rattle.fit_laws.specs.PlaneHeight.{area_of}
 use Rattle.mesh_measure.specs.declared.shape.Facet.{Facet}
 use Rattle.mesh_measure.specs.declared.shape.Bounds.{Bounds}
 
--- its corners lie in a grid of at most the largest side, its heights are those at its corners, and its area is theirs
+-- its corners lie in a grid of at most the largest side, its heights are those at its corners, and its area is theirs,
+-- a power of 2
 pub record IsFacet (n : ℕ) (heights : List ℕ) (facet : Facet) : Type 0 where
   pub in_grid : n ≤ GREATEST_LEVEL
   pub within : IsWithin (2 ^ GREATEST_LEVEL) facet.corners
@@ -19,6 +20,8 @@ pub record IsFacet (n : ℕ) (heights : List ℕ) (facet : Facet) : Type 0 where
   pub v1 : facet.v1 ≡ height_of n heights facet.corners.v1
   pub area : facet.area ≡ area_of facet.corners
   pub small : facet.area ≤ 12582912
+  pub power : facet.area ≡ 2 ^ facet.log_area
+  pub few : facet.log_area ≤ 22
 
 -- the least and greatest coordinates of the corners
 pub record AreBounds (c : Corners) (bounds : Bounds) : Type 0 where

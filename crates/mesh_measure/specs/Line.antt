@@ -1,11 +1,11 @@
 -- The plane of a triangle along a row.
--- Words: high_on, low_on, AreHeights, IsRowLineOf, IsLineFrom, gap_on, excess_on.
-use Rattle.std.specs.Prelude.{◌≡◌, ℕ, ◌+◌, ◌-◌, ◌*◌, List, slice_index, true}
+-- Words: high_on, low_on, AreHeights, IsRowLineOf, IsLineFrom, gap_on, excess_on, off_on.
+use Rattle.std.specs.Prelude.{◌≡◌, ℕ, ◌+◌, ◌-◌, ◌*◌, ◌^◌, ◌%◌, List, slice_index, true}
 use Rattle.mesh_defs.specs.declared.point.Point.{Point}
 use Rattle.mesh_defs.specs.declared.point.Corners.{Corners}
 use Rattle.mesh_defs.specs.Thickness.{apart}
 use Rattle.mesh_defs.specs.BoundingBox.{point, is_in_closed}
-use Rattle.deviation_laws.specs.PlaneHeight.{weighted}
+use Rattle.fit_laws.specs.PlaneHeight.{weighted}
 use Rattle.mesh_measure.specs.declared.shape.Facet.{Facet}
 use Rattle.mesh_measure.specs.declared.line.Line.{Line}
 
@@ -41,3 +41,7 @@ gap_on area line heights k = apart (area * slice_index heights k + low_on line k
 abbrev pub excess_on : ℕ → ℕ → Line → List ℕ → List ℕ → ℕ → ℕ
 excess_on area side line heights tolerances k =
     side * gap_on area line heights k - area * slice_index tolerances k
+
+-- how far 2 ^ n times a height is from a plane, so many columns on: the plane rises by a step a column, modulo 2 ^ 32
+abbrev pub off_on : ℕ → ℕ → ℕ → List ℕ → ℕ → ℕ
+off_on n at step heights k = apart (2 ^ n * slice_index heights k) ((at + k * step) % 2 ^ 32)

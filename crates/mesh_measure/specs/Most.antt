@@ -6,7 +6,7 @@ use Rattle.mesh_defs.specs.declared.point.Corners.{Corners}
 use Rattle.mesh_defs.specs.Thickness.{apart}
 use Rattle.mesh_defs.specs.BoundingBox.{is_in_closed}
 use Rattle.mesh_measure.specs.declared.shape.Bounds.{Bounds}
-use Rattle.deviation_laws.specs.PlaneHeight.{area_of, weighted}
+use Rattle.fit_laws.specs.PlaneHeight.{area_of, weighted}
 
 -- how far f at r is from the plane through its values at the corners, times twice the area
 abbrev pub gap_of : Corners → (Point → ℕ) → Point → ℕ

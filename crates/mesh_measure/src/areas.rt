@@ -27,6 +27,7 @@ impl Across {
     ghost use Rattle.mesh_measure.specs.Columns.{IsColumn};
 
     /// Of the edge from p to q.
+    #[inline(always)]
     pub(crate) fn of(r: Point, p: Point, q: Point) -> Self
         requires r_in_grid { IsInSquare (2 ^ GREATEST_LEVEL) r }
         requires p_in_grid { IsInSquare (2 ^ GREATEST_LEVEL) p }
@@ -53,6 +54,7 @@ impl Across {
     /// point this is.
     ///
     /// A column farther right adds p.y to the first sum and q.y to the second.
+    #[inline(always)]
     fn narrowed(self, p: Point, q: Point, columns: Columns) -> Columns
         requires high { self.high ≤ 12582912 }
         requires low { self.low ≤ 12582912 }
@@ -102,6 +104,7 @@ impl Areas {
     ghost use Rattle.mesh_measure.specs.Columns.{IsColumn};
 
     /// At a point.
+    #[inline(always)]
     pub(crate) fn of(corners: Corners, r: Point) -> Self
         requires in_grid { IsWithin (2 ^ GREATEST_LEVEL) corners }
         requires point_in_grid { IsInSquare (2 ^ GREATEST_LEVEL) r }
@@ -124,6 +127,7 @@ impl Areas {
     }
 
     /// Of these columns, those whose points the triangle holds, in the row of whose first point these are.
+    #[inline(always)]
     pub(crate) fn held(self, corners: Corners, columns: Columns) -> Columns
         requires in_grid { IsWithin (2 ^ GREATEST_LEVEL) corners }
         requires small { AreSmall self }

@@ -3,7 +3,7 @@
 ghost use Rattle.std.specs.Prelude.{◌≡◌, ℕ, ◌+◌, ◌*◌, ◌^◌, ◌<◌, ◌≤◌, ◌↔◌, IsSome, IsTrue, IfSome, IfNone, true};
 ghost use Rattle.mesh_defs.specs.Triangle.{level_of};
 ghost use Rattle.mesh_defs.specs.BoundingBox.{point, holds_point, greatest};
-ghost use Rattle.deviation_laws.specs.PlaneHeight.{off_plane, offs_in};
+ghost use Rattle.fit_laws.specs.PlaneHeight.{off_plane, offs_in};
 ghost use Rattle.mesh_measure.specs.Above.{IsAbove};
 
 use crate::areas::Areas;

@@ -4,7 +4,7 @@ ghost use Rattle.std.specs.Prelude.{◌≡◌, ◌+◌, ◌-◌, ◌*◌, ◌^�
 ghost use Rattle.mesh_defs.specs.Triangle.{level_of, corners_of};
 ghost use Rattle.mesh_defs.specs.BoundingBox.{point, holds_point, least_of_3, greatest_of_3};
 ghost use Rattle.mesh_defs.specs.declared.level.TheConstants.{GREATEST_LEVEL};
-ghost use Rattle.deviation_laws.specs.PlaneHeight.{plane_height};
+ghost use Rattle.fit_laws.specs.PlaneHeight.{plane_height};
 ghost use Rattle.mesh_measure.specs.Areas.{AreSmall, sum_of_weighted};
 ghost use Rattle.mesh_measure.specs.Facet.{IsFacet, AreBounds};
 
@@ -27,6 +27,7 @@ pub(crate) fn facet_of(grid: &Grid, t: Tri) -> Facet
         v0: grid.height(corners.v0.x, corners.v0.y),
         v1: grid.height(corners.v1.x, corners.v1.y),
         area: u64::from(Across::of(corners.apex, corners.v0, corners.v1).area()),
+        log_area: 2 * grid.n() - t.level(),
     }
 }
 

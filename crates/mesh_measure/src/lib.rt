@@ -2,7 +2,7 @@
 //!
 //! Each grid point is held against the plane of the triangle that holds it, row by row. The areas between the first
 //! point of a row and the edges tell which columns the triangle holds, by a division an edge; along them the plane
-//! runs by sums alone. What a deviation is, and that thickness bounds it, stands in `deviation_laws`.
+//! runs by sums alone. What a deviation is, and that thickness bounds it, stands in `fit_laws`.
 
 #![tactic(auto)]
 

@@ -1,13 +1,13 @@
 //! The plane of a triangle along a row, and how far a row of heights is from it.
 
-ghost use Rattle.std.specs.Prelude.{◌≡◌, ◌+◌, ◌*◌, ◌^◌, ◌≤◌, ℕ, length, max};
+ghost use Rattle.std.specs.Prelude.{◌≡◌, ◌+◌, ◌-◌, ◌*◌, ◌/◌, ◌^◌, ◌<◌, ◌≤◌, ℕ, length, max};
 ghost use Rattle.mesh_defs.specs.declared.point.Point.{Point};
 ghost use Rattle.mesh_defs.specs.declared.level.TheConstants.{GREATEST_LEVEL};
 ghost use Rattle.mesh_defs.specs.BoundingBox.{point};
 ghost use Rattle.bintree_laws.specs.Corners.{IsWithin};
 ghost use Rattle.mesh_measure.specs.Areas.{AreAcross, AreSmall};
 ghost use Rattle.mesh_measure.specs.Columns.{IsGreatestAlong};
-ghost use Rattle.mesh_measure.specs.Line.{high_on, low_on, AreHeights, IsRowLineOf, gap_on, excess_on};
+ghost use Rattle.mesh_measure.specs.Line.{high_on, low_on, AreHeights, IsRowLineOf, excess_on, off_on};
 
 use crate::areas::Areas;
 use crate::shape::Facet;
@@ -23,6 +23,7 @@ pub(crate) struct Line {
 }
 
 /// The line of a triangle in the row of whose first point these areas are, from column 0 on.
+#[inline(always)]
 pub(crate) fn line_of(facet: Facet, areas: Areas) -> Line
     requires in_grid { IsWithin (2 ^ GREATEST_LEVEL) facet.corners }
     requires small { AreSmall areas }
@@ -44,6 +45,7 @@ pub(crate) fn line_of(facet: Facet, areas: Areas) -> Line
 }
 
 /// The heights at the corners, each as often as it says here.
+#[inline(always)]
 fn weigh(facet: Facet, apex: u32, v0: u32, v1: u32) -> u64
     ensures value { result ≡ apex * facet.apex + v0 * facet.v0 + v1 * facet.v1 }
     ensures small { (most : ℕ) → apex ≤ most → v0 ≤ most → v1 ≤ most → result ≤ 196608 * most }
@@ -54,6 +56,7 @@ fn weigh(facet: Facet, apex: u32, v0: u32, v1: u32) -> u64
 }
 
 /// The line from a column farther right on.
+#[inline(always)]
 pub(crate) fn line_from(line: Line, x: u32) -> Line
     requires high { high_on line x ≤ 4398046511104 }
     requires low { low_on line x ≤ 4398046511104 }
@@ -70,23 +73,42 @@ pub(crate) fn line_from(line: Line, x: u32) -> Line
     }
 }
 
-/// How far the heights, times twice the area, are from the line at most, a column each.
-pub(crate) fn greatest_gap(heights: &[u16], area: u64, line: Line) -> u64
-    requires area { area ≤ 12582912 }
-    requires high { high_on line (length heights.now) ≤ 4398046511104 }
-    requires low { low_on line (length heights.now) ≤ 4398046511104 }
-    ensures greatest { IsGreatestAlong (length heights.now) (gap_on area line heights.now) result }
-    ensures small { result ≤ 8796093022208 }
+/// The height of the plane at the first column of the line, times 2^n.
+#[inline(always)]
+pub(crate) fn height_on(line: Line, n: u32, log_area: u32) -> u32
+    requires in_grid { n ≤ GREATEST_LEVEL }
+    requires area { log_area ≤ 22 }
+    requires held { line.low ≤ line.high }
+    requires small { line.high ≤ 4398046511104 }
+    requires fits { 2 ^ n * (line.high - line.low) / 2 ^ log_area < 2 ^ 32 }
+    ensures { result ≡ 2 ^ n * (line.high - line.low) / 2 ^ log_area }
 {
-    let mut high = line.high;
-    let mut low = line.low;
+    (((line.high - line.low) << n) >> log_area) as u32
+}
+
+/// How far the heights, times 2^n, are from a plane at most, a column each: the plane rises by a step a column, modulo
+/// 2^32.
+///
+/// Without products, so that a compiler takes several columns at a time.
+#[inline(always)]
+pub(crate) fn greatest_off(heights: &[u16], n: u32, at: u32, step: u32) -> u32
+    requires in_grid { n ≤ GREATEST_LEVEL }
+    ensures { IsGreatestAlong (length heights.now) (off_on n at step heights.now) result }
+{
+    let mut plane = at;
     let mut most = 0;
     for h in heights {
-        most = greater(most, (area * u64::from(*h) + low).abs_diff(high));
-        high += line.rise;
-        low += line.fall;
+        most = farther(most, (u32::from(*h) << n).abs_diff(plane));
+        plane = plane.wrapping_add(step);
     }
     most
+}
+
+/// The greater of two distances.
+pub(crate) fn farther(i: u32, j: u32) -> u32
+    ensures { result ≡ max i j }
+{
+    i.max(j)
 }
 
 /// How far the heights are from the line at most, a column each, beyond their own tolerances: the side times the gap,

@@ -2,7 +2,7 @@
 
 ghost use Rattle.std.specs.Prelude.{◌≡◌, ◌*◌, ◌^◌, ◌≤◌, ℕ, Bool, max};
 ghost use Rattle.mesh_defs.specs.ClosedSet.{IsClosed, leaves_of};
-ghost use Rattle.deviation_laws.specs.PlaneHeight.{deviation_of, thickest_of};
+ghost use Rattle.fit_laws.specs.PlaneHeight.{deviation_of, thickest_of};
 
 use crate::line::greater;
 use crate::points::off_triangle;

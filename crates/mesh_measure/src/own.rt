@@ -5,7 +5,7 @@ ghost use Rattle.mesh_defs.specs.Triangle.{level_of};
 ghost use Rattle.mesh_defs.specs.HeightField.{height_at, side_of};
 ghost use Rattle.mesh_defs.specs.Thickness.{height_of};
 ghost use Rattle.mesh_defs.specs.BoundingBox.{greatest};
-ghost use Rattle.deviation_laws.specs.PlaneHeight.{excesses_in};
+ghost use Rattle.fit_laws.specs.PlaneHeight.{excesses_in};
 ghost use Rattle.mesh_measure.specs.Facet.{IsFacet};
 ghost use Rattle.mesh_measure.specs.Most.{gap_beyond, IsMost, IsMostUntil, IsInRow, IsInBounds};
 

@@ -1,23 +1,25 @@
 //! How far the surface is from a triangle's plane, over all grid points of the triangle.
 
-ghost use Rattle.std.specs.Prelude.{◌≡◌, ◌+◌, ◌-◌, ◌*◌, ◌^◌, ◌<◌, ◌≤◌, ◌⊎◌, ◌↔◌, ℕ, IsTrue, IfSome, IfNone, true};
+ghost use Rattle.std.specs.Prelude.{◌≡◌, ◌+◌, ◌-◌, ◌*◌, ◌/◌, ◌%◌, ◌^◌, ◌<◌, ◌≤◌, ◌⊎◌, ◌↔◌, ℕ, IsTrue, IfSome, IfNone, true};
 ghost use Rattle.std.specs.Prelude.{length, slice_index};
 ghost use Rattle.mesh_defs.specs.declared.point.Point.{Point};
-ghost use Rattle.mesh_defs.specs.Triangle.{level_of};
+ghost use Rattle.mesh_defs.specs.Triangle.{level_of, corners_of};
 ghost use Rattle.mesh_defs.specs.HeightField.{height_at};
 ghost use Rattle.mesh_defs.specs.Thickness.{height_of};
 ghost use Rattle.mesh_defs.specs.BoundingBox.{point, greatest};
-ghost use Rattle.deviation_laws.specs.PlaneHeight.{offs_in};
+ghost use Rattle.fit_laws.specs.PlaneHeight.{off_plane, offs_in};
 ghost use Rattle.bintree_laws.specs.Corners.{IsWithin};
 ghost use Rattle.mesh_measure.specs.Areas.{AreAcross, AreSmall};
 ghost use Rattle.mesh_measure.specs.Facet.{IsFacet};
 ghost use Rattle.mesh_measure.specs.Most.{gap_of, IsMost, IsMostUntil, IsInRow, IsInBounds, IsMostReached};
+ghost use Rattle.mesh_measure.specs.Line.{high_on, low_on};
 ghost use Rattle.mesh_measure.specs.Row.{IsHeldRow};
+ghost use Rattle.mesh_defs.specs.declared.level.TheConstants.{GREATEST_LEVEL};
 
 use crate::areas::Areas;
 use crate::columns::Columns;
 use crate::facet::{bounds_of, facet_of, side, weighted};
-use crate::line::{greater, greatest_gap, line_from, line_of};
+use crate::line::{farther, greatest_off, height_on, line_from, line_of};
 use crate::shape::{Bounds, Facet, HeldRow};
 use bintree_addr::{Point, Tri};
 use pgm_grid::Grid;
@@ -55,6 +57,7 @@ fn middle_gap(grid: &Grid, facet: Facet) -> u64
 }
 
 /// The heights of these columns of a row.
+#[inline(always)]
 pub(crate) fn row_of(grid: &Grid, y: u32, columns: Columns) -> &[u16]
     requires y_in_grid { y ≤ 2 ^ grid.now.n }
     requires ordered { columns.from ≤ columns.end }
@@ -69,6 +72,7 @@ pub(crate) fn row_of(grid: &Grid, y: u32, columns: Columns) -> &[u16]
 }
 
 /// What the triangle holds of a row, from column `left` to column `right`; none where that is nothing.
+#[inline(always)]
 pub(crate) fn held_row(grid: &Grid, facet: Facet, y: u32, left: u32, right: u32) -> Option<HeldRow>
     requires y_in_grid { y ≤ 2 ^ grid.now.n }
     requires right_in_grid { right ≤ 2 ^ grid.now.n }
@@ -91,34 +95,62 @@ pub(crate) fn held_row(grid: &Grid, facet: Facet, y: u32, left: u32, right: u32)
     Some(HeldRow { columns, line })
 }
 
-/// The greatest gap in a row, from column `left` to column `right`.
-fn row_gap(grid: &Grid, facet: Facet, y: u32, left: u32, right: u32) -> u64
+/// By how much the plane rises from the first column, where it is `at`, to the second, modulo 2^32; where there is one
+/// column alone this is of no use.
+#[inline(always)]
+fn step_from(row: HeldRow, at: u32, n: u32, log_area: u32) -> u32
+    requires in_grid { n ≤ GREATEST_LEVEL }
+    requires area { log_area ≤ 22 }
+    requires ordered { row.columns.from ≤ row.columns.end }
+    requires high { high_on row.line (row.columns.end - row.columns.from) ≤ 4398046511104 }
+    requires low { low_on row.line (row.columns.end - row.columns.from) ≤ 4398046511104 }
+    requires held { row.columns.from + 1 < row.columns.end → low_on row.line 1 ≤ high_on row.line 1 }
+    requires fits { row.columns.from + 1 < row.columns.end →
+        2 ^ n * (high_on row.line 1 - low_on row.line 1) / 2 ^ log_area < 2 ^ 32 }
+    ensures { row.columns.from + 1 < row.columns.end → result
+        ≡ (2 ^ n * (high_on row.line 1 - low_on row.line 1) / 2 ^ log_area + (2 ^ 32 - at)) % 2 ^ 32 }
+{
+    if row.columns.end - row.columns.from < 2 {
+        return 0;
+    }
+    height_on(line_from(row.line, 1), n, log_area).wrapping_sub(at)
+}
+
+/// How far the surface is from the triangle's plane at most in a row, from column `left` to column `right`.
+#[inline(always)]
+fn row_off(grid: &Grid, facet: Facet, t: Tri, y: u32, left: u32, right: u32) -> u32
+    requires level { level_of t ≤ 2 * grid.now.n }
     requires y_in_grid { y ≤ 2 ^ grid.now.n }
     requires right_in_grid { right ≤ 2 ^ grid.now.n }
     requires facet { IsFacet grid.now.n grid.now.heights facet }
-    ensures most { IsMost (IsInRow facet.corners y left (right + 1))
-        (gap_of facet.corners (height_of grid.now.n grid.now.heights)) result }
-    ensures small { result ≤ 8796093022208 }
+    requires corners { facet.corners ≡ corners_of grid.now.n t }
+    ensures { IsMost (IsInRow facet.corners y left (right + 1)) (off_plane grid.now.n grid.now.heights t) result }
 {
+    let _address = t.number();
     match held_row(grid, facet, y, left, right) {
         None => 0,
-        Some(row) => greatest_gap(row_of(grid, y, row.columns), facet.area, row.line),
+        Some(row) => {
+            let n = grid.n();
+            let at = height_on(row.line, n, facet.log_area);
+            let step = step_from(row, at, n, facet.log_area);
+            greatest_off(row_of(grid, y, row.columns), n, at, step)
+        }
     }
 }
 
-/// The greatest gap of the triangle, or the first one found that is above the limit.
-fn most_until(grid: &Grid, facet: Facet, bounds: Bounds, limit: u64) -> u64
+/// How far the surface is from the triangle's plane at most, or in the first row that shows it to be above the limit.
+fn most_until(grid: &Grid, facet: Facet, t: Tri, bounds: Bounds, limit: u32) -> u32
+    requires level { level_of t ≤ 2 * grid.now.n }
     requires facet { IsFacet grid.now.n grid.now.heights facet }
+    requires corners { facet.corners ≡ corners_of grid.now.n t }
     requires right_in_grid { bounds.right ≤ 2 ^ grid.now.n }
     requires high_in_grid { bounds.high ≤ 2 ^ grid.now.n }
     requires ordered { bounds.low ≤ bounds.high }
-    ensures most { IsMostUntil (IsInBounds facet.corners bounds)
-        (gap_of facet.corners (height_of grid.now.n grid.now.heights)) limit result }
-    ensures small { result ≤ 8796093022208 }
+    ensures { IsMostUntil (IsInBounds facet.corners bounds) (off_plane grid.now.n grid.now.heights t) limit result }
 {
     let mut most = 0;
     for y in bounds.low..bounds.high + 1 {
-        most = greater(most, row_gap(grid, facet, y, bounds.left, bounds.right));
+        most = farther(most, row_off(grid, facet, t, y, bounds.left, bounds.right));
         if most > limit {
             return most;
         }
@@ -137,8 +169,7 @@ pub fn off_triangle(grid: &Grid, t: Tri) -> u32
 {
     let _address = t.number();
     let facet = facet_of(grid, t);
-    let most = most_until(grid, facet, bounds_of(facet.corners), u64::MAX);
-    (side(grid.n()) * most / facet.area) as u32
+    most_until(grid, facet, t, bounds_of(facet.corners), u32::MAX)
 }
 
 /// Whether a triangle's error is above the tolerance, in units of height, times 2^n.
@@ -153,5 +184,5 @@ pub fn exceeds(grid: &Grid, t: Tri, tolerance: u32) -> bool
     let facet = facet_of(grid, t);
     let limit = facet.area * u64::from(tolerance) / side(grid.n());
     middle_gap(grid, facet) > limit
-        || most_until(grid, facet, bounds_of(facet.corners), limit) > limit
+        || most_until(grid, facet, t, bounds_of(facet.corners), tolerance) > tolerance
 }

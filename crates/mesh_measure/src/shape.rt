@@ -4,7 +4,7 @@ use crate::columns::Columns;
 use crate::line::Line;
 use bintree_addr::Corners;
 
-/// The corners of a triangle, the heights there, and twice its area.
+/// The corners of a triangle, the heights there, and twice its area, which is 2 to the power `log_area`.
 #[derive(Clone, Copy)]
 pub(crate) struct Facet {
     pub(crate) corners: Corners,
@@ -12,6 +12,7 @@ pub(crate) struct Facet {
     pub(crate) v0: u16,
     pub(crate) v1: u16,
     pub(crate) area: u64,
+    pub(crate) log_area: u32,
 }
 
 /// The least and greatest column and row of a triangle's corners.

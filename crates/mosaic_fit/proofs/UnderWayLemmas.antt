@@ -14,25 +14,26 @@ use Rattle.mesh_defs.specs.ClosedSet.{leaves_of, among}
 use Rattle.mesh_defs.proofs.ListLemmas.{Any-in, Contains-in}
 use Rattle.bintree_laws.proofs.LevelLemmas.{level-le}
 use Rattle.bintree_laws.proofs.LatticeLemmas.{same_point}
-use Rattle.tiling_laws.specs.Ancestors.{ancestors_of}
-use Rattle.tiling_laws.proofs.ConverseLemmas.{IsClosed-ancestors_of}
-use Rattle.closure_laws.proofs.LeafLemmas.{leaves-most}
+use Rattle.mesh_laws.specs.Ancestors.{ancestors_of}
+use Rattle.mesh_laws.proofs.ConverseLemmas.{IsClosed-ancestors_of}
+use Rattle.mesh_laws.proofs.LeafLemmas.{leaves-most}
 use Rattle.fit_laws.specs.Error.{error_of}
-use Rattle.required_laws.specs.Required.{IsLeastMeshWith, IsLeastSettledWith}
-use Rattle.required_laws.proofs.RequiredLemmas.{mesh-with, with-more, with-grown}
-use Rattle.tile_laws.specs.Tile.{IsTile}
-use Rattle.tile_laws.specs.Glue.{splits_of}
-use Rattle.tile_laws.specs.Mirror.{mirrored, turned_over, IsBeyond}
-use Rattle.tile_laws.proofs.ClosedLemmas.{cases_point}
-use Rattle.tile_laws.proofs.MirrorLemmas.{mirrored-corners}
-use Rattle.tile_laws.proofs.JoinLemmas.{number-small, joined-grown, joined-most}
+use Rattle.fit_laws.specs.Required.{IsLeastMeshWith, IsLeastSettledWith}
+use Rattle.fit_laws.proofs.RequiredLemmas.{mesh-with, with-more, with-grown}
+use Rattle.mosaic_laws.specs.Tile.{IsTile}
+use Rattle.mosaic_laws.specs.Glue.{splits_of}
+use Rattle.mosaic_laws.specs.Mirror.{mirrored, turned_over, IsBeyond}
+use Rattle.mosaic_laws.proofs.ClosedLemmas.{cases_point}
+use Rattle.mosaic_laws.proofs.MirrorLemmas.{mirrored-corners}
+use Rattle.mosaic_laws.proofs.JoinLemmas.{number-small, joined-grown, joined-most}
 use Rattle.mosaic_laws.specs.Rounds.{tile_error, IsAsked, IsRedone, IsReachedIn, IsRunning, IsSettledDown}
 use Rattle.mosaic_laws.specs.Terrain.{terrain_error}
 use Rattle.mosaic_laws.specs.Mosaic.{IsLeastMosaic}
 use Rattle.mosaic_laws.proofs.NeighbourLemmas.{beyond-asked, down-from}
 use Rattle.mosaic_laws.proofs.TerrainLemmas.{terrain-mesh, terrain-mosaic}
-use Rattle.mosaic_rounds.specs.Rounds.{RoundsState, splits, IsKept, Lacks}
-use Rattle.mosaic_fit.specs.UnderWay.{IsAskedIn, IsFitted, IsUnderWay}
+use Rattle.mosaic_rounds.specs.Rounds.{RoundsState, splits, IsAskedIn, Lacks}
+use Rattle.mosaic_rounds.specs.BorderPoints.{IsKept}
+use Rattle.mosaic_fit.specs.UnderWay.{IsFitted, IsUnderWay}
 
 -- one tile's value in the place of another
 

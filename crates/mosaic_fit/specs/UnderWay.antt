@@ -1,25 +1,18 @@
 -- What a loop over tiles has, when some of them were fitted, once or more. This project's own form.
--- Words: IsAskedIn, IsFitted, IsUnderWay.
+-- Words: IsFitted, IsUnderWay.
 use Rattle.std.specs.Prelude.{◌≡◌, ◌⊎◌, ℕ, ◌*◌, ◌^◌, ◌≤◌, Bool, IsTrue, List, [], length}
 use Rattle.mesh_defs.specs.declared.point.Point.{Point}
-use Rattle.mesh_defs.specs.Triangle.{IsAddress}
 use Rattle.mesh_defs.specs.ClosedSet.{leaves_of}
-use Rattle.tiling_laws.specs.Ancestors.{ancestors_of}
+use Rattle.mesh_laws.specs.Ancestors.{ancestors_of}
 use Rattle.fit_laws.specs.Error.{error_of}
-use Rattle.required_laws.specs.Required.{IsLeastMeshWith}
-use Rattle.tile_laws.specs.Tile.{IsTile}
-use Rattle.tile_laws.specs.Glue.{splits_of}
-use Rattle.tile_laws.specs.Join.{joined}
-use Rattle.tile_laws.specs.Mirror.{IsBeyond}
+use Rattle.fit_laws.specs.Required.{IsLeastMeshWith}
+use Rattle.mosaic_laws.specs.Tile.{IsTile}
+use Rattle.mosaic_laws.specs.Glue.{splits_of}
+use Rattle.mosaic_laws.specs.Join.{joined}
 use Rattle.mosaic_laws.specs.Rounds.{IsReachedIn}
 use Rattle.mosaic_laws.specs.Terrain.{terrain_error}
-use Rattle.mosaic_rounds.specs.Rounds.{IsKept}
-
--- what is asked of a tile, where has tells of each tile what is kept and split
-abbrev pub IsAskedIn : ℕ → ℕ → ℕ → (Point → ℕ → Bool) → Point → ℕ → Type 0
-IsAskedIn columns rows n has t a =
-    (a ≡ 2)
-    ⊎ ((u : Point) × (c : ℕ) × IsTile columns rows u × (4 ≤ a) × IsAddress n a × IsBeyond n t u a c × IsTrue (has u c))
+use Rattle.mosaic_rounds.specs.BorderPoints.{IsKept}
+use Rattle.mosaic_rounds.specs.Rounds.{IsAskedIn}
 
 -- the tile's mesh is the least one that splits what was required of it, and that is 2 and what is asked of it
 pub record IsFitted (columns rows n tolerance : ℕ) (has : Point → ℕ → Bool) (heights : List ℕ) (t : Point)

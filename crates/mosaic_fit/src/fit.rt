@@ -4,7 +4,7 @@ ghost use Rattle.std.specs.Prelude.{◌≡◌, ◌≢◌, ℕ, ◌+◌, ◌*◌,
 ghost use Rattle.mesh_defs.specs.declared.point.Point.{Point};
 ghost use Rattle.mesh_defs.specs.declared.level.TheConstants.{GREATEST_LEVEL};
 ghost use Rattle.roam_edge.specs.Fault.{Rose};
-ghost use Rattle.tile_laws.specs.Tile.{IsTile};
+ghost use Rattle.mosaic_laws.specs.Tile.{IsTile};
 ghost use Rattle.mosaic_laws.specs.Mosaic.{IsLeastMosaic};
 ghost use Rattle.mosaic_laws.specs.Terrain.{terrain_error};
 ghost use Rattle.mosaic_rounds.specs.Rounds.{splits, Lacks, IsSettled};
@@ -14,9 +14,8 @@ ghost use Rattle.mosaic_fit.specs.UnderWay.{IsUnderWay};
 use crate::tiles::Tiles;
 use bintree_addr::Tri;
 use fit_mesh::Fit;
-use mesh_defs::Point;
+use mesh_defs::{Failed, Point};
 use mosaic_rounds::Rounds;
-use roam_errors::Failed;
 
 /// Fits all tiles, until each has the border points that its neighbours have: their meshes are then the least mosaic
 /// for the tolerance, in units of height, times 2^n.

@@ -11,6 +11,6 @@ mod fit;
 mod tiles;
 
 pub use fit::fit_tiles;
+pub use mesh_defs::Failed;
 pub use mosaic_rounds::Point;
-pub use roam_errors::Failed;
 pub use tiles::Tiles;

@@ -3,13 +3,12 @@
 ghost use Rattle.std.specs.Prelude.{◌≡◌, ◌≢◌, ℕ, List, OnOk, OnErr};
 ghost use Rattle.mesh_defs.specs.declared.point.Point.{Point};
 ghost use Rattle.mesh_defs.specs.HeightField.{HeightField};
-ghost use Rattle.tile_laws.specs.Tile.{IsTile};
+ghost use Rattle.mosaic_laws.specs.Tile.{IsTile};
 ghost use Rattle.roam_edge.specs.Fault.{Rose};
 
 use bintree_addr::Tri;
-use mesh_defs::Point;
+use mesh_defs::{Failed, Point};
 use pgm_grid::Grid;
-use roam_errors::Failed;
 
 /// The heights of tiles, each a grid of its own, and a mesh of each tile.
 ///

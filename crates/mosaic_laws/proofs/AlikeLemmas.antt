@@ -11,15 +11,15 @@ use Rattle.mesh_defs.specs.Tiling.{IsConforming}
 use Rattle.mesh_defs.specs.Priority.{worst_of}
 use Rattle.mesh_defs.proofs.WorstLemmas.{worst-le, le-worst}
 use Rattle.mesh_defs.proofs.ListLemmas.{IsIn, Contains-in}
-use Rattle.tiling_laws.specs.Ancestors.{ancestors_of}
-use Rattle.tiling_laws.proofs.ConverseLemmas.{IsClosed-ancestors_of}
-use Rattle.least_laws.proofs.LeastLemmas.{entry_outside}
+use Rattle.mesh_laws.specs.Ancestors.{ancestors_of}
+use Rattle.mesh_laws.proofs.ConverseLemmas.{IsClosed-ancestors_of}
+use Rattle.mesh_laws.proofs.LeastLemmas.{entry_outside}
 use Rattle.fit_laws.specs.Error.{error_of}
-use Rattle.required_laws.specs.Required.{IsMeshWith, IsLeastMeshWith}
-use Rattle.tile_laws.specs.Tile.{IsTile}
-use Rattle.tile_laws.specs.Heights.{AreTileHeights}
-use Rattle.tile_laws.proofs.ClosedLemmas.{closed-second}
-use Rattle.tile_laws.proofs.HeightLemmas.{error-in_tile}
+use Rattle.fit_laws.specs.Required.{IsMeshWith, IsLeastMeshWith}
+use Rattle.mosaic_laws.specs.Tile.{IsTile}
+use Rattle.mosaic_laws.specs.Heights.{AreTileHeights}
+use Rattle.mosaic_laws.proofs.ClosedLemmas.{closed-second}
+use Rattle.mosaic_laws.proofs.HeightLemmas.{error-in_tile}
 use Rattle.mosaic_laws.specs.Rounds.{tile_error}
 
 -- an entry of a list that splits 2 is neither 2 nor 3

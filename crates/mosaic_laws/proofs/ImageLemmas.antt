@@ -3,8 +3,8 @@ use Rattle.std.proofs.Common.{◌≡◌, ℕ, zero, suc, ◌-◌, ◌*◌, ◌/�
 use Rattle.mesh_defs.specs.declared.point.Point.{Point}
 use Rattle.mesh_defs.specs.declared.point.Corners.{Corners}
 use Rattle.mesh_defs.specs.Triangle.{level_of, corners_of, SameEnds}
-use Rattle.tile_laws.specs.Mirror.{mirrored, reflected, turned_over}
-use Rattle.tile_laws.proofs.MirrorLemmas.{mirrored-level, mirrored-big, mirrored-parent, mirrored-corners}
+use Rattle.mosaic_laws.specs.Mirror.{mirrored, reflected, turned_over}
+use Rattle.mosaic_laws.proofs.MirrorLemmas.{mirrored-level, mirrored-big, mirrored-parent, mirrored-corners}
 use Rattle.mosaic_laws.specs.Beyond.{mirrored_if}
 
 -- the image, if wanted

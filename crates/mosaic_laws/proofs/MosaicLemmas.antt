@@ -12,24 +12,24 @@ use Rattle.mesh_defs.specs.Priority.{worst_of}
 use Rattle.mesh_defs.proofs.ListLemmas.{IsIn-contains}
 use Rattle.mesh_defs.proofs.TestLemmas.{same_tests}
 use Rattle.bintree_laws.proofs.CentreLemmas.{mate_symmetric}
-use Rattle.tiling_laws.specs.Ancestors.{ancestors_of}
-use Rattle.tiling_laws.proofs.ConformityLemmas.{IsConforming-leaves_of}
-use Rattle.tiling_laws.proofs.ConverseLemmas.{IsClosed-ancestors_of, AreLeaves-ancestors_of}
-use Rattle.closure_laws.proofs.ClosureLemmas.{leaves_of-same}
-use Rattle.least_laws.proofs.LeastLemmas.{above_leaf-member}
+use Rattle.mesh_laws.specs.Ancestors.{ancestors_of}
+use Rattle.mesh_laws.proofs.ConformityLemmas.{IsConforming-leaves_of}
+use Rattle.mesh_laws.proofs.ConverseLemmas.{IsClosed-ancestors_of, AreLeaves-ancestors_of}
+use Rattle.mesh_laws.proofs.ClosureLemmas.{leaves_of-same}
+use Rattle.mesh_laws.proofs.LeastLemmas.{above_leaf-member}
 use Rattle.fit_laws.specs.Error.{IsExactAtFinest}
 use Rattle.fit_laws.specs.Settled.{IsFineEnough}
 use Rattle.fit_laws.proofs.OrderLemmas.{member-above_leaf}
 use Rattle.fit_laws.proofs.SettledLemmas.{settled-ancestors}
-use Rattle.required_laws.specs.Required.{IsLeastSettledWith, IsMeshWith, IsLeastMeshWith}
-use Rattle.required_laws.proofs.RequiredLemmas.{with-found, with-mesh, mesh-with}
-use Rattle.tile_laws.specs.Tile.{IsTile, in_tile, is_part}
-use Rattle.tile_laws.specs.Glue.{is_coarse, tile_of, local_of, glue, splits_of, IsAgreed, IsPartOf, IsUnionOf}
-use Rattle.tile_laws.proofs.AddressLemmas.{tile-is, in_tile-address, in_tile-local, local-big}
-use Rattle.tile_laws.proofs.MateLemmas.{mate-out}
-use Rattle.tile_laws.proofs.ClosedLemmas.{cases_point, part-first, part-out, part-agreed, coarse-parts, coarse-from}
-use Rattle.tile_laws.proofs.ClosedLemmas.{glue-parts, glue-coarse}
-use Rattle.tile_laws.proofs.UnionLemmas.{part-leaves, union-are_leaves}
+use Rattle.fit_laws.specs.Required.{IsLeastSettledWith, IsMeshWith, IsLeastMeshWith}
+use Rattle.fit_laws.proofs.RequiredLemmas.{with-found, with-mesh, mesh-with}
+use Rattle.mosaic_laws.specs.Tile.{IsTile, in_tile, is_part}
+use Rattle.mosaic_laws.specs.Glue.{is_coarse, tile_of, local_of, glue, splits_of, IsAgreed, IsPartOf, IsUnionOf}
+use Rattle.mosaic_laws.proofs.AddressLemmas.{tile-is, in_tile-address, in_tile-local, local-big}
+use Rattle.mosaic_laws.proofs.MateLemmas.{mate-out}
+use Rattle.mosaic_laws.proofs.ClosedLemmas.{cases_point, part-first, part-out, part-agreed, coarse-parts, coarse-from}
+use Rattle.mosaic_laws.proofs.ClosedLemmas.{glue-parts, glue-coarse}
+use Rattle.mosaic_laws.proofs.UnionLemmas.{part-leaves, union-are_leaves}
 use Rattle.mosaic_laws.specs.Rounds.{tile_error, IsAsked, IsRedone, IsReachedIn, IsRunning, IsSettledDown}
 use Rattle.mosaic_laws.specs.Mosaic.{IsMosaic, IsLeastMosaic}
 use Rattle.mosaic_laws.proofs.AlikeLemmas.{entry-big}

@@ -13,17 +13,17 @@ use Rattle.mesh_defs.proofs.TestLemmas.{same_tests}
 use Rattle.bintree_laws.proofs.LevelLemmas.{level_of-root, level-le}
 use Rattle.bintree_laws.proofs.LatticeLemmas.{same_point}
 use Rattle.bintree_laws.proofs.CornerLemmas.{IsWithin-corners_of}
-use Rattle.tiling_laws.proofs.DescentLemmas.{IsAddress-level, IsAddress-splittable}
+use Rattle.mesh_laws.proofs.DescentLemmas.{IsAddress-level, IsAddress-splittable}
 use Rattle.fit_laws.specs.Settled.{IsFineEnough}
 use Rattle.fit_laws.proofs.SettledLemmas.{settled-outer, outer-settled}
-use Rattle.required_laws.specs.Required.{IsLeastSettledWith}
-use Rattle.tile_laws.specs.Tile.{IsTile, in_tile, is_part, placed, moved}
-use Rattle.tile_laws.specs.Glue.{is_coarse, glue, IsAgreed}
-use Rattle.tile_laws.proofs.AddressLemmas.{level-some, in_tile-level, in_tile-address, in_tile-unique, in_tile-apart}
-use Rattle.tile_laws.proofs.CornerLemmas.{in_tile-corners}
-use Rattle.tile_laws.proofs.MateLemmas.{mate-in, mate-out, mate-big}
-use Rattle.tile_laws.proofs.ClosedLemmas.{cases_point, part-parts, closed-second, closed-some}
-use Rattle.tile_laws.proofs.ClosedLemmas.{glue-coarse, coarse-parts, glue-out}
+use Rattle.fit_laws.specs.Required.{IsLeastSettledWith}
+use Rattle.mosaic_laws.specs.Tile.{IsTile, in_tile, is_part, placed, moved}
+use Rattle.mosaic_laws.specs.Glue.{is_coarse, glue, IsAgreed}
+use Rattle.mosaic_laws.proofs.AddressLemmas.{level-some, in_tile-level, in_tile-address, in_tile-unique, in_tile-apart}
+use Rattle.mosaic_laws.proofs.CornerLemmas.{in_tile-corners}
+use Rattle.mosaic_laws.proofs.MateLemmas.{mate-in, mate-out, mate-big}
+use Rattle.mosaic_laws.proofs.ClosedLemmas.{cases_point, part-parts, closed-second, closed-some}
+use Rattle.mosaic_laws.proofs.ClosedLemmas.{glue-coarse, coarse-parts, glue-out}
 use Rattle.mosaic_laws.specs.Rounds.{tile_error}
 use Rattle.mosaic_laws.specs.Beyond.{mirrored_if, nearest_in, is_odd_beyond, nearest, image, extended}
 use Rattle.mosaic_laws.proofs.ImageLemmas.{if-level, if-big, if-parent, if-ends, reflected_if, HasEnds, ends-same}

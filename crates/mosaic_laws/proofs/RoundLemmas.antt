@@ -9,21 +9,21 @@ use Rattle.mesh_defs.specs.Tiling.{IsConforming}
 use Rattle.mesh_defs.specs.ClosedSet.{IsClosed, IsSubset}
 use Rattle.mesh_defs.specs.Priority.{worst_of}
 use Rattle.bintree_laws.proofs.CentreLemmas.{mate_symmetric}
-use Rattle.tiling_laws.specs.Ancestors.{ancestors_of}
-use Rattle.closure_laws.proofs.ClosureLemmas.{IsOuter}
+use Rattle.mesh_laws.specs.Ancestors.{ancestors_of}
+use Rattle.mesh_laws.proofs.ClosureLemmas.{IsOuter}
 use Rattle.fit_laws.specs.Settled.{IsFineEnough}
 use Rattle.fit_laws.proofs.SettledLemmas.{settled-outer, outer-settled, settled-ancestors}
-use Rattle.required_laws.specs.Required.{IsLeastSettledWith, IsLeastMeshWith}
-use Rattle.required_laws.proofs.RequiredLemmas.{with-mesh, mesh-with}
-use Rattle.tile_laws.specs.Tile.{IsTile, in_tile, is_part}
-use Rattle.tile_laws.specs.Glue.{is_coarse, tile_of, local_of, glue, splits_of, IsAgreed, IsUnionOf}
-use Rattle.tile_laws.proofs.AddressLemmas.{in_tile-parent, in_tile-address, tile-is}
-use Rattle.tile_laws.proofs.AddressLemmas.{local-big, local-address, in_tile-local}
-use Rattle.tile_laws.proofs.MateLemmas.{level-big}
-use Rattle.tile_laws.proofs.ClosedLemmas.{part-first, part-out, part-from, coarse-parts, coarse-from, coarse-n}
-use Rattle.tile_laws.proofs.ClosedLemmas.{part-closed}
-use Rattle.tile_laws.proofs.ClosedLemmas.{glue-parts, glue-coarse, glue-tile, glue-out, glue-closed, closed-second}
-use Rattle.tile_laws.proofs.UnionLemmas.{part-outer, union-are_leaves}
+use Rattle.fit_laws.specs.Required.{IsLeastSettledWith, IsLeastMeshWith}
+use Rattle.fit_laws.proofs.RequiredLemmas.{with-mesh, mesh-with}
+use Rattle.mosaic_laws.specs.Tile.{IsTile, in_tile, is_part}
+use Rattle.mosaic_laws.specs.Glue.{is_coarse, tile_of, local_of, glue, splits_of, IsAgreed, IsUnionOf}
+use Rattle.mosaic_laws.proofs.AddressLemmas.{in_tile-parent, in_tile-address, tile-is}
+use Rattle.mosaic_laws.proofs.AddressLemmas.{local-big, local-address, in_tile-local}
+use Rattle.mosaic_laws.proofs.MateLemmas.{level-big}
+use Rattle.mosaic_laws.proofs.ClosedLemmas.{part-first, part-out, part-from, coarse-parts, coarse-from, coarse-n}
+use Rattle.mosaic_laws.proofs.ClosedLemmas.{part-closed}
+use Rattle.mosaic_laws.proofs.ClosedLemmas.{glue-parts, glue-coarse, glue-tile, glue-out, glue-closed, closed-second}
+use Rattle.mosaic_laws.proofs.UnionLemmas.{part-outer, union-are_leaves}
 use Rattle.mosaic_laws.specs.Rounds.{tile_error, IsAsked, IsRedone, IsReachedIn, IsSettledDown}
 
 -- a tile of a rectangle in the square is a tile of the square

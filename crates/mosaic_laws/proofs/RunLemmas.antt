@@ -12,19 +12,19 @@ use Rattle.mesh_defs.specs.ClosedSet.{IsClosed, IsSubset, leaves_of}
 use Rattle.mesh_defs.proofs.ListLemmas.{IsIn, Any-in, list_any-in}
 use Rattle.bintree_laws.proofs.LevelLemmas.{splittable-below, level_of-root}
 use Rattle.bintree_laws.proofs.CentreLemmas.{mate_unique, border_or_mate, not_border_and_mate}
-use Rattle.closure_laws.proofs.ClosureLemmas.{leaves_of-more}
-use Rattle.closure_laws.proofs.LeafLemmas.{leaves-most}
-use Rattle.closure_laws.proofs.SetListLemmas.{in-range}
+use Rattle.mesh_laws.proofs.ClosureLemmas.{leaves_of-more}
+use Rattle.mesh_laws.proofs.LeafLemmas.{leaves-most}
+use Rattle.mesh_laws.proofs.SetListLemmas.{in-range}
 use Rattle.fit_laws.specs.Error.{IsExactAtFinest}
-use Rattle.required_laws.specs.Required.{IsLeastSettledWith, IsLeastMeshWith}
-use Rattle.required_laws.proofs.RequiredLemmas.{with-found, with-more, with-grown}
-use Rattle.tile_laws.specs.Tile.{IsTile, in_tile}
-use Rattle.tile_laws.specs.Glue.{is_coarse, tile_of, local_of, glue, splits_of, IsUnionOf}
-use Rattle.tile_laws.specs.Join.{tile_at, joined}
-use Rattle.tile_laws.proofs.AddressLemmas.{level-some, in_tile-level, in_tile-address, in_tile-inside, local-big}
-use Rattle.tile_laws.proofs.AddressLemmas.{local-address, in_tile-local, tile-in_tile, local-in_tile}
-use Rattle.tile_laws.proofs.JoinLemmas.{number_of, number-small, tile_at-number, tile_at-is, joined-most, joined-grown}
-use Rattle.tile_laws.proofs.HeightLemmas.{tile-exact}
+use Rattle.fit_laws.specs.Required.{IsLeastSettledWith, IsLeastMeshWith}
+use Rattle.fit_laws.proofs.RequiredLemmas.{with-found, with-more, with-grown}
+use Rattle.mosaic_laws.specs.Tile.{IsTile, in_tile}
+use Rattle.mosaic_laws.specs.Glue.{is_coarse, tile_of, local_of, glue, splits_of, IsUnionOf}
+use Rattle.mosaic_laws.specs.Join.{tile_at, joined}
+use Rattle.mosaic_laws.proofs.AddressLemmas.{level-some, in_tile-level, in_tile-address, in_tile-inside, local-big}
+use Rattle.mosaic_laws.proofs.AddressLemmas.{local-address, in_tile-local, tile-in_tile, local-in_tile}
+use Rattle.mosaic_laws.proofs.JoinLemmas.{number_of, number-small, tile_at-number, tile_at-is, joined-most, joined-grown}
+use Rattle.mosaic_laws.proofs.HeightLemmas.{tile-exact}
 use Rattle.mosaic_laws.specs.Terrain.{is_tile}
 use Rattle.mosaic_laws.specs.Rounds.{tile_error, IsAsked, IsRunning, IsSettledDown}
 use Rattle.mosaic_laws.proofs.RoundLemmas.{tile-wider, asked-agreed, reached-least, union-least}

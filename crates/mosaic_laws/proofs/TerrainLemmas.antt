@@ -6,11 +6,11 @@ use Rattle.mesh_defs.specs.declared.point.Point.{Point}
 use Rattle.mesh_defs.specs.Triangle.{level_of}
 use Rattle.fit_laws.specs.Error.{error_of, IsExactAtFinest}
 use Rattle.fit_laws.proofs.ErrorLemmas.{error-finest}
-use Rattle.required_laws.specs.Required.{IsLeastMeshWith}
-use Rattle.tile_laws.specs.Tile.{IsTile, in_tile}
-use Rattle.tile_laws.specs.Glue.{is_coarse, tile_of, local_of, splits_of, IsPartOf}
-use Rattle.tile_laws.proofs.AddressLemmas.{level-some, in_tile-level, tile-in_tile, local-in_tile, local-address}
-use Rattle.tile_laws.proofs.AddressLemmas.{local-level}
+use Rattle.fit_laws.specs.Required.{IsLeastMeshWith}
+use Rattle.mosaic_laws.specs.Tile.{IsTile, in_tile}
+use Rattle.mosaic_laws.specs.Glue.{is_coarse, tile_of, local_of, splits_of, IsPartOf}
+use Rattle.mosaic_laws.proofs.AddressLemmas.{level-some, in_tile-level, tile-in_tile, local-in_tile, local-address}
+use Rattle.mosaic_laws.proofs.AddressLemmas.{local-level}
 use Rattle.mosaic_laws.specs.Rounds.{tile_error, IsRunning, IsSettledDown}
 use Rattle.mosaic_laws.specs.Mosaic.{IsLeastMosaic}
 use Rattle.mosaic_laws.specs.Terrain.{is_tile, terrain_error}

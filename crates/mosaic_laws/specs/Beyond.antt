@@ -4,7 +4,7 @@
 -- Words: mirrored_if, nearest_in, is_odd_beyond, nearest, image, extended.
 use Rattle.std.specs.Prelude.{ℕ, zero, suc, ◌+◌, ◌-◌, ◌%◌, min, Bool, ◌&&◌, ◌||◌, nat_le, nat_lt}
 use Rattle.mesh_defs.specs.declared.point.Point.{Point}
-use Rattle.tile_laws.specs.Mirror.{mirrored}
+use Rattle.mosaic_laws.specs.Mirror.{mirrored}
 
 -- a itself at 0, else its mirror image
 abbrev pub mirrored_if : ℕ → ℕ → ℕ → ℕ

@@ -5,10 +5,10 @@ use Rattle.mesh_defs.specs.declared.point.Point.{Point}
 use Rattle.mesh_defs.specs.Tiling.{IsConforming}
 use Rattle.mesh_defs.specs.ClosedSet.{IsSubset}
 use Rattle.mesh_defs.specs.Priority.{worst_of}
-use Rattle.tiling_laws.specs.Ancestors.{ancestors_of}
-use Rattle.least_laws.specs.Least.{IsLyingIn}
-use Rattle.tile_laws.specs.Tile.{IsTile}
-use Rattle.tile_laws.specs.Glue.{splits_of, IsAgreed}
+use Rattle.mesh_laws.specs.Ancestors.{ancestors_of}
+use Rattle.mesh_laws.specs.Least.{IsLyingIn}
+use Rattle.mosaic_laws.specs.Tile.{IsTile}
+use Rattle.mosaic_laws.specs.Glue.{splits_of, IsAgreed}
 use Rattle.mosaic_laws.specs.Rounds.{tile_error}
 
 -- each tile's list is conforming, within the tolerance, and has the tile's centre as a vertex, and the tiles agree on

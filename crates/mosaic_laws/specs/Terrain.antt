@@ -4,7 +4,7 @@ use Rattle.std.specs.Prelude.{ℕ, ◌*◌, Bool, true, false, ◌&&◌, nat_lt,
 use Rattle.mesh_defs.specs.declared.point.Point.{Point}
 use Rattle.mesh_defs.specs.Triangle.{level_of}
 use Rattle.fit_laws.specs.Error.{error_of}
-use Rattle.tile_laws.specs.Glue.{tile_of, local_of}
+use Rattle.mosaic_laws.specs.Glue.{tile_of, local_of}
 
 -- the tile is one of so many columns and rows
 abbrev pub is_tile : ℕ → ℕ → Point → Bool

@@ -4,13 +4,13 @@ ghost use Rattle.std.specs.Prelude.{◌≡◌, ℕ, ◌+◌, ◌*◌, ◌^◌, �
 ghost use Rattle.mesh_defs.specs.declared.point.Point.{Point};
 ghost use Rattle.mesh_defs.specs.Triangle.{IsAddress};
 ghost use Rattle.mesh_defs.specs.ClosedSet.{IsClosed, IsSubset, leaves_of};
-ghost use Rattle.tiling_laws.specs.Ancestors.{ancestors_of};
+ghost use Rattle.mesh_laws.specs.Ancestors.{ancestors_of};
 ghost use Rattle.fit_laws.specs.Error.{error_of, IsExactAtFinest};
 ghost use Rattle.fit_laws.specs.Settled.{IsFineEnough};
-ghost use Rattle.required_laws.specs.Required.{IsLeastMeshWith};
-ghost use Rattle.tile_laws.specs.Tile.{IsTile, in_tile, is_part};
-ghost use Rattle.tile_laws.specs.Glue.{is_coarse, glue, IsAgreed, IsPartOf, IsUnionOf};
-ghost use Rattle.tile_laws.specs.Heights.{AreTileHeights};
+ghost use Rattle.fit_laws.specs.Required.{IsLeastMeshWith};
+ghost use Rattle.mosaic_laws.specs.Tile.{IsTile, in_tile, is_part};
+ghost use Rattle.mosaic_laws.specs.Glue.{is_coarse, glue, IsAgreed, IsPartOf, IsUnionOf};
+ghost use Rattle.mosaic_laws.specs.Heights.{AreTileHeights};
 ghost use Rattle.mosaic_laws.specs.Rounds.{tile_error};
 ghost use Rattle.mosaic_laws.specs.Beyond.{extended};
 ghost use Rattle.mosaic_laws.specs.Mosaic.{IsMosaic, IsLeastMosaic};

@@ -4,13 +4,13 @@ ghost use Rattle.std.specs.Prelude.{◌≡◌, ◌⊎◌, ℕ, ◌+◌, ◌*◌,
 ghost use Rattle.mesh_defs.specs.declared.point.Point.{Point};
 ghost use Rattle.mesh_defs.specs.Triangle.{IsAddress, IsSplittable};
 ghost use Rattle.mesh_defs.specs.ClosedSet.{IsClosed, IsSubset};
-ghost use Rattle.tiling_laws.specs.Ancestors.{ancestors_of};
+ghost use Rattle.mesh_laws.specs.Ancestors.{ancestors_of};
 ghost use Rattle.fit_laws.specs.Error.{IsExactAtFinest};
 ghost use Rattle.fit_laws.specs.Settled.{IsFineEnough};
-ghost use Rattle.required_laws.specs.Required.{IsLeastSettledWith, IsLeastMeshWith};
-ghost use Rattle.tile_laws.specs.Tile.{IsTile, is_part};
-ghost use Rattle.tile_laws.specs.Glue.{is_coarse, glue, splits_of, IsAgreed, IsUnionOf};
-ghost use Rattle.tile_laws.specs.Mirror.{IsBeyond};
+ghost use Rattle.fit_laws.specs.Required.{IsLeastSettledWith, IsLeastMeshWith};
+ghost use Rattle.mosaic_laws.specs.Tile.{IsTile, is_part};
+ghost use Rattle.mosaic_laws.specs.Glue.{is_coarse, glue, splits_of, IsAgreed, IsUnionOf};
+ghost use Rattle.mosaic_laws.specs.Mirror.{IsBeyond};
 ghost use Rattle.mosaic_laws.specs.Rounds.{tile_error, IsAsked, IsRedone, IsReachedIn, IsRunning, IsSettledDown};
 ghost use Rattle.mosaic_laws.specs.Mosaic.{IsLeastMosaic};
 

@@ -2,11 +2,11 @@
 
 ghost use Rattle.std.specs.Prelude.{◌≡◌, ℕ, ◌+◌, ◌^◌, ◌≤◌, Bool, IsTrue, List};
 ghost use Rattle.mesh_defs.specs.declared.point.Point.{Point};
-ghost use Rattle.tiling_laws.specs.Ancestors.{ancestors_of};
+ghost use Rattle.mesh_laws.specs.Ancestors.{ancestors_of};
 ghost use Rattle.fit_laws.specs.Error.{error_of, IsExactAtFinest};
-ghost use Rattle.required_laws.specs.Required.{IsLeastSettledWith, IsLeastMeshWith};
-ghost use Rattle.tile_laws.specs.Tile.{IsTile, in_tile};
-ghost use Rattle.tile_laws.specs.Glue.{is_coarse, splits_of, IsPartOf};
+ghost use Rattle.fit_laws.specs.Required.{IsLeastSettledWith, IsLeastMeshWith};
+ghost use Rattle.mosaic_laws.specs.Tile.{IsTile, in_tile};
+ghost use Rattle.mosaic_laws.specs.Glue.{is_coarse, splits_of, IsPartOf};
 ghost use Rattle.mosaic_laws.specs.Rounds.{tile_error, IsRunning, IsSettledDown};
 ghost use Rattle.mosaic_laws.specs.Mosaic.{IsLeastMosaic};
 ghost use Rattle.mosaic_laws.specs.Terrain.{terrain_error};

@@ -2,10 +2,15 @@
 use Rattle.std.proofs.Common.{◌≡◌, ◌⊎◌, ◌↔◌, ℕ, zero, suc, ◌+◌, ◌*◌, ◌%◌, ◌^◌, ◌<◌, ◌≤◌, Bool, true, false, IsTrue}
 use Rattle.std.proofs.Common.{List, [], ◌∷◌, length, take, set, get_or, ◌||◌, eqb, eq-eqb, refl, sym, ◌∙◌, ap, subst}
 use Rattle.std.proofs.Common.{arith, ⊎_elim, inl, inr}
-use Rattle.std.proofs.lemmas.Bool.{both_ways, cases_eq, or_cases, or_left, or_right, eqb-true}
+use Rattle.std.specs.Cmp.{IsEquivalence}
+use Rattle.std.specs.List.{IsDistinct, list_any}
+use Rattle.std.proofs.Common.{nat_eq}
+use Rattle.std.proofs.Math.Seq.{take-suc-set}
+use Rattle.std.proofs.lemmas.Bool.{both_ways, cases_eq, or_cases, or_left, or_right, or_from, eqb-true, ne_eqb}
+use Rattle.std.proofs.lemmas.Map.Keys.{IsDistinct-push}
 use Rattle.mesh_defs.specs.declared.point.Point.{Point}
 use Rattle.mesh_defs.specs.ClosedSet.{among}
-use Rattle.tile_laws.specs.Tile.{IsTile}
+use Rattle.mosaic_laws.specs.Tile.{IsTile}
 use Rattle.mosaic_rounds.specs.declared.shape.Shape.{Shape}
 use Rattle.mosaic_rounds.specs.Border.{is_border, side_of, place_of}
 use Rattle.mosaic_rounds.specs.Bits.{has_bit, splits_at}
@@ -13,7 +18,7 @@ use Rattle.mosaic_rounds.specs.Side.{IsNeighbour}
 use Rattle.mosaic_rounds.specs.Shape.{first_of}
 use Rattle.mosaic_rounds.specs.Across.{IsAcross, LacksAcross, IsAskedBy}
 use Rattle.mosaic_rounds.proofs.BorderLemmas.{border-found, border-coarse, border-small, border-some, border-same}
-use Rattle.mosaic_rounds.proofs.SplitLemmas.{splits-border}
+use Rattle.mosaic_rounds.proofs.SplitLemmas.{splits-border, two-off}
 use Rattle.mosaic_rounds.proofs.ShapeLemmas.{neighbour-one}
 
 module _ (s : Shape) (words : List ℕ) (t : Point) (side : ℕ) where
@@ -68,14 +73,18 @@ module _ (s : Shape) (words : List ℕ) (t : Point) (side : ℕ) where
           across-here a.0 is ∙ ap (λ k. has_bit words (first_of s t + (side * 2 ^ s.n + k))) a.4 ∙ here,
         )
 
-    -- and nothing where it has all that the other has
-    pub lacks-no : ((p : ℕ) → 1 ≤ p → p < 2 ^ s.n →
-        has_bit words (first_of s u + ((side + 2) % 4 * 2 ^ s.n + p)) ≡ true →
-        has_bit words (first_of s t + (side * 2 ^ s.n + p)) ≡ true) → LacksAcross s words t side → ⊥
-    lacks-no all (a, is, off) =
-        let place = across-place a is in
-        both_ways (splits_at s.n words (first_of s t) a) off
-        (across-here a is ∙ all (place_of a) place.0 place.1 (across-to a is))
+    -- and where it lacks something, it does at a place
+    pub lacks-at : LacksAcross s words t side → (p : ℕ) × (1 ≤ p) × (p < 2 ^ s.n)
+        × (has_bit words (first_of s u + ((side + 2) % 4 * 2 ^ s.n + p)) ≡ true)
+        × (has_bit words (first_of s t + (side * 2 ^ s.n + p)) ≡ false)
+    lacks-at (a, is, off) =
+        let place = across-place a is in (
+          place_of a,
+          place.0,
+          place.1,
+          across-to a is,
+          sym (across-here a is) ∙ off,
+        )
 
 -- one triangle more in a list
 pub among-more : (next x a : ℕ) (list : List ℕ) → next < length list →
@@ -143,6 +152,45 @@ module _ (s : Shape) (words : List ℕ) (t : Point) (side : ℕ) (u : Point) (ti
         h),
   )
 
+-- a list without repetitions that has nothing of the side yet has none once the side is told
+abbrev pub IsApart : Shape → List ℕ → Point → ℕ → List ℕ → List ℕ → Type 0
+IsApart s words t side before now =
+    ((a : ℕ) → IsTrue (among before a) → IsAcross s words t side a → ⊥) →
+    IsDistinct nat_eq before → IsDistinct nat_eq now
+
+same-number : IsEquivalence nat_eq
+same-number = record {
+  refl = λ x. eq-eqb x x refl;
+  symm = λ x y. flipped x y;
+  congr = λ x y z e. ap (λ k. eqb k z) (eqb-true x y e);
+}
+  where
+    flipped : (x y : ℕ) → eqb x y ≡ eqb y x
+    flipped x y = ⊎_elim
+        (λ (is : x ≡ y). eq-eqb x y is ∙ sym (eq-eqb y x (sym is)))
+        (λ (no : x ≡ y → ⊥). ne_eqb x y no ∙ sym (ne_eqb y x (λ e. no (sym e))))
+        (cases_eq x y)
+
+-- who is not among the entries is equal to none
+none-among : (x : ℕ) (xs : List ℕ) → (IsTrue (among xs x) → ⊥) → list_any (nat_eq x) xs ≡ false
+none-among x [] out = refl
+none-among x (y ∷ ys) out = or_from (eqb x y) (list_any (nat_eq x) ys)
+    (ne_eqb x y (λ e. out (or_left (eqb y x) (among ys x) (eq-eqb y x (sym e)))))
+    (none-among x ys (λ h. out (or_right (eqb y x) (among ys x) h)))
+
+-- one triangle more at the next place
+pub apart-more : (s : Shape) (words : List ℕ) (t : Point) (side place next x : ℕ) (before list : List ℕ) →
+    next < length list → IsToldTo s words t side (among before) place (among (take next list)) →
+    IsAcross s words t side x → place_of x ≡ place → IsApart s words t side before (take next list) →
+    IsApart s words t side before (take (suc next) (set list next x))
+apart-more s words t side place next x before list room told is at_place old apart distinct =
+    subst (IsDistinct nat_eq) (sym (take-suc-set list next x room))
+    (IsDistinct-push same-number (take next list) x (old apart distinct) (none-among x (take next list)
+    (λ h. ⊎_elim
+    (λ first. apart x first is)
+    (λ (p : IsAcross s words t side x × (place_of x < place)). let less = p.1 in omega arith)
+    ((told x).0 h))))
+
 -- at the end of the side the list has all
 pub told-all : (s : Shape) (words : List ℕ) (t : Point) (side place : ℕ) (before now : ℕ → Bool) → 2 ^ s.n ≤ place →
     IsToldTo s words t side before place now → (a : ℕ) →
@@ -173,6 +221,16 @@ asked-more s words t side before now old more a = (
       (cases_eq p.0 side))
       h)),
 )
+
+-- 2 is on no side, and no triangle is on two
+pub asked-apart : (s : Shape) (words : List ℕ) (t : Point) (side a : ℕ) → IsAskedBy s words t side a →
+    IsAcross s words t side a → ⊥
+asked-apart s words t side a (inl two) is =
+    both_ways (is_border 2) two-off (subst (λ k. IsTrue (is_border k)) two is.border)
+asked-apart s words t side a (inr h) is =
+    let less = h.1 in
+    let one = h.2.side in
+    let other = is.side in omega arith
 
 -- each entry of a list is among its entries
 pub among-entry : (list : List ℕ) (k d : ℕ) → k < length list → IsTrue (among list (get_or list k d))

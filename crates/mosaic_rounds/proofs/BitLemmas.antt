@@ -1,16 +1,16 @@
 -- Tables of bits: one bit more, and none.
 use Rattle.std.proofs.Common.{◌≡◌, ℕ, ◌+◌, ◌*◌, ◌/◌, ◌%◌, ◌^◌, ◌<◌, ◌≤◌, Bool, true, false, ◌||◌, eqb, List, length}
-use Rattle.std.proofs.Common.{get_or, set, ◌-◌, refl, sym, ◌∙◌, ap, arith, ⊎_elim, eq-eqb}
+use Rattle.std.proofs.Common.{get_or, set, refl, sym, ◌∙◌, ap, arith, ⊎_elim, eq-eqb}
 use Rattle.std.specs.Int.{bit_at, w64}
-use Rattle.std.specs.Prelude.{bit_and, bit_or}
+use Rattle.std.specs.Prelude.{bit_or}
 use Rattle.std.proofs.lemmas.Bool.{cases_eq, ne_eqb, or_right}
 use Rattle.std.proofs.lemmas.List.{get_or-set_same, get_or-set_other}
-use Rattle.std.proofs.lemmas.Nat.{one_shl, and_mask}
+use Rattle.std.proofs.lemmas.Nat.{one_shl}
 use Rattle.std.proofs.lemmas.Nat.Bits.{bit_at_set_same, bit_at_set_other}
 use Rattle.mosaic_rounds.specs.Bits.{has_bit}
 
 -- or with false
-or_none : (x y : Bool) → y ≡ false → (x || y) ≡ x
+pub or_none : (x y : Bool) → y ≡ false → (x || y) ≡ x
 or_none true y e = refl
 or_none false y e = e
 
@@ -51,7 +51,3 @@ has-set words i j room = ⊎_elim
 -- how many bits a tile has, as the code finds it
 pub tile-bits : (n : ℕ) → n ≤ 11 → 1 * 2 ^ (n + 2) % 2 ^ 64 ≡ 2 ^ (n + 2)
 tile-bits n high = one_shl (n + 2) 64 (omega arith)
-
--- and the mask of a place
-pub place-mask : (n bit : ℕ) → n ≤ 11 → bit_and bit (1 * 2 ^ n % 2 ^ 64 - 1) ≡ bit % 2 ^ n
-place-mask n bit high = ap (λ k. bit_and bit (k - 1)) (one_shl n 64 (omega arith)) ∙ and_mask bit n

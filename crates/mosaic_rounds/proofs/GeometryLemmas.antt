@@ -12,9 +12,9 @@ use Rattle.bintree_laws.proofs.CornerLemmas.{corners_of-2, corners_of-3, corners
 use Rattle.bintree_laws.proofs.LatticeLemmas.{same_point}
 use Rattle.bintree_laws.proofs.PairLemmas.{IsPair-root, IsPair-inner_first, IsPair-inner_last, IsPair-outer}
 use Rattle.bintree_laws.proofs.MateLemmas.{no_pair-HasBorderBase}
-use Rattle.tiling_laws.proofs.OrientationLemmas.{apart}
-use Rattle.tile_laws.specs.Mirror.{mirror_quarter, mirrored, IsBeyond}
-use Rattle.tile_laws.proofs.MirrorLemmas.{mirrored-left, mirrored-right, mirrored-quarter, mirrored-big}
+use Rattle.mesh_laws.proofs.OrientationLemmas.{apart}
+use Rattle.mosaic_laws.specs.Mirror.{mirror_quarter, mirrored, IsBeyond}
+use Rattle.mosaic_laws.proofs.MirrorLemmas.{mirrored-left, mirrored-right, mirrored-quarter, mirrored-big}
 use Rattle.mosaic_rounds.specs.Border.{backward, is_border, side_of, place_of}
 use Rattle.mosaic_rounds.specs.Side.{IsNeighbour}
 use Rattle.mosaic_rounds.proofs.BorderLemmas.{border-first, side-first, place-first, border-parts, border-from}
@@ -119,6 +119,17 @@ pub border-address : (n a : ℕ) → IsAddress n a → HasBorderBase n a → IsT
 border-address n a address border =
     border-none (suc a) a (omega arith) address.low
     (λ b pair. no_pair-HasBorderBase n a b (level-le n a address) border pair)
+
+-- and the other way round
+pub border-base : (n a : ℕ) → IsTrue (is_border a) → HasBorderBase n a
+border-base n a is = at (side_of a) (border-placed a (border-low a is) is).side (on-side n a is)
+  where
+    at : (side : ℕ) → side < 4 → AreOnSide side (2 ^ n) (corners_of n a) → HasBorderBase n a
+    at zero less h = inr (inr (inl (h.0, h.1)))
+    at (suc zero) less h = inl (h.0, h.1)
+    at (suc (suc zero)) less h = inr (inr (inr (h.0, h.1)))
+    at (suc (suc (suc zero))) less h = inr (inl (h.0, h.1))
+    at (suc (suc (suc (suc k)))) less h = absurd (omega (arith, less))
 
 -- two sides have no base in common
 two_sides : (n k : ℕ) (c : Corners) → 1 ≤ 2 ^ n → (c.v0 ≡ c.v1 → ⊥) → (j : ℕ) → k < 4 → j < 4 → AreOnSide k (2 ^ n) c →

@@ -1,5 +1,6 @@
 pub mod BorderLemmas
 pub mod BitLemmas
+pub mod RunLemmas
 pub mod SplitLemmas
 pub mod MarkLemmas
 pub mod PlaceLemmas
@@ -7,3 +8,5 @@ pub mod ShapeLemmas
 pub mod AskedLemmas
 pub mod GeometryLemmas
 pub mod RoundsLemmas
+pub mod PlaceAtLemmas
+pub mod SaidLemmas

@@ -8,11 +8,11 @@ use Rattle.std.proofs.lemmas.Nat.{shr-shr, shr_le, shr_below, le-div, pow-add, p
 use Rattle.mesh_defs.specs.Triangle.{level_of}
 use Rattle.mesh_defs.proofs.TestLemmas.{same_tests}
 use Rattle.bintree_laws.proofs.LevelLemmas.{level_of-parent, level_of-root, IsAtLevel-level_of}
-use Rattle.tiling_laws.specs.Ancestors.{is_above}
-use Rattle.tiling_laws.proofs.ConverseLemmas.{is_above-power}
+use Rattle.mesh_laws.specs.Ancestors.{is_above, ancestors_of}
+use Rattle.mesh_laws.proofs.ConverseLemmas.{is_above-power}
 use Rattle.mosaic_rounds.specs.Border.{is_border, bit_of}
 use Rattle.mosaic_rounds.specs.Bits.{has_bit, is_kept, splits_at}
-use Rattle.mosaic_rounds.specs.Marks.{Marks}
+use Rattle.mosaic_rounds.specs.Marks.{Marks, MarksAll}
 use Rattle.mosaic_rounds.proofs.BorderLemmas.{border-big, border-parts, border-placed}
 use Rattle.mosaic_rounds.proofs.SplitLemmas.{border-low, kept-cases, one-more}
 
@@ -273,3 +273,34 @@ quarter-range leaf low deep =
     let top : leaf / 2 ^ (level_of leaf - 1) < 2 ^ 3 =
     shr_below leaf 3 (level_of leaf - 1) (subst (λ j. leaf < 2 ^ j) last up) in
     (le-div 4 leaf (2 ^ (level_of leaf - 1)) some (omega arith), omega arith)
+
+-- what the bits say of a triangle of which they tell, and that they tell of no other
+or_and : (x k m : Bool) → k ≡ true → (x || (k && m)) ≡ (x || m)
+or_and x true m e = refl
+or_and x false m e = absurd (both_ways false refl e)
+
+or_only : (x k m : Bool) → IsTrue (x || (k && m)) → IsTrue (x || m)
+or_only true k m h = refl
+or_only false true m h = h
+or_only false false m h = absurd (both_ways false refl h)
+
+module _ (n leaf : ℕ) (old new : List ℕ) (marks : Marks n leaf 0 old new) where
+  any_level : (a : ℕ) → nat_le 0 (level_of a) && is_above a leaf ≡ is_above a leaf
+  any_level a = ap (λ b. b && is_above a leaf) (le-leb 0 (level_of a) (omega arith))
+
+  pub marks-kept : (a : ℕ) → IsTrue (is_kept n a) → splits_at n new 0 a ≡ (splits_at n old 0 a || is_above a leaf)
+  marks-kept a kept =
+      marks a ∙ or_and (splits_at n old 0 a) (is_kept n a) (nat_le 0 (level_of a) && is_above a leaf) kept
+      ∙ ap (λ b. splits_at n old 0 a || b) (any_level a)
+
+  pub marks-only : (a : ℕ) → IsTrue (splits_at n new 0 a) → IsTrue (splits_at n old 0 a || is_above a leaf)
+  marks-only a is =
+      subst (λ b. IsTrue (splits_at n old 0 a || b)) (any_level a)
+      (or_only (splits_at n old 0 a) (is_kept n a) (nat_le 0 (level_of a) && is_above a leaf) (sym (marks a) ∙ is))
+
+module _ (n : ℕ) (leaves old new : List ℕ) (marks : MarksAll n leaves old new) where
+  pub all-kept : (a : ℕ) → IsTrue (is_kept n a) → splits_at n new 0 a ≡ (splits_at n old 0 a || ancestors_of leaves a)
+  all-kept a kept = marks a ∙ or_and (splits_at n old 0 a) (is_kept n a) (ancestors_of leaves a) kept
+
+  pub all-only : (a : ℕ) → IsTrue (splits_at n new 0 a) → IsTrue (splits_at n old 0 a || ancestors_of leaves a)
+  all-only a is = or_only (splits_at n old 0 a) (is_kept n a) (ancestors_of leaves a) (sym (marks a) ∙ is)

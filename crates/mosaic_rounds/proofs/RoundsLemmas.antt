@@ -6,11 +6,10 @@ use Rattle.std.proofs.lemmas.Bool.{both_ways, cases_Bool, cases_lt, lt-ltb, le-l
 use Rattle.mesh_defs.specs.declared.point.Point.{Point}
 use Rattle.mesh_defs.specs.Triangle.{level_of, IsSplittable}
 use Rattle.bintree_laws.proofs.LevelLemmas.{level_of-root}
-use Rattle.tiling_laws.specs.Ancestors.{ancestors_of}
-use Rattle.tiling_laws.proofs.DescentLemmas.{IsAddress-level, IsAddress-splittable}
-use Rattle.tile_laws.specs.Tile.{IsTile}
-use Rattle.tile_laws.specs.Mirror.{mirrored}
-use Rattle.tile_laws.proofs.MirrorLemmas.{mirrored-level}
+use Rattle.mesh_laws.proofs.DescentLemmas.{IsAddress-level, IsAddress-splittable}
+use Rattle.mosaic_laws.specs.Tile.{IsTile}
+use Rattle.mosaic_laws.specs.Mirror.{mirrored}
+use Rattle.mosaic_laws.proofs.MirrorLemmas.{mirrored-level}
 use Rattle.mosaic_rounds.specs.declared.shape.Shape.{Shape}
 use Rattle.mosaic_rounds.specs.Border.{is_border, side_of, place_of}
 use Rattle.mosaic_rounds.specs.Bits.{has_bit, is_kept, splits_at}
@@ -18,14 +17,15 @@ use Rattle.mosaic_rounds.specs.Side.{IsNeighbour}
 use Rattle.mosaic_rounds.specs.Shape.{first_of}
 use Rattle.mosaic_rounds.specs.Across.{IsAcross, LacksBy, IsAskedBy}
 use Rattle.mosaic_rounds.specs.Turn.{turn_in, Waits}
-use Rattle.mosaic_rounds.specs.Rounds.{rounds_of, splits, IsKept, IsAskedOf, IsSettled, Lacks, wait_of}
-use Rattle.mosaic_rounds.specs.Marks.{MarksAll, IsClear}
+use Rattle.mosaic_rounds.specs.Rounds.{rounds_of, splits, IsAskedOf, IsSettled, Lacks, wait_of}
+use Rattle.mosaic_rounds.specs.BorderPoints.{IsKept, BorderState, has_split}
 use Rattle.mosaic_rounds.proofs.BorderLemmas.{border-big, border-placed}
 use Rattle.mosaic_rounds.proofs.SplitLemmas.{border-low, kept-cases, kept-border, kept-two, splits-kept, splits-border}
 use Rattle.mosaic_rounds.proofs.SplitLemmas.{splits-other}
 use Rattle.mosaic_rounds.proofs.PlaceLemmas.{kept-bit}
 use Rattle.mosaic_rounds.proofs.ShapeLemmas.{turn-small, tile-before}
-use Rattle.mosaic_rounds.proofs.GeometryLemmas.{beyond-side, side-beyond, mirrored-facing, border-address, way_of}
+use Rattle.mosaic_rounds.proofs.GeometryLemmas.{beyond-side, side-beyond, mirrored-facing, border-address}
+use Rattle.mosaic_rounds.proofs.GeometryLemmas.{border-base, way_of}
 use Rattle.mosaic_rounds.proofs.GeometryLemmas.{IsFacing}
 
 -- what is kept, by corners
@@ -34,6 +34,13 @@ kept-from n a (inl two) = subst (λ k. IsTrue (is_kept n k)) (sym two) (kept-two
 kept-from n a (inr h) =
     let coarse = h.0.coarse in
     kept-border n a coarse (border-address n a (IsAddress-splittable n a h.0) h.1)
+
+pub kept-to : (n a : ℕ) → IsTrue (is_kept n a) → IsKept n a
+kept-to n a kept = ⊎_elim
+    (λ two. inl two)
+    (λ (border : (level_of a < 2 * n) × IsTrue (is_border a)).
+    inr (record { low = border-low a border.1; coarse = border.0 }, border-base n a border.1))
+    (kept-cases n a kept)
 
 -- the bit of a mirror image
 facing-bit : (n : ℕ) (words : List ℕ) (first a c : ℕ) → IsFacing a c → level_of c < 2 * n →
@@ -184,43 +191,36 @@ module _ (s : Shape) (turn : ℕ) (words : List ℕ) where
 
 -- a put
 
-module _ (n first : ℕ) (old fresh new clear : List ℕ) (leaves : List ℕ) (none : IsClear n clear)
-    (marks : MarksAll n leaves clear fresh) where
-  -- the mesh's bits say what it has split
-  pub fresh-splits : (a : ℕ) → IsTrue (is_kept n a) → splits_at n fresh 0 a ≡ ancestors_of leaves a
-  fresh-splits a kept =
-      marks a ∙ ap (λ b. b || (is_kept n a && ancestors_of leaves a)) (none a)
-      ∙ ap (λ b. false || (b && ancestors_of leaves a)) kept
+module _ (n first : ℕ) (old fresh new : List ℕ)
+    (added : (j : ℕ) → has_bit new (first + j) ≡
+    (has_bit old (first + j) || (nat_lt j (2 ^ (n + 2)) && has_bit fresh j)))
+    (all : (a : ℕ) → IsTrue (splits_at n old first a) → splits_at n fresh 0 a ≡ false → ⊥) where
+  -- the tile's bits say then what the mesh's say
+  pub put-splits : (a : ℕ) → splits_at n new first a ≡ splits_at n fresh 0 a
+  put-splits a = ⊎_elim
+      (λ kept.
+      let b = kept-bit n a kept in
+      let none_more : 0 + b.0 ≡ b.0 = omega arith in
+      let own : has_bit fresh b.0 ≡ splits_at n fresh 0 a = ap (has_bit fresh) (sym none_more) ∙ sym (b.3 fresh 0) in
+      b.3 new first ∙ added b.0
+      ∙ joined (has_bit old (first + b.0)) (nat_lt b.0 (2 ^ (n + 2))) (has_bit fresh b.0)
+      (lt-ltb b.0 (2 ^ (n + 2)) b.1)
+      (λ is off. all a (b.3 old first ∙ is) (sym own ∙ off))
+      ∙ own)
+      (λ off. splits-other n new first a off ∙ sym (splits-other n fresh 0 a off))
+      (cases_Bool (is_kept n a))
+    where
+      joined : (x l y : Bool) → l ≡ true → (x ≡ true → y ≡ false → ⊥) → (x || (l && y)) ≡ y
+      joined x false y e h = absurd (both_ways false refl e)
+      joined true true true e h = refl
+      joined true true false e h = absurd (h refl refl)
+      joined false true y e h = refl
 
-  -- a mesh lacks what it has not split
-  pub shrunk-to : (a : ℕ) → IsTrue (splits_at n old first a) → splits_at n fresh 0 a ≡ false →
-      ancestors_of leaves a ≡ false
-  shrunk-to a is off = sym (fresh-splits a (splits-kept n old first a is)) ∙ off
-
-  pub shrunk-from : (a : ℕ) → IsTrue (splits_at n old first a) → ancestors_of leaves a ≡ false →
-      splits_at n fresh 0 a ≡ false
-  shrunk-from a is off = fresh-splits a (splits-kept n old first a is) ∙ off
-
-  module _ (added : (j : ℕ) → has_bit new (first + j) ≡
-      (has_bit old (first + j) || (nat_lt j (2 ^ (n + 2)) && has_bit fresh j)))
-      (all : (a : ℕ) → IsTrue (splits_at n old first a) → splits_at n fresh 0 a ≡ false → ⊥) where
-    -- so the tile's bits say it then
-    pub put-splits : (a : ℕ) → IsTrue (is_kept n a) → splits_at n new first a ≡ ancestors_of leaves a
-    put-splits a kept =
-        let b = kept-bit n a kept in
-        let none_more : 0 + b.0 ≡ b.0 = omega arith in
-        let own : has_bit fresh b.0 ≡ splits_at n fresh 0 a = ap (has_bit fresh) (sym none_more) ∙ sym (b.3 fresh 0) in
-        b.3 new first ∙ added b.0
-        ∙ joined (has_bit old (first + b.0)) (nat_lt b.0 (2 ^ (n + 2))) (has_bit fresh b.0)
-        (lt-ltb b.0 (2 ^ (n + 2)) b.1)
-        (λ is off. all a (b.3 old first ∙ is) (sym own ∙ off))
-        ∙ own ∙ fresh-splits a kept
-      where
-        joined : (x l y : Bool) → l ≡ true → (x ≡ true → y ≡ false → ⊥) → (x || (l && y)) ≡ y
-        joined x false y e h = absurd (both_ways false refl e)
-        joined true true true e h = refl
-        joined true true false e h = absurd (h refl refl)
-        joined false true y e h = refl
+-- what the border points of a mesh say, by their bits
+pub has-split-at : (b : BorderState) (n : ℕ) (words : List ℕ) → b.n ≡ n → words ≡ b.bits → (a : ℕ) →
+    splits_at n words 0 a ≡ has_split b a
+has-split-at b n words same at a =
+    ap (λ (w : List ℕ). splits_at n w 0 a) at ∙ ap (λ k. splits_at k b.bits 0 a) (sym same)
 
 -- and those of other tiles are as they were
 pub put-others : (s : Shape) (old new fresh : List ℕ) (t u : Point) (a : ℕ) → IsTile s.columns s.rows t →

@@ -2,10 +2,10 @@
 use Rattle.std.proofs.Common.{◌≡◌, ℕ, zero, suc, ◌+◌, ◌*◌, ◌/◌, ◌%◌, ◌^◌, ◌<◌, ◌≤◌, sym, ◌∙◌, ap, arith, pow_mono, ◌⊎◌}
 use Rattle.std.proofs.Common.{⊎_elim, inl, inr}
 use Rattle.std.proofs.lemmas.Bool.{cases_order}
-use Rattle.std.proofs.lemmas.Nat.{same_from_place, mul-add-lt, mul-le, shl_below, mod-mul-add, div-mul-add, one_shl}
+use Rattle.std.proofs.lemmas.Nat.{same_from_place, mul-add-lt, mul-le, shl_below, mod-mul-add, div-mul-add, one_shl, pow-add, pow_pos}
 use Rattle.mesh_defs.specs.declared.point.Point.{Point}
 use Rattle.bintree_laws.proofs.LatticeLemmas.{same_point}
-use Rattle.tile_laws.specs.Tile.{IsTile}
+use Rattle.mosaic_laws.specs.Tile.{IsTile}
 use Rattle.mosaic_rounds.specs.declared.shape.Shape.{Shape}
 use Rattle.mosaic_rounds.specs.Shape.{first_of}
 use Rattle.mosaic_rounds.specs.Side.{IsNeighbour}
@@ -37,6 +37,14 @@ turn-tile s t turn tiles tile count is =
     same_point t.x t.y (turn % tiles % s.columns) (turn % tiles / s.columns)
     (sym (ap (λ k. k % s.columns) number ∙ mod-mul-add t.y s.columns t.x tile.column))
     (sym (ap (λ k. k / s.columns) number ∙ div-mul-add t.y s.columns t.x tile.column))
+
+-- a side ends within the bits of its tile
+pub side-ends : (n side first bit all room : ℕ) → side < 4 → bit ≡ side * 2 ^ n + 0 → first + 2 ^ (n + 2) ≤ all →
+    all ≤ room → first + bit + 2 ^ n ≤ room
+side-ends n side first bit all room small value within enough =
+    let four : 2 ^ (n + 2) ≡ 2 ^ n * 2 ^ 2 = pow-add 2 n 2 in
+    let some = pow_pos n in
+    let most : side * 2 ^ n ≤ 3 * 2 ^ n = mul-le side (2 ^ n) 3 (2 ^ n) (omega arith) (omega arith) in omega arith
 
 -- beyond a side lies one tile
 pub neighbour-one : (side : ℕ) (t u v : Point) → IsNeighbour side t u → IsNeighbour side t v → u ≡ v

@@ -17,7 +17,7 @@ border-low (suc zero) is = absurd (both_ways false refl is)
 border-low (suc (suc a)) is = omega arith
 
 -- 2 has none either
-two-off : is_border 2 ≡ false
+pub two-off : is_border 2 ≡ false
 unfolding level_of
 two-off = refl
 

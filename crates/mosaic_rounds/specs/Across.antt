@@ -3,7 +3,7 @@
 use Rattle.std.specs.Prelude.{◌≡◌, ◌⊎◌, ℕ, ◌+◌, ◌*◌, ◌%◌, ◌^◌, ◌<◌, ◌≤◌, false, IsTrue, List}
 use Rattle.mesh_defs.specs.declared.point.Point.{Point}
 use Rattle.mesh_defs.specs.Triangle.{level_of}
-use Rattle.tile_laws.specs.Tile.{IsTile}
+use Rattle.mosaic_laws.specs.Tile.{IsTile}
 use Rattle.mosaic_rounds.specs.declared.shape.Shape.{Shape}
 use Rattle.mosaic_rounds.specs.Border.{is_border, side_of, place_of}
 use Rattle.mosaic_rounds.specs.Bits.{has_bit, splits_at}

@@ -1,5 +1,7 @@
 pub mod Border
 pub mod Bits
+pub mod BorderPoints
+pub mod Place
 pub mod Side
 pub mod Shape
 pub mod Rounds

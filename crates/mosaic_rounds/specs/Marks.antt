@@ -1,7 +1,7 @@
 -- What the leaves of a mesh add to the bits of a tile. This project's own form. Words: Marks, MarksAll, IsClear.
 use Rattle.std.specs.Prelude.{◌≡◌, ℕ, false, ◌&&◌, ◌||◌, nat_le, List}
 use Rattle.mesh_defs.specs.Triangle.{level_of}
-use Rattle.tiling_laws.specs.Ancestors.{is_above, ancestors_of}
+use Rattle.mesh_laws.specs.Ancestors.{is_above, ancestors_of}
 use Rattle.mosaic_rounds.specs.Bits.{is_kept, splits_at}
 
 -- beside what they said, the bits say that what is kept and lies above the leaf, from this level on, is split

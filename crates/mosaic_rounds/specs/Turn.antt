@@ -1,7 +1,7 @@
 -- Whose turn it is. This project's own form. Words: turn_in, Waits.
 use Rattle.std.specs.Prelude.{◌≡◌, ℕ, ◌+◌, ◌*◌, ◌%◌, List}
 use Rattle.mesh_defs.specs.declared.point.Point.{Point}
-use Rattle.tile_laws.specs.Tile.{IsTile}
+use Rattle.mosaic_laws.specs.Tile.{IsTile}
 use Rattle.mosaic_rounds.specs.declared.shape.Shape.{Shape}
 use Rattle.mosaic_rounds.specs.Across.{LacksBy}
 

@@ -1,16 +1,18 @@
 //! What is asked of a tile: what its neighbours have on the common sides, and its centre.
 
 ghost use Rattle.std.specs.Prelude.{◌≡◌, ℕ, ◌+◌, ◌-◌, ◌*◌, ◌^◌, ◌<◌, ◌≤◌, ◌↔◌, ◌⊎◌, true, All, IsTrue, take, length};
+ghost use Rattle.std.specs.Prelude.{nat_eq};
+ghost use Rattle.std.specs.List.{IsDistinct};
 ghost use Rattle.mesh_defs.specs.declared.point.Point.{Point};
 ghost use Rattle.mesh_defs.specs.Triangle.{IsSplittable};
 ghost use Rattle.mesh_defs.specs.ClosedSet.{among};
-ghost use Rattle.tile_laws.specs.Tile.{IsTile};
+ghost use Rattle.mosaic_laws.specs.Tile.{IsTile};
 ghost use Rattle.mosaic_rounds.specs.Shape.{IsShape};
 ghost use Rattle.mosaic_rounds.specs.Across.{IsAcross, LacksAcross, IsAskedBy, LacksBy};
 
 use crate::bits::is_set;
 use crate::border::border_tri;
-use crate::shape::{Shape, first_bit, side_bit};
+use crate::shape::{Shape, first_bit, side_bit, side_exceeds};
 use crate::side::{beyond, facing};
 use bintree_addr::Tri;
 use mesh_defs::Point;
@@ -45,14 +47,10 @@ fn lacks_across(words: &[u64], shape: Shape, t: Point, side: u32) -> bool
         return false;
     };
     let there = first_bit(shape, u);
+    let opposite = side_bit(shape.n, facing(side), 0);
     let here = first_bit(shape, t);
-    for place in 1..1u32 << shape.n {
-        let split_there = is_set(words, there + side_bit(shape.n, facing(side), place));
-        if split_there && !is_set(words, here + side_bit(shape.n, side, place)) {
-            return true;
-        }
-    }
-    false
+    let own = side_bit(shape.n, side, 0);
+    side_exceeds(shape.n, words, there + opposite, words, here + own)
 }
 
 /// Puts what is asked of the tile to the front of the list, and answers how many there are.
@@ -63,6 +61,7 @@ pub fn tell(words: &[u64], shape: Shape, t: Point, list: &mut [Tri]) -> usize
     requires list { 2 ^ (shape.n + 2) ≤ length list.old }
     ensures just { (a : ℕ) →
         (IsTrue (among (take result list.new) a) ↔ IsAskedBy shape words.now t 4 a) }
+    ensures distinct { IsDistinct nat_eq (take result list.new) }
     ensures within { result ≤ 2 ^ (shape.n + 2) }
 {
     list[0] = Tri::LOWER;
@@ -90,6 +89,8 @@ fn tell_across(
     ensures room { length list.new ≡ length list.old }
     ensures just { (a : ℕ) → (IsTrue (among (take result list.new) a)
         ↔ (IsTrue (among (take count list.old) a) ⊎ IsAcross shape words.now t side a)) }
+    ensures distinct { ((a : ℕ) → IsTrue (among (take count list.old) a) → IsAcross shape words.now t side a → ⊥) →
+        IsDistinct nat_eq (take count list.old) → IsDistinct nat_eq (take result list.new) }
     ensures within { (count ≤ result) × (result < count + 2 ^ shape.n) }
 {
     let Some(u) = beyond(shape, t, side) else {

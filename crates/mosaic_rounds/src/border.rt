@@ -3,7 +3,7 @@
 ghost use Rattle.std.specs.Prelude.{◌≡◌, ℕ, ◌+◌, ◌*◌, ◌^◌, ◌<◌, ◌≤◌, ◌&&◌, ◌||◌, IsTrue, length};
 ghost use Rattle.mesh_defs.specs.Triangle.{level_of};
 ghost use Rattle.mesh_defs.specs.declared.level.TheConstants.{GREATEST_LEVEL};
-ghost use Rattle.tiling_laws.specs.Ancestors.{is_above};
+ghost use Rattle.mesh_laws.specs.Ancestors.{is_above};
 ghost use Rattle.mosaic_rounds.specs.Border.{backward, is_border, side_of, place_of};
 ghost use Rattle.mosaic_rounds.specs.Bits.{is_kept, splits_at};
 

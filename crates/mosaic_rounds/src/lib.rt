@@ -11,14 +11,17 @@
 mod asked;
 mod bits;
 mod border;
+mod border_points;
 mod kept;
 mod mark;
+mod place;
 mod rounds;
 mod shape;
 mod side;
 mod turn;
 
-pub use mesh_defs::Point;
-pub use roam_errors::NoMemory;
+pub use border_points::BorderPoints;
+pub use mesh_defs::{NoMemory, Point};
+pub use place::place_of_centre;
 pub use rounds::{Rounds, Shrunk};
 pub use shape::{MOST_ACROSS, limit_laws};

@@ -11,6 +11,14 @@ use crate::border::backwards;
 use crate::shape::side_bit;
 use bintree_addr::Tri;
 
+/// No bit is set any more.
+pub fn clear(words: &mut [u64])
+    ensures room { length words.new ≡ length words.old }
+    ensures clear { (n : ℕ) → IsClear n words.new }
+{
+    words.fill(0);
+}
+
 /// Sets the bits of what lies above the leaves: of 2, and of the triangles with their base on a side.
 ///
 /// Cost (not proved): a few steps for each leaf, and one more for each triangle above it that is on a side.
@@ -27,7 +35,7 @@ pub fn mark_splits(words: &mut [u64], n: u32, leaves: &[Tri])
 }
 
 /// Sets the bits of what lies above the leaf.
-fn mark_above(words: &mut [u64], n: u32, leaf: Tri)
+pub fn mark_above(words: &mut [u64], n: u32, leaf: Tri)
     requires in_grid { (1 ≤ n) × (n ≤ GREATEST_LEVEL) }
     requires room { 2 ^ (n + 2) ≤ 64 * length words.old }
     requires level { level_of leaf ≤ 2 * n }

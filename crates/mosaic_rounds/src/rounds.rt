@@ -2,23 +2,25 @@
 
 ghost use Rattle.std.specs.Prelude.{◌≡◌, ◌≢◌, ℕ, ◌+◌, ◌*◌, ◌%◌, ◌^◌, ◌<◌, ◌≤◌, ◌↔◌, All, IfOk, IfSome, IfNone, IsErr};
 ghost use Rattle.std.specs.Prelude.{OnErr};
-ghost use Rattle.std.specs.Prelude.{IsNone, IsTrue, OnOk, false, length, take};
+ghost use Rattle.std.specs.Prelude.{IsNone, IsTrue, OnOk, false, length, nat_eq, take};
+ghost use Rattle.std.specs.List.{IsDistinct};
 ghost use Rattle.mesh_defs.specs.declared.point.Point.{Point};
 ghost use Rattle.mesh_defs.specs.Triangle.{level_of, IsSplittable};
 ghost use Rattle.mesh_defs.specs.ClosedSet.{among};
 ghost use Rattle.mesh_defs.specs.declared.level.TheConstants.{GREATEST_LEVEL};
-ghost use Rattle.tiling_laws.specs.Ancestors.{ancestors_of};
-ghost use Rattle.tile_laws.specs.Tile.{IsTile};
+ghost use Rattle.mesh_laws.specs.Ancestors.{ancestors_of};
+ghost use Rattle.mosaic_laws.specs.Tile.{IsTile};
 ghost use Rattle.mosaic_rounds.specs.declared.shape.TheConstants.{MOST_ACROSS};
-ghost use Rattle.mosaic_rounds.specs.Rounds.{splits, IsKept, IsAskedOf, IsSettled, Lacks, turn_of, wait_of};
+ghost use Rattle.mosaic_rounds.specs.Rounds.{splits, IsAskedOf, IsSettled, Lacks, turn_of, wait_of};
+ghost use Rattle.mosaic_rounds.specs.BorderPoints.{has_split, IsKept};
 
-use crate::asked::tell;
+use crate::asked::{lacks, tell};
+use crate::border_points::BorderPoints;
 use crate::kept::put_mesh;
 use crate::shape::{MOST_ACROSS, Shape};
 use crate::turn::{next_turn, tile_in_turn};
 use bintree_addr::Tri;
-use mesh_defs::Point;
-use roam_errors::NoMemory;
+use mesh_defs::{NoMemory, Point};
 use std::alloc::Global;
 use std::marker::Model;
 
@@ -36,8 +38,8 @@ pub struct Rounds {
     turn: u64,
     /// The bits of all tiles, row by row.
     words: Vec<u64>,
-    /// Room for the bits of one mesh.
-    fresh: Vec<u64>,
+    /// Room for what one mesh has.
+    fresh: BorderPoints,
 }
 
 impl Model for Rounds {
@@ -47,7 +49,7 @@ impl Model for Rounds {
 
     ghost view = { λ r. rounds_of r.shape r.turn r.words.items };
 
-    ghost invariant = { λ r. IsRoomFor r.shape r.turn r.words.items r.fresh.items };
+    ghost invariant = { λ r. IsRoomFor r.shape r.turn r.words.items r.fresh };
 }
 
 impl Rounds {
@@ -65,7 +67,7 @@ impl Rounds {
         let shape = Shape { columns, rows, n };
         let bits = (columns as usize * rows as usize) << (n + 2);
         let words = vec![in alloc; 0u64; bits / 64 + 1]?;
-        let fresh = vec![in alloc; 0u64; (1usize << (n + 2)) / 64 + 1]?;
+        let fresh = BorderPoints::make(alloc, n)?;
         Ok(Rounds {
             shape,
             turn: 0,
@@ -74,13 +76,39 @@ impl Rounds {
         })
     }
 
+    /// How many columns of tiles there are.
+    pub fn columns(&self) -> u32
+        ensures value { result ≡ self.now.columns }
+        ensures some { 1 ≤ result }
+        ensures few { result ≤ MOST_ACROSS }
+    {
+        self.shape.columns
+    }
+
+    /// How many rows.
+    pub fn rows(&self) -> u32
+        ensures value { result ≡ self.now.rows }
+        ensures some { 1 ≤ result }
+        ensures few { result ≤ MOST_ACROSS }
+    {
+        self.shape.rows
+    }
+
+    /// The n of the tiles, whose side is 2^n.
+    pub fn n(&self) -> u32
+        ensures value { result ≡ self.now.n }
+        ensures in_grid { (1 ≤ result) × (result ≤ GREATEST_LEVEL) }
+    {
+        self.shape.n
+    }
+
     /// The next tile that has to be fitted: something is asked of it that its mesh has not split. None exactly where
     /// each tile has what is asked of it, so that all are one mesh without cracks.
     ///
     /// Tiles whose column and row add up to an even number come before the others, so that these are fitted once with
     /// all that their neighbours have. The search goes on behind the last answer; so calls without a `put` between go
     /// round all tiles that have to be fitted, for as many workers as there are.
-    /// Cost (not proved): a step for each border point of each tile that is passed.
+    /// Cost (not proved): a step for each 64 border points of each tile that is passed.
     pub fn next(&mut self) -> Option<Point>
         ensures none { IsNone result ↔ IsSettled self.old }
         ensures tile { IfSome result (λ t. IsTile self.old.columns self.old.rows t × Lacks self.old t) }
@@ -98,6 +126,14 @@ impl Rounds {
         Some(tile_in_turn(self.shape, turn))
     }
 
+    /// Whether something is asked of the tile that its mesh has not split, so that it has to be fitted.
+    pub fn lacks(&self, t: Point) -> bool
+        requires tile { IsTile self.now.columns self.now.rows t }
+        ensures value { IsTrue result ↔ Lacks self.now t }
+    {
+        lacks(&self.words, self.shape, t)
+    }
+
     /// Puts the triangles that have to be split in this tile to the front of the list, and answers how many there are:
     /// 2, whose centre is the tile's, and those with their base on a side whose mirror image beyond it is split in the
     /// tile there.
@@ -108,6 +144,7 @@ impl Rounds {
         requires room { 2 ^ (self.now.n + 2) ≤ length list.old }
         ensures just { (a : ℕ) →
             (IsTrue (among (take result list.new) a) ↔ IsAskedOf self.now t a) }
+        ensures distinct { IsDistinct nat_eq (take result list.new) }
         ensures splittable { All (λ a. IsSplittable self.now.n a) (take result list.new) }
         ensures within { result ≤ 2 ^ (self.now.n + 2) }
     {
@@ -119,7 +156,7 @@ impl Rounds {
     ///
     /// A mesh that was found with less required than is by now is taken: it may be late. One that lacks what the mesh
     /// before it had is refused.
-    /// Cost (not proved): a few steps for each triangle, and one for each border point.
+    /// Cost (not proved): a few steps for each triangle, and one for each 64 border points.
     pub fn put(&mut self, t: Point, leaves: &[Tri]) -> Result<(), Shrunk>
         requires tile { IsTile self.old.columns self.old.rows t }
         requires levels { All (λ a. level_of a ≤ 2 * self.old.n) leaves.now }
@@ -136,7 +173,30 @@ impl Rounds {
         ensures n { self.new.n ≡ self.old.n }
         ensures turn { self.new.turn ≡ self.old.turn }
     {
-        if !put_mesh(&mut self.words, &mut self.fresh, self.shape, t, leaves) {
+        self.fresh.clear();
+        self.fresh.add_leaves(leaves);
+        if !put_mesh(&mut self.words, self.fresh.bits(), self.shape, t) {
+            return Err(Shrunk);
+        }
+        Ok(())
+    }
+
+    /// Keeps what a mesh of the tile has, by its border points: as `put` does by the mesh itself.
+    pub fn put_border(&mut self, t: Point, border: &BorderPoints) -> Result<(), Shrunk>
+        requires tile { IsTile self.old.columns self.old.rows t }
+        requires n { border.now.n ≡ self.old.n }
+        ensures ok { OnOk result ((a : ℕ) → splits self.new t a ≡ has_split border.now a) }
+        ensures shrunk { IsErr result ↔ ((a : ℕ) × IsTrue (splits self.old t a)
+            × (has_split border.now a ≡ false)) }
+        ensures err { OnErr result ((u : Point) (a : ℕ) → splits self.new u a ≡ splits self.old u a) }
+        ensures others { (u : Point) (a : ℕ) → IsTile self.old.columns self.old.rows u → u ≢ t →
+            splits self.new u a ≡ splits self.old u a }
+        ensures columns { self.new.columns ≡ self.old.columns }
+        ensures rows { self.new.rows ≡ self.old.rows }
+        ensures n { self.new.n ≡ self.old.n }
+        ensures turn { self.new.turn ≡ self.old.turn }
+    {
+        if !put_mesh(&mut self.words, border.bits(), self.shape, t) {
             return Err(Shrunk);
         }
         Ok(())

@@ -2,7 +2,7 @@
 
 ghost use Rattle.std.specs.Prelude.{◌≡◌, ℕ, ◌+◌, ◌*◌, ◌%◌, ◌<◌, IfSome, IfNone};
 ghost use Rattle.mesh_defs.specs.declared.point.Point.{Point};
-ghost use Rattle.tile_laws.specs.Tile.{IsTile};
+ghost use Rattle.mosaic_laws.specs.Tile.{IsTile};
 ghost use Rattle.mosaic_rounds.specs.Side.{IsNeighbour};
 
 use crate::shape::Shape;

@@ -2,7 +2,7 @@
 
 ghost use Rattle.std.specs.Prelude.{◌≡◌, ℕ, ◌+◌, ◌*◌, ◌%◌, ◌^◌, ◌<◌, ◌≤◌, ◌↔◌, true, IfSome, IfNone, length};
 ghost use Rattle.mesh_defs.specs.declared.point.Point.{Point};
-ghost use Rattle.tile_laws.specs.Tile.{IsTile};
+ghost use Rattle.mosaic_laws.specs.Tile.{IsTile};
 ghost use Rattle.mosaic_rounds.specs.Shape.{IsShape};
 ghost use Rattle.mosaic_rounds.specs.Turn.{turn_in, Waits};
 

@@ -1,6 +1,7 @@
 pub mod Arrays
 pub mod Faces
 pub mod Field
+pub mod LineView
 pub mod LinesLeft
 pub mod MeshView
 pub mod Numbers

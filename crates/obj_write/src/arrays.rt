@@ -8,11 +8,13 @@ ghost use Rattle.mesh_defs.specs.declared.level.TheConstants.{GREATEST_LEVEL};
 ghost use Rattle.bintree_laws.specs.Corners.{IsInSquare};
 ghost use Rattle.wedgie_tree.specs.declared.wedges.TheConstants.{GREATEST_SPACING};
 ghost use Rattle.obj_write.specs.Numbers.{numbers_of};
+ghost use Rattle.obj_write.specs.LineView.{mesh_seen};
 ghost use Rattle.obj_write.specs.MeshView.{IsView, IsShown};
 ghost use Rattle.obj_write.specs.Table.{AreFlagged};
 ghost use Rattle.obj_write.specs.VertexMarks.{place_point, is_vertex};
 ghost use Rattle.obj_write.specs.Arrays.{position_of, positions_of, vertex_place, places_at, places_of};
 
+use crate::line_view::LineView;
 use crate::mesh::MeshView;
 use crate::scan::first_from;
 use crate::sparse::SparseView;
@@ -39,11 +41,11 @@ pub fn write_positions(view: &SparseView<'_>, out: &mut [u32])
 }
 
 /// The same of the parts of a view.
-fn write_all_positions(view: &MeshView<'_>, used: Option<&[bool]>, out: &mut [u32])
-    requires view { IsView view.now }
+fn write_all_positions(view: &LineView<'_>, used: Option<&[bool]>, out: &mut [u32])
+    requires view { IsView (mesh_seen view.now) }
     requires flagged { IfSome used (λ used. AreFlagged view.now.numbers.now used.now) }
-    requires room { 3 * length (vertices_of view.now.wedges.now.n view.now.leaves.now) ≤ length out.old }
-    ensures { let grid = view.now.wedges.now in
+    requires room { 3 * length (vertices_of view.now.grid.now.n view.now.leaves.now) ≤ length out.old }
+    ensures { let grid = view.now.grid.now in
         out.new ≡ positions_of grid.n grid.heights view.now.spacing view.now.leaves.now
         ++ drop (3 * length (vertices_of grid.n view.now.leaves.now)) out.old }
 {
@@ -59,14 +61,14 @@ fn write_all_positions(view: &MeshView<'_>, used: Option<&[bool]>, out: &mut [u3
 
 /// Writes x, y and z of the point at a place of the grid.
 #[tactic(auto, using(bintree_laws::proofs::CornerLemmas::side_small))]
-fn write_position(view: &MeshView<'_>, k: usize, out: &mut [u32], at: usize)
-    requires view { IsView view.now }
-    requires below { k < side_of view.now.wedges.now.n * side_of view.now.wedges.now.n }
+fn write_position(view: &LineView<'_>, k: usize, out: &mut [u32], at: usize)
+    requires view { IsView (mesh_seen view.now) }
+    requires below { k < side_of view.now.grid.now.n * side_of view.now.grid.now.n }
     requires room { at + 3 ≤ length out.old }
-    ensures { let grid = view.now.wedges.now in out.new ≡ take at out.old
+    ensures { let grid = view.now.grid.now in out.new ≡ take at out.old
         ++ position_of grid.n grid.heights view.now.spacing (place_point grid.n k) ++ drop (at + 3) out.old }
 {
-    let grid = view.wedges.grid();
+    let grid = view.grid;
     let vertex = point_at(grid.n(), k);
     let position = [
         scaled(view.spacing, vertex.x),

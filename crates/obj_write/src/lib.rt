@@ -13,6 +13,7 @@ mod arrays;
 mod faces;
 mod field;
 mod limits;
+mod line_view;
 mod lines;
 mod mesh;
 mod page;

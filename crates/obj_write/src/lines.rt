@@ -7,6 +7,7 @@ ghost use Rattle.mesh_defs.specs.MeshText.{face_line, group_line, is_mark_before
 ghost use Rattle.wedgie_tree.specs.declared.wedges.TheConstants.{GREATEST_SPACING};
 ghost use Rattle.obj_write.specs.Numbers.{numbers_of};
 ghost use Rattle.obj_write.specs.MeshView.{view_text, IsView, IsShown, group_text};
+ghost use Rattle.obj_write.specs.LineView.{mesh_seen, AreBoxesOf};
 ghost use Rattle.obj_write.specs.LinesLeft.{face_text};
 ghost use Rattle.obj_write.specs.Faces.{AreFaces};
 ghost use Rattle.obj_write.specs.Table.{AreFlagged};
@@ -14,7 +15,7 @@ ghost use Rattle.obj_write.specs.declared.faces.TheConstants.{LEVELS};
 ghost use Rattle.obj_write.specs.declared.lines.TheConstants.{LONGEST_LINE, LONGEST_GROUP, LONGEST_PIECE};
 
 use crate::faces::{Face, LEVELS, base_of, first_faces, half_face, make_known};
-use crate::mesh::MeshView;
+use crate::line_view::{LineView, Marking};
 use crate::page::Page;
 use crate::row::{Row, first_row, put_vertex};
 use crate::scan::first_from;
@@ -39,7 +40,7 @@ pub const LONGEST_PIECE: usize = LONGEST_GROUP + LONGEST_LINE;
 /// They are made one after another, and never stand all together.
 #[derive(Drop)]
 pub struct MeshLines<'a> {
-    view: MeshView<'a>,
+    view: LineView<'a>,
     /// For each block of places whether a number may stand there, where it is known.
     used: Option<&'a [bool]>,
     /// The place from which on vertices are to come.
@@ -57,6 +58,7 @@ pub struct MeshLines<'a> {
 impl<'a> Model for MeshLines<'a> {
     ghost use Rattle.std.specs.Prelude.{◌+◌, ◌-◌, ◌≤◌, ◌++◌, length, IfSome};
     ghost use Rattle.obj_write.specs.MeshView.{IsView};
+    ghost use Rattle.obj_write.specs.LineView.{mesh_seen, AreBoxesOf};
     ghost use Rattle.obj_write.specs.LinesLeft.{LinesLeft, vertex_text, face_text};
     ghost use Rattle.obj_write.specs.Faces.{AreFaces};
     ghost use Rattle.obj_write.specs.Row.{IsRow};
@@ -65,14 +67,16 @@ impl<'a> Model for MeshLines<'a> {
     ghost Value = { LinesLeft };
 
     ghost view = { λ l. record {
-      text = vertex_text l.view l.place ++ face_text l.view l.face l.before;
+      text = vertex_text (mesh_seen l.view) l.place ++ face_text (mesh_seen l.view) l.face l.before;
       most = (length l.view.numbers.now - l.place) + (length l.view.leaves.now - l.face);
     } };
 
-    ghost invariant = { λ l. IsView l.view × (l.place ≤ length l.view.numbers.now) × (l.face ≤ length l.view.leaves.now)
-        × IsRow l.view.wedges.now.n l.view.spacing l.row × (l.row.start ≤ l.place)
-        × AreFaces l.view.wedges.now.n l.view.numbers.now l.faces
-        × IfSome l.used (λ used. AreFlagged l.view.numbers.now used.now) };
+    ghost invariant = { λ l. IsView (mesh_seen l.view)
+        × (l.place ≤ length l.view.numbers.now) × (l.face ≤ length l.view.leaves.now)
+        × IsRow l.view.grid.now.n l.view.spacing l.row × (l.row.start ≤ l.place)
+        × AreFaces l.view.grid.now.n l.view.numbers.now l.faces
+        × IfSome l.used (λ used. AreFlagged l.view.numbers.now used.now)
+        × AreBoxesOf l.view.grid.now l.view.marking };
 }
 
 impl<'a> MeshLines<'a> {
@@ -90,13 +94,14 @@ impl<'a> MeshLines<'a> {
     }
 
     /// The same of the parts of a view.
-    fn of(view: MeshView<'a>, used: Option<&'a [bool]>) -> MeshLines<'a>
-        requires view { IsView view }
+    fn of(view: LineView<'a>, used: Option<&'a [bool]>) -> MeshLines<'a>
+        requires view { IsView (mesh_seen view) }
+        requires boxes { AreBoxesOf view.grid.now view.marking }
         requires flagged { IfSome used (λ used. AreFlagged view.numbers.now used.now) }
-        ensures text { result.text ≡ view_text view.entry }
+        ensures text { result.text ≡ view_text (mesh_seen view.entry) }
         ensures most { result.most ≡ length view.entry.numbers.now + length view.entry.leaves.now }
     {
-        let faces = first_faces(view.numbers, view.wedges.grid().n());
+        let faces = first_faces(view.numbers, view.grid.n());
         MeshLines {
             view,
             used,
@@ -159,25 +164,29 @@ impl<'a> MeshLines<'a> {
 /// Without a plane no mark is asked for.
 #[inline(always)]
 fn put_group<const ROOM: usize>(
-    view: &MeshView<'_>,
+    view: &LineView<'_>,
     before: Option<Mark>,
     leaf: Tri,
     page: &mut Page<ROOM>,
 ) -> Option<Mark>
-    requires view { IsView view.now }
-    requires level { level_of leaf ≤ 2 * view.now.wedges.now.n }
+    requires view { IsView (mesh_seen view.now) }
+    requires boxes { AreBoxesOf view.now.grid.now view.now.marking }
+    requires level { level_of leaf ≤ 2 * view.now.grid.now.n }
     requires room { length page.old + LONGEST_GROUP ≤ ROOM }
-    ensures text { page.new ≡ page.old ++ group_line view.now.planes.now before (triangle_mark view.now.wedges.now.n
-        view.now.wedges.now.heights view.now.spacing view.now.planes.now leaf) }
+    ensures text { let v = mesh_seen view.now in page.new ≡ page.old ++ group_line v.planes.now before
+        (triangle_mark v.wedges.now.n v.wedges.now.heights v.spacing v.planes.now leaf) }
     ensures short { length page.new ≤ length page.old + LONGEST_GROUP }
     // The text behind is that behind the triangle's mark.
-    ensures before { (i : ℕ) → face_text view.now i result ≡ face_text view.now i (Some (triangle_mark
-        view.now.wedges.now.n view.now.wedges.now.heights view.now.spacing view.now.planes.now leaf)) }
+    ensures before { let v = mesh_seen view.now in (i : ℕ) → face_text v i result ≡ face_text v i
+        (Some (triangle_mark v.wedges.now.n v.wedges.now.heights v.spacing v.planes.now leaf)) }
 {
-    if view.planes.len() == 0 {
+    let Some(marking) = view.marking else {
+        return before;
+    };
+    if marking.planes.len() == 0 {
         return before;
     }
-    let mark = leaf_mark(view, leaf);
+    let mark = leaf_mark(marking, view.spacing, leaf);
     if !is_before(before, mark) {
         page.push_bytes(group_text(mark));
     }
@@ -185,13 +194,14 @@ fn put_group<const ROOM: usize>(
 }
 
 /// The mark of a triangle under the planes in force.
-fn leaf_mark(view: &MeshView<'_>, leaf: Tri) -> Mark
-    requires view { IsView view.now }
-    requires level { level_of leaf ≤ 2 * view.now.wedges.now.n }
-    ensures { result ≡ triangle_mark view.now.wedges.now.n view.now.wedges.now.heights view.now.spacing
-        view.now.planes.now leaf }
+fn leaf_mark(marking: Marking<'_>, spacing: u32, leaf: Tri) -> Mark
+    requires level { level_of leaf ≤ 2 * marking.wedges.now.n }
+    requires spacing_low { 1 ≤ spacing }
+    requires spacing_high { spacing ≤ GREATEST_SPACING }
+    ensures { let grid = marking.entry.wedges.now in
+        result ≡ triangle_mark grid.n grid.heights spacing marking.entry.planes.now leaf }
 {
-    view.planes.mark(&view.wedges.cuboid(leaf, view.spacing))
+    marking.planes.mark(&marking.wedges.cuboid(leaf, spacing))
 }
 
 /// Whether the mark is the one before.
@@ -220,24 +230,24 @@ fn group_text(mark: Mark) -> &'static [u8]
 /// the midpoint of the parent's base.
 #[inline(always)]
 fn put_face<const ROOM: usize>(
-    view: &MeshView<'_>,
+    view: &LineView<'_>,
     faces: &mut [Face],
     leaf: Tri,
     page: &mut Page<ROOM>,
 )
-    requires view { IsView view.now }
-    requires level { level_of leaf ≤ 2 * view.now.wedges.now.n }
-    requires shown { IsShown view.now.wedges.now.n view.now.leaves.now leaf }
+    requires view { IsView (mesh_seen view.now) }
+    requires level { level_of leaf ≤ 2 * view.now.grid.now.n }
+    requires shown { IsShown view.now.grid.now.n view.now.leaves.now leaf }
     requires count { length faces.old ≡ LEVELS }
-    requires known { AreFaces view.now.wedges.now.n view.now.numbers.now faces.old }
+    requires known { AreFaces view.now.grid.now.n view.now.numbers.now faces.old }
     requires room { length page.old + LONGEST_LINE ≤ ROOM }
-    ensures text { let n = view.now.wedges.now.n in page.new ≡ page.old
+    ensures text { let n = view.now.grid.now.n in page.new ≡ page.old
         ++ face_line (vertices_of n view.now.leaves.now) (corners_of n leaf) }
     ensures short { length page.new ≤ length page.old + LONGEST_LINE }
     ensures count { length faces.new ≡ LEVELS }
-    ensures known { AreFaces view.now.wedges.now.n view.now.numbers.now faces.new }
+    ensures known { AreFaces view.now.grid.now.n view.now.numbers.now faces.new }
 {
-    let n = view.wedges.grid().n();
+    let n = view.grid.n();
     let Some(above) = leaf.parent() else {
         let half = half_face(view.numbers, n, leaf);
         page.push_line(b'f', &half.apex.field, &half.v0.field, &half.v1.field);

@@ -1,10 +1,10 @@
 -- Which refusals of a file are those of its header, and which those of its raster: no two are the same.
 use Rattle.std.proofs.Common.{◌≡◌, Option, None, Some, refl, sym, ap, ◌∙◌}
 use Rattle.std.proofs.lemmas.Option.{same_Some}
-use Rattle.pgm_header.specs.declared.fault.HeaderFault.{HeaderFault}
-use Rattle.pgm_header.specs.declared.fault.HeaderFault.TheVariants as header
-use Rattle.pgm_raster.specs.declared.fault.RasterFault.{RasterFault}
-use Rattle.pgm_raster.specs.declared.fault.RasterFault.TheVariants as raster
+use Rattle.pgm_grid.specs.declared.header_fault.HeaderFault.{HeaderFault}
+use Rattle.pgm_grid.specs.declared.header_fault.HeaderFault.TheVariants as header
+use Rattle.pgm_grid.specs.declared.raster_fault.RasterFault.{RasterFault}
+use Rattle.pgm_grid.specs.declared.raster_fault.RasterFault.TheVariants as raster
 use Rattle.pgm_grid.specs.declared.fault.PgmFault.{PgmFault}
 use Rattle.pgm_grid.specs.declared.fault.PgmFault.TheVariants as file
 use Rattle.pgm_grid.specs.Progress.{header_fault, raster_fault}

@@ -6,18 +6,18 @@ use Rattle.text_laws.proofs.WordLemmas.{length-flat}
 use Rattle.text_laws.proofs.AnswerLemmas.{err-same, ok-err}
 use Rattle.text_laws.proofs.ListLemmas.{All-back}
 use Rattle.mesh_defs.specs.HeightField.{HeightField, IsHeightField}
-use Rattle.pgm_header.specs.declared.accepted.Header.{Header}
-use Rattle.pgm_header.specs.declared.fault.HeaderFault.{HeaderFault}
-use Rattle.pgm_header.specs.Accepted.{IsHeader, Accepts, HeaderAnswer, Part, Whole, Bad}
-use Rattle.pgm_header.specs.Reading as reading
-use Rattle.pgm_header.specs.Laws as head
-use Rattle.pgm_raster.specs.declared.fault.RasterFault.{RasterFault}
-use Rattle.pgm_raster.specs.declared.fault.RasterFault.TheVariants as raster
-use Rattle.pgm_raster.specs.declared.form.RasterForm.{RasterForm}
-use Rattle.pgm_raster.specs.declared.form.RasterForm.TheVariants as form
-use Rattle.pgm_raster.specs.RasterText.{IsRaster, IsRasterCutShort, IsTrailingAt, IsBadSampleAt}
-use Rattle.pgm_raster.specs.Laws as laws
-use Rattle.pgm_raster.specs.Progress as samples
+use Rattle.pgm_grid.specs.declared.accepted_header.Header.{Header}
+use Rattle.pgm_grid.specs.declared.header_fault.HeaderFault.{HeaderFault}
+use Rattle.pgm_grid.specs.AcceptedHeader.{IsHeader, Accepts, HeaderAnswer, Part, Whole, Bad}
+use Rattle.pgm_grid.specs.HeaderReading as reading
+use Rattle.pgm_grid.specs.HeaderLaws as head
+use Rattle.pgm_grid.specs.declared.raster_fault.RasterFault.{RasterFault}
+use Rattle.pgm_grid.specs.declared.raster_fault.RasterFault.TheVariants as raster
+use Rattle.pgm_grid.specs.declared.raster_form.RasterForm.{RasterForm}
+use Rattle.pgm_grid.specs.declared.raster_form.RasterForm.TheVariants as form
+use Rattle.pgm_grid.specs.RasterText.{IsRaster, IsRasterCutShort, IsTrailingAt, IsBadSampleAt}
+use Rattle.pgm_grid.specs.RasterLaws as laws
+use Rattle.pgm_grid.specs.RasterProgress as samples
 use Rattle.pgm_grid.specs.declared.fault.PgmFault.{PgmFault}
 use Rattle.pgm_grid.specs.declared.fault.PgmFault.TheVariants.{Truncated, NoMemory}
 use Rattle.pgm_grid.specs.PgmText.{point_count, form_of, most_file_bytes, IsFileText, HasHeader}

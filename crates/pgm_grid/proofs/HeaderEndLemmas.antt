@@ -4,12 +4,12 @@ use Rattle.std.proofs.Common.{sym, ap, ◌∙◌, arith, append-nil, append_asso
 use Rattle.std.proofs.lemmas.Bool.{cases_lt}
 use Rattle.std.proofs.Math.Seq.{take-append_seam, take-append-add}
 use Rattle.text_laws.proofs.AnswerLemmas.{err-same}
-use Rattle.pgm_header.specs.declared.accepted.Header.{Header}
-use Rattle.pgm_header.specs.declared.fault.HeaderFault.{HeaderFault}
-use Rattle.pgm_header.specs.Accepted.{HeaderAnswer, Part, Whole, Bad}
-use Rattle.pgm_header.specs.Reading as reading
-use Rattle.pgm_header.specs.Laws as head
-use Rattle.pgm_raster.specs.Progress as samples
+use Rattle.pgm_grid.specs.declared.accepted_header.Header.{Header}
+use Rattle.pgm_grid.specs.declared.header_fault.HeaderFault.{HeaderFault}
+use Rattle.pgm_grid.specs.AcceptedHeader.{HeaderAnswer, Part, Whole, Bad}
+use Rattle.pgm_grid.specs.HeaderReading as reading
+use Rattle.pgm_grid.specs.HeaderLaws as head
+use Rattle.pgm_grid.specs.RasterProgress as samples
 use Rattle.pgm_grid.specs.declared.fault.PgmFault.{PgmFault}
 use Rattle.pgm_grid.specs.declared.fault.PgmFault.TheVariants.{Truncated, NoMemory}
 use Rattle.pgm_grid.specs.PgmText.{HasHeader}

@@ -5,14 +5,14 @@ use Rattle.std.proofs.lemmas.Result.{IfOk-at_ok}
 use Rattle.std.proofs.lemmas.List.{take_more}
 use Rattle.text_laws.proofs.AnswerLemmas.{err-same, ok-err}
 use Rattle.mesh_defs.specs.HeightField.{IsHeightField}
-use Rattle.pgm_header.specs.declared.accepted.Header.{Header}
-use Rattle.pgm_header.specs.declared.fault.HeaderFault.{HeaderFault}
-use Rattle.pgm_header.specs.Accepted.{IsHeader, Whole, Bad}
-use Rattle.pgm_header.specs.Reading as reading
-use Rattle.pgm_raster.specs.declared.fault.RasterFault.{RasterFault}
-use Rattle.pgm_raster.specs.declared.form.RasterForm.{RasterForm}
-use Rattle.pgm_raster.specs.Laws.{OnlyWantedSamplesAreRead}
-use Rattle.pgm_raster.specs.Progress as samples
+use Rattle.pgm_grid.specs.declared.accepted_header.Header.{Header}
+use Rattle.pgm_grid.specs.declared.header_fault.HeaderFault.{HeaderFault}
+use Rattle.pgm_grid.specs.AcceptedHeader.{IsHeader, Whole, Bad}
+use Rattle.pgm_grid.specs.HeaderReading as reading
+use Rattle.pgm_grid.specs.declared.raster_fault.RasterFault.{RasterFault}
+use Rattle.pgm_grid.specs.declared.raster_form.RasterForm.{RasterForm}
+use Rattle.pgm_grid.specs.RasterLaws.{OnlyWantedSamplesAreRead}
+use Rattle.pgm_grid.specs.RasterProgress as samples
 use Rattle.pgm_grid.specs.declared.fault.PgmFault.{PgmFault}
 use Rattle.pgm_grid.specs.declared.fault.PgmFault.TheVariants.{Truncated, NoMemory}
 use Rattle.pgm_grid.specs.PgmText.{point_count, form_of}

@@ -2,14 +2,14 @@
 -- any length is refused by the first byte that is wrong; in plain files a byte at place 2 ^ 28 is wrong itself.
 -- Words: AreBytes, and a law a word.
 use Rattle.std.specs.Prelude.{◌≡◌, ◌≢◌, ◌↔◌, ◌⊎◌, ℕ, ◌+◌, ◌-◌, ◌<◌, ◌≤◌, true, List, length, take, All, Ok, Err, IfErr}
-use Rattle.pgm_header.specs.declared.reader.TheConstants.{MOST_HEADER_BYTES}
+use Rattle.pgm_grid.specs.declared.header_reader.TheConstants.{MOST_HEADER_BYTES}
 use Rattle.mesh_defs.specs.HeightField.{HeightField, IsHeightField, side_of}
-use Rattle.pgm_header.specs.declared.accepted.Header.{Header}
-use Rattle.pgm_header.specs.declared.machine.HeaderValues.{HeaderValues}
-use Rattle.pgm_header.specs.HeaderText.{IsProperPrefix, IsUnfitAt, BeginsWithHeader}
-use Rattle.pgm_header.specs.Accepted.{IsLevel, IsMaxval}
-use Rattle.pgm_raster.specs.RasterText.{IsRasterCutShort, IsTrailingAt, IsBadSampleAt}
-use Rattle.pgm_raster.specs.Laws.{IsBelowLimit, IsAboveWithin, NoneIsRefused}
+use Rattle.pgm_grid.specs.declared.accepted_header.Header.{Header}
+use Rattle.pgm_grid.specs.declared.header_machine.HeaderValues.{HeaderValues}
+use Rattle.pgm_grid.specs.HeaderText.{IsProperPrefix, IsUnfitAt, BeginsWithHeader}
+use Rattle.pgm_grid.specs.AcceptedHeader.{IsLevel, IsMaxval}
+use Rattle.pgm_grid.specs.RasterText.{IsRasterCutShort, IsTrailingAt, IsBadSampleAt}
+use Rattle.pgm_grid.specs.RasterLaws.{IsBelowLimit, IsAboveWithin, NoneIsRefused}
 use Rattle.pgm_grid.specs.declared.fault.PgmFault.TheVariants.{BadMagic, BadHeader, HeaderTooLong, BadMaxval, NotSquare}
 use Rattle.pgm_grid.specs.declared.fault.PgmFault.TheVariants.{BadSide, Truncated, BadSample, AboveMaxval, Trailing}
 use Rattle.pgm_grid.specs.declared.fault.PgmFault.TheVariants.{NoMemory, TooLong}

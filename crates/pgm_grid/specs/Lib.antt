@@ -1,3 +1,13 @@
+pub mod HeaderText
+pub mod AcceptedHeader
+pub mod HeaderMachine
+pub mod HeaderReading
+pub mod HeaderInside
+pub mod HeaderLaws
+pub mod RasterText
+pub mod RasterProgress
+pub mod RasterLaws
+pub mod RasterStage
 pub mod FaultNumber
 pub mod GridView
 pub mod PgmText

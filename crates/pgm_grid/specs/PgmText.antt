@@ -3,16 +3,16 @@
 --
 -- Words: point_count, form_of, most_file_bytes, IsFileText, HasHeader, HasWholeHeader.
 use Rattle.std.specs.Prelude.{◌≡◌, ℕ, ◌*◌, ◌≤◌, Bool, true, false, nat_lt, if◌then◌else◌, List, ◌++◌, length}
-use Rattle.pgm_header.specs.declared.reader.TheConstants.{MOST_HEADER_BYTES}
+use Rattle.pgm_grid.specs.declared.header_reader.TheConstants.{MOST_HEADER_BYTES}
 use Rattle.mesh_defs.specs.HeightField.{HeightField, side_of}
-use Rattle.pgm_header.specs.declared.machine.HeaderValues.{HeaderValues}
-use Rattle.pgm_header.specs.declared.accepted.Header.{Header}
-use Rattle.pgm_header.specs.HeaderText.{IsHeaderText}
-use Rattle.pgm_header.specs.Accepted.{Accepts}
-use Rattle.pgm_raster.specs.declared.form.RasterForm.{RasterForm}
-use Rattle.pgm_raster.specs.declared.form.RasterForm.TheVariants as form
-use Rattle.pgm_raster.specs.Progress as raster
-use Rattle.pgm_raster.specs.RasterText.{IsRaster}
+use Rattle.pgm_grid.specs.declared.header_machine.HeaderValues.{HeaderValues}
+use Rattle.pgm_grid.specs.declared.accepted_header.Header.{Header}
+use Rattle.pgm_grid.specs.HeaderText.{IsHeaderText}
+use Rattle.pgm_grid.specs.AcceptedHeader.{Accepts}
+use Rattle.pgm_grid.specs.declared.raster_form.RasterForm.{RasterForm}
+use Rattle.pgm_grid.specs.declared.raster_form.RasterForm.TheVariants as form
+use Rattle.pgm_grid.specs.RasterProgress as raster
+use Rattle.pgm_grid.specs.RasterText.{IsRaster}
 
 -- the number of points of a grid with this n
 abbrev pub point_count : ℕ → ℕ

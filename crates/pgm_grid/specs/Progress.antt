@@ -4,16 +4,16 @@
 -- Words: Progress, header_fault, raster_fault, grid_with, grid_answer, samples_at, file_answer, resume, grid_of, taken,
 -- StaysRefused, StandsFor, EndsHeaderOf, EndsHeader.
 use Rattle.std.specs.Prelude.{◌≡◌, ℕ, ◌+◌, ◌-◌, ◌<◌, List, ◌++◌, length, Result, Ok, Err}
-use Rattle.pgm_header.specs.declared.reader.TheConstants.{MOST_HEADER_BYTES}
+use Rattle.pgm_grid.specs.declared.header_reader.TheConstants.{MOST_HEADER_BYTES}
 use Rattle.mesh_defs.specs.HeightField.{HeightField}
-use Rattle.pgm_header.specs.declared.accepted.Header.{Header}
-use Rattle.pgm_header.specs.declared.fault.HeaderFault.{HeaderFault}
-use Rattle.pgm_header.specs.declared.fault.HeaderFault.TheVariants as header
-use Rattle.pgm_header.specs.Accepted.{HeaderAnswer, Part, Whole, Bad}
-use Rattle.pgm_header.specs.Reading as reading
-use Rattle.pgm_raster.specs.declared.fault.RasterFault.{RasterFault}
-use Rattle.pgm_raster.specs.declared.fault.RasterFault.TheVariants as raster
-use Rattle.pgm_raster.specs.Progress as samples
+use Rattle.pgm_grid.specs.declared.accepted_header.Header.{Header}
+use Rattle.pgm_grid.specs.declared.header_fault.HeaderFault.{HeaderFault}
+use Rattle.pgm_grid.specs.declared.header_fault.HeaderFault.TheVariants as header
+use Rattle.pgm_grid.specs.AcceptedHeader.{HeaderAnswer, Part, Whole, Bad}
+use Rattle.pgm_grid.specs.HeaderReading as reading
+use Rattle.pgm_grid.specs.declared.raster_fault.RasterFault.{RasterFault}
+use Rattle.pgm_grid.specs.declared.raster_fault.RasterFault.TheVariants as raster
+use Rattle.pgm_grid.specs.RasterProgress as samples
 use Rattle.pgm_grid.specs.declared.fault.PgmFault.{PgmFault}
 use Rattle.pgm_grid.specs.declared.fault.PgmFault.TheVariants.{BadMagic, BadHeader, HeaderTooLong, BadMaxval, NotSquare}
 use Rattle.pgm_grid.specs.declared.fault.PgmFault.TheVariants.{BadSide, Truncated, BadSample, AboveMaxval, Trailing}

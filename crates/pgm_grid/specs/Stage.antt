@@ -1,14 +1,14 @@
 -- The fields of a reader: what they have come to, and what holds of them.
 -- Words: progress_of, IsOpenHeader, IsReaderFor, HasReadGrid, IsStage, BeginsRaster, Takes, Stops.
 use Rattle.std.specs.Prelude.{◌≡◌, ◌≢◌, ℕ, ◌+◌, ◌≤◌, List, [], ◌++◌, length, All, Err, IfOk, ⊤, ◌⊎◌}
-use Rattle.pgm_header.specs.declared.reader.TheConstants.{LAST_PLACE}
-use Rattle.pgm_raster.specs.declared.plain.TheConstants.{MOST_BYTES}
-use Rattle.pgm_header.specs.declared.accepted.Header.{Header}
-use Rattle.pgm_header.specs.declared.fault.HeaderFault.{HeaderFault}
-use Rattle.pgm_header.specs.Accepted.{IsHeader, Part, Bad}
-use Rattle.pgm_header.specs.Reading as reading
-use Rattle.pgm_raster.specs.declared.fault.RasterFault.{RasterFault}
-use Rattle.pgm_raster.specs.Progress as samples
+use Rattle.pgm_grid.specs.declared.header_reader.TheConstants.{LAST_PLACE}
+use Rattle.pgm_grid.specs.declared.raster_plain.TheConstants.{MOST_BYTES}
+use Rattle.pgm_grid.specs.declared.accepted_header.Header.{Header}
+use Rattle.pgm_grid.specs.declared.header_fault.HeaderFault.{HeaderFault}
+use Rattle.pgm_grid.specs.AcceptedHeader.{IsHeader, Part, Bad}
+use Rattle.pgm_grid.specs.HeaderReading as reading
+use Rattle.pgm_grid.specs.declared.raster_fault.RasterFault.{RasterFault}
+use Rattle.pgm_grid.specs.RasterProgress as samples
 use Rattle.pgm_grid.specs.declared.fault.PgmFault.{PgmFault}
 use Rattle.pgm_grid.specs.declared.fault.PgmFault.TheVariants.{NoMemory}
 use Rattle.pgm_grid.specs.declared.stage.Stage.{Stage}

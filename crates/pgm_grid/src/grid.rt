@@ -6,7 +6,7 @@ ghost use Rattle.mesh_defs.specs.declared.level.TheConstants.{GREATEST_LEVEL};
 ghost use Rattle.pgm_grid.specs.declared.grid.TheConstants.{MOST_SIDE, MOST_POINTS};
 ghost use Rattle.pgm_grid.specs.PgmText.{point_count};
 
-use roam_errors::NoMemory;
+use mesh_defs::NoMemory;
 use std::alloc::Global;
 use std::marker::Model;
 

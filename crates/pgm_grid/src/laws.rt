@@ -8,8 +8,8 @@ ghost use Rattle.pgm_grid.specs.Laws.{TrailingBytesAreRefused, GreatSamplesAreRe
 ghost use Rattle.pgm_grid.specs.Laws.{LongFilesAreRefused, OthersAreAbsent};
 ghost use Rattle.pgm_grid.specs.declared.grid.TheConstants.{MOST_SIDE, MOST_POINTS};
 
-use pgm_header::header_laws;
-use pgm_raster::raster_laws;
+use crate::header_texts::header_laws;
+use crate::raster_texts::raster_laws;
 
 /// States what `grid_of` answers for the whole bytes of a file, in the words of the format. It does nothing.
 pub fn grids_and_texts()

@@ -2,13 +2,13 @@
 
 ghost use Rattle.std.specs.Prelude.{◌≡◌, ◌≢◌, ◌⊎◌, ◌+◌, ◌^◌, ◌≤◌, [], ◌++◌, List, ℕ, length, OnOk, IfErr};
 ghost use Rattle.std.specs.Result.{IsErrOf};
-ghost use Rattle.pgm_raster.specs.declared.plain.TheConstants.{MOST_BYTES};
+ghost use Rattle.pgm_grid.specs.declared.raster_plain.TheConstants.{MOST_BYTES};
 ghost use Rattle.pgm_grid.specs.Progress.{resume, grid_of, taken, StaysRefused, EndsHeader};
 
 use crate::fault::PgmFault;
 use crate::grid::Grid;
+use crate::header_reader::HeaderReader;
 use crate::stage::{Stage, last_answer, stage_after};
-use pgm_header::HeaderReader;
 use std::alloc::Global;
 use std::marker::Model;
 use std::mem;

@@ -1,17 +1,23 @@
 //! What the bytes so far have come to, and what further bytes make of it.
 
 ghost use Rattle.std.specs.Prelude.{◌≡◌, ◌≢◌, ◌<◌, ◌≤◌, ◌+◌, ◌++◌, ℕ, List, [], length, drop, IfOk, IfErr, Err};
-ghost use Rattle.pgm_header.specs.declared.reader.TheConstants.{MOST_HEADER_BYTES};
-ghost use Rattle.pgm_header.specs.Accepted.{IsHeader};
+ghost use Rattle.pgm_grid.specs.declared.header_reader.TheConstants.{MOST_HEADER_BYTES};
+ghost use Rattle.pgm_grid.specs.AcceptedHeader.{IsHeader};
 ghost use Rattle.pgm_grid.specs.PgmText.{form_of};
 ghost use Rattle.pgm_grid.specs.Progress.{InHeader, InRaster, header_fault, raster_fault, resume, grid_answer};
 ghost use Rattle.pgm_grid.specs.Progress.{samples_at};
 ghost use Rattle.pgm_grid.specs.Stage.{progress_of, IsOpenHeader, IsReaderFor, IsStage, Takes, Stops, BeginsRaster};
 
+use crate::accepted_header::Header;
 use crate::fault::PgmFault;
 use crate::grid::{Grid, points_for};
-use pgm_header::{Header, HeaderFault, HeaderReader, header_laws};
-use pgm_raster::{RasterFault, RasterForm, RasterReader, raster_laws};
+use crate::header_fault::HeaderFault;
+use crate::header_reader::HeaderReader;
+use crate::header_texts::header_laws;
+use crate::raster_fault::RasterFault;
+use crate::raster_form::RasterForm;
+use crate::raster_reader::RasterReader;
+use crate::raster_texts::raster_laws;
 use std::alloc::Global;
 
 /// What the bytes so far have come to.

@@ -6,8 +6,8 @@ use Rattle.std.proofs.lemmas.Option.{slice_get-get_or, slice_get_read, same_Some
 use Rattle.mesh_defs.specs.ClosedSet.{IsLeastClosed, leaves_of, among}
 use Rattle.mesh_defs.specs.Ranking.{IsPrefixClosure, IsRankClosure, IsBlockedBy}
 use Rattle.mesh_defs.specs.Greedy.{with_triangle}
-use Rattle.closure_laws.proofs.ClosureLemmas.{nothing_least, IsSubset-closures, leaves_of-more}
-use Rattle.closure_laws.proofs.RankLemmas.{prefix-next, prefix-longer}
+use Rattle.mesh_laws.proofs.ClosureLemmas.{nothing_least, IsSubset-closures, leaves_of-more}
+use Rattle.mesh_laws.proofs.RankLemmas.{prefix-next, prefix-longer}
 use Rattle.bintree_addr.specs.declared.blocked.Blocked.{Blocked}
 use Rattle.bintree_addr.specs.declared.rank.Rank.{Rank}
 use Rattle.mesh_defs.specs.GridSet.{IsForced}

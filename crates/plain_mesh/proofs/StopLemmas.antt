@@ -11,9 +11,9 @@ use Rattle.mesh_defs.specs.Falling.{IsFalling}
 use Rattle.mesh_defs.proofs.ListLemmas.{IsIn, Contains-in}
 use Rattle.bintree_addr.specs.declared.blocked.Blocked.{Blocked}
 use Rattle.bintree_addr.specs.declared.rank.Rank.{Rank}
-use Rattle.closure_laws.specs.Frame.{IsFrame}
+use Rattle.mesh_laws.specs.Frame.{IsFrame}
 use Rattle.mesh_defs.proofs.WorstLemmas.{worst-zeros}
-use Rattle.closure_laws.proofs.ChoiceLemmas.{leaves-zero, blocking-worst}
+use Rattle.mesh_laws.proofs.ChoiceLemmas.{leaves-zero, blocking-worst}
 use Rattle.plain_mesh.specs.Ranks.{ranked_triangles, IsRanked}
 use Rattle.plain_mesh.specs.Stop.{IsStop}
 

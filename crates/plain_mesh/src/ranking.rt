@@ -5,7 +5,7 @@ ghost use Rattle.mesh_defs.specs.State.{priority_seen};
 ghost use Rattle.plain_mesh.specs.Ranks.{IsPicked, IsRanked, positives_below};
 
 use bintree_addr::{Rank, Tri, level_laws, rank_laws};
-use roam_errors::NoMemory;
+use mesh_defs::NoMemory;
 use std::alloc::Global;
 use view_priority::{Meter, Scene};
 

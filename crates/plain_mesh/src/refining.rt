@@ -10,7 +10,7 @@ ghost use Rattle.plain_mesh.specs.Stop.{IsOver, IsStop};
 use crate::PlainFrame;
 use bintree_addr::{Blocked, Rank, Tri};
 use diamond_rel::Split;
-use roam_errors::NoMemory;
+use mesh_defs::NoMemory;
 use std::alloc::Global;
 
 /// From the empty set, the triangles in turn, up to the first that does not fit.

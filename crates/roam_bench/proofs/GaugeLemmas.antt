@@ -7,8 +7,8 @@ use Rattle.mesh_defs.specs.Thickness.{thickness_of}
 use Rattle.mesh_defs.specs.View.{mark_of}
 use Rattle.mesh_defs.specs.Priority.{ratio_of, priority_of}
 use Rattle.mesh_defs.specs.State.{move_length}
-use Rattle.frame_steps.specs.Deferred.{IsEntry}
-use Rattle.frame_steps.specs.Stamps.{Stamp, IsInStamp, is_due, stamp_now, StampsHold}
+use Rattle.mesh_laws.specs.Deferred.{IsEntry}
+use Rattle.mesh_laws.specs.Stamps.{Stamp, IsInStamp, is_due, stamp_now, StampsHold}
 use Rattle.deferred_loop.specs.Seen.{SeenMesh}
 use Rattle.deferred_loop.specs.Promise.{AreStampsGood}
 use Rattle.mesh_defs.specs.ClosedSet.{among}

@@ -4,7 +4,7 @@ use Rattle.std.specs.Prelude.{ℕ, ◌+◌, ◌-◌, ◌/◌, List, []}
 use Rattle.mesh_defs.specs.BoundingBox.{CameraAt, box_of, distance_of}
 use Rattle.mesh_defs.specs.Thickness.{thickness_of}
 use Rattle.mesh_defs.specs.Priority.{ratio_of, priority_of}
-use Rattle.frame_steps.specs.Stamps.{Readings}
+use Rattle.mesh_laws.specs.Stamps.{Readings}
 use Rattle.deferred_loop.specs.Choice.{Priorities}
 use Rattle.view_priority.specs.Camera.{view_from}
 

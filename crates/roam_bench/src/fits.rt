@@ -3,13 +3,13 @@
 ghost use Rattle.std.specs.Prelude.{◌≡◌, ◌≤◌};
 ghost use Rattle.mesh_defs.specs.declared.level.TheConstants.{GREATEST_LEVEL};
 
+use address_flags::centred_at;
 use bintree_addr::{Point, Tri};
 use fit_mesh::{Fit, are_splittable};
+use mesh_defs::NoMemory;
 use pgm_grid::Grid;
-use roam_errors::NoMemory;
 use roam_gen::gen_grid;
 use std::alloc::Global;
-use vertex_addr::centred_at;
 
 /// The level of the grid, of side 2,049.
 const LEVEL: u32 = 11;

@@ -4,8 +4,8 @@ ghost use Rattle.std.specs.Prelude.{◌≡◌, ℕ, ◌+◌, ◌≤◌, List, No
 ghost use Rattle.mesh_defs.specs.BoundingBox.{CameraAt};
 ghost use Rattle.mesh_defs.specs.ClosedSet.{among};
 ghost use Rattle.mesh_defs.specs.Falling.{IsFalling};
-ghost use Rattle.frame_steps.specs.Deferred.{IsEntry};
-ghost use Rattle.frame_steps.specs.Stamps.{Stamp, ReadingsHold, StampsHold};
+ghost use Rattle.mesh_laws.specs.Deferred.{IsEntry};
+ghost use Rattle.mesh_laws.specs.Stamps.{Stamp, ReadingsHold, StampsHold};
 ghost use Rattle.deferred_loop.specs.Seen.{SeenMesh};
 ghost use Rattle.deferred_loop.specs.Promise.{AreStampsGood};
 ghost use Rattle.mesh_defs.specs.State.{move_length};

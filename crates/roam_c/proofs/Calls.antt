@@ -1,4 +1,4 @@
--- What a call of a `Box` function at an engine and `Global` is given. Assumes `Logic`.
+-- What a call of a `Box` function at `Kept` and `Global` is given. Assumes `Logic`.
 use Rattle.std.proofs.Common.{[], ◌∷◌, refl}
 use seplogic.Ra.Ura.{Ura}
 use mir.Syntax.{Dict, impl, method, tnil, tcons, dnil}
@@ -24,20 +24,20 @@ use Rattle.std.proofs.alloc.Global.TheLaws as heap_laws
 use Rattle.std.specs.contracts.impls.GlobalAllocator.TheImpl.{ghosts}
 use Rattle.std_alloc.specs.contracts.boxed.Box as boxed
 use Rattle.std_alloc.proofs.boxed.Box.TheLaws as boxed_laws
-use Rattle.frame_loop.specs.contracts.engine.Engine as engine
-use Rattle.frame_loop.proofs.engine.Engine.TheLaws as engine_laws
-use Rattle.roam_c.proofs.frame_loop++engine++Engine+Destruct.drop.Kinds as kinds
-use Rattle.roam_c.proofs.frame_loop++engine++Engine+Destruct.drop.Met as dropped
-use Rattle.roam_c.proofs.frame_loop++engine++Engine+Destruct.drop.Reads as reads
-use Rattle.roam_c.proofs.frame_loop++engine++Engine+Destruct.drop.Symbol as symbol
+use Rattle.roam_c.specs.contracts.kept.Kept as kept
+use Rattle.roam_c.proofs.kept.Kept.TheLaws as kept_laws
+use Rattle.roam_c.proofs.roam_c++kept++Kept+Destruct.drop.Kinds as kinds
+use Rattle.roam_c.proofs.roam_c++kept++Kept+Destruct.drop.Met as dropped
+use Rattle.roam_c.proofs.roam_c++kept++Kept+Destruct.drop.Reads as reads
+use Rattle.roam_c.proofs.roam_c++kept++Kept+Destruct.drop.Symbol as symbol
 use Rattle.roam_c.proofs.Destruct++none.drop.Symbol as none
 
--- an engine and a `Global`, as a call's type arguments
+-- a kept value and a `Global`, as a call's type arguments
 abbrev pub R : RattleType
-R = arg (bare (layout engine.the_row)) no engine.the_row
+R = arg (bare (layout kept.the_row)) no kept.the_row
 
 abbrev pub L : Laws R
-L = arg_laws (bare (layout engine.the_row)) no engine.the_row engine_laws.the_row_laws refl
+L = arg_laws (bare (layout kept.the_row)) no kept.the_row kept_laws.the_row_laws refl
 
 abbrev pub Z : RattleType
 Z = arg (bare (layout heap.the_row)) no heap.the_row
@@ -45,7 +45,7 @@ Z = arg (bare (layout heap.the_row)) no heap.the_row
 abbrev pub LZ : Laws Z
 LZ = arg_laws (bare (layout heap.the_row)) no heap.the_row heap_laws.the_row_laws refl
 
--- how an engine is dropped, and how a `Global` is
+-- how a kept value is dropped, and how a `Global` is
 abbrev pub drops : Dict
 drops = impl (symbol.symbol ∷ []) tnil dnil
 
@@ -53,10 +53,10 @@ abbrev pub no_drop : Dict
 no_drop = impl (none.symbol ∷ []) (tcons (layout Z) tnil) dnil
 
 -- a box of them
-abbrev pub box_laws : Laws (boxed.the_row engine.the_row heap.the_row ghosts)
-box_laws = boxed_laws.the_row_laws engine.the_row heap.the_row ghosts engine_laws.the_row_laws heap_laws.the_row_laws
+abbrev pub box_laws : Laws (boxed.the_row kept.the_row heap.the_row ghosts)
+box_laws = boxed_laws.the_row_laws kept.the_row heap.the_row ghosts kept_laws.the_row_laws heap_laws.the_row_laws
 
--- an engine's `drop` is what a type parameter's has to be
+-- the `drop` of what is kept is what a type parameter's has to be
 pub glue : {M : Type 1} (𝓤 : Ura M) (𝓛 : Logic 𝓤) (𝓜 : Model 𝓤 𝓛.H) (𝓡 : Running 𝓤 𝓛.H 𝓜) →
     Wired 𝓡.env symbol.code → Met 𝓛 𝓜 𝓡 𝓡.env R drops
 glue {M = M} 𝓤 𝓛 𝓜 𝓡 w =

@@ -25,9 +25,10 @@ use Rattle.core.proofs.atomic.Steps.{Ptr-Good}
 use Rattle.core.proofs.cell.Inside.{Good}
 use Rattle.std.specs.declared.option.Option.{Option}
 use Rattle.std.specs.declared.option.Option.TheVariants.{None, Some}
-use Rattle.roam_c.specs.Held.{Kept, token, held, is_mark, held_if}
+use Rattle.roam_c.specs.declared.kept.Kept.{Kept}
+use Rattle.roam_c.specs.Held.{token, held, is_mark, held_if}
 use Rattle.roam_c.specs.contracts.handle.Handle as handle
-use Rattle.frame_loop.specs.contracts.engine.Engine as engine
+use Rattle.roam_c.specs.contracts.kept.Kept as kept
 
 abbrev pub two : Val → Val → Val
 two u v = vstruct (vcons u (vcons v vnil))
@@ -71,7 +72,7 @@ module _ {M : Type 1} {𝓤 : Ura M} {𝓛 : Logic 𝓤} {K : Type 0} {Γ : List
       (subst (λ (ps : List Val). vs ≡ vstruct (of_list (vint w64 d.mark ∷ (ps ++ []))) ∷ []) ep
       (subst (λ (fs : List Val). vs ≡ vstruct (of_list (fs ++ (vss.1.0 ++ []))) ∷ []) ef ev)))))))
 
-  -- an empty handle owns nothing, and a full one the engine
+  -- an empty handle owns nothing, and a full one what it keeps
   pub either_held : K → (f : Bool) (p : Ptr) (k : Option Kept) → (f ≡ false → k ≡ None → Seq K 𝓛 Γ G)
       → ((b o : ℕ) (x : Kept) → f ≡ true → k ≡ Some x → p ≡ block_ptr b o →
       Seq K 𝓛 (‵ (held (block_ptr b o) x) ∷ Γ) G) → Seq K 𝓛 (‵ (held_if f p k) ∷ Γ) G
@@ -81,5 +82,5 @@ module _ {M : Type 1} {𝓤 : Ura M} {𝓛 : Logic 𝓤} {K : Type 0} {Γ : List
       use1 𝓛 (given ⊥ (‵ ftrue)) (via 𝓤 (never 𝓤) (id⊢ 𝓤 (never 𝓤)) (never_e 𝓤 _)) $ learn t (λ z. absurd z)
   either_held t false p None none one = drop t $ none refl refl
   either_held t true p (Some x) none one =
-      in_a_block t p (λ q. held q x) (fst∗ 𝓤 (never 𝓤) (sem 𝓛 (token (bare (lone (engine.the_row).mir)) null_ptr)))
+      in_a_block t p (λ q. held q x) (fst∗ 𝓤 (never 𝓤) (sem 𝓛 (token (bare (lone (kept.the_row).mir)) null_ptr)))
       (λ b o e. one b o x refl refl e)

@@ -1,26 +1,23 @@
--- What a handle owns.
+-- What a handle owns, in memory.
 -- All of it is this project's own.
--- Words: Kept, token, held, is_mark, held_if.
+-- Words: token, held, is_mark, held_if.
 use Rattle.std.specs.Prelude.{ℕ, nat_eq, Bool, true, false, Option, Some, None}
 use mir.Syntax.{Ty}
 use base.Fml.{Fml, ftrue, ffalse}
 use denote.RawPtr.{Ptr}
 use Rattle.std.specs.contracts.impls.GlobalAllocator.TheImpl.{ghosts}
 use Rattle.std.specs.Box.Ownership.{box_owns}
-use Rattle.frame_loop.specs.contracts.engine.Engine as engine
+use Rattle.roam_c.specs.declared.kept.Kept.{Kept}
+use Rattle.roam_c.specs.contracts.kept.Kept as kept
 use Rattle.roam_c.specs.declared.mark.TheConstants.{MARK}
-
--- an engine, as contracts see it
-abbrev pub Kept : Type 0
-Kept = (engine.the_row).Denot
 
 -- the right to free a block of `Global`
 abbrev pub token : Ty → Ptr → Fml
 token = ghosts.dealloc_token (record { memory = record { seal = tt } })
 
--- the engine on the heap, and the right to free it
+-- the value on the heap, and the right to free it
 abbrev pub held : Ptr → Kept → Fml
-held at value = box_owns token engine.the_row at value
+held at value = box_owns token kept.the_row at value
 
 -- the number at the head of a handle is that of a full one
 abbrev pub is_mark : ℕ → Bool

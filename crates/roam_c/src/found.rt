@@ -5,8 +5,8 @@ ghost use Rattle.roam_embed.specs.Fitting.{IsFitTold};
 ghost use Rattle.roam_embed.specs.Certificates.{IsCertificateTold};
 ghost use Rattle.roam_c.specs.Handle.{OnFull, OnEmpty};
 
-use crate::handle::{Handle, put, take};
-use roam_embed::{Answer, Fitted, tell_certificate, tell_fit};
+use crate::handle::{Handle, on};
+use roam_embed::{Fitted, tell_certificate, tell_fit};
 use std::alloc::Global;
 
 /// Writes three indices of heights for each triangle of the mesh for a tolerance, whatever the view, and tells of it.
@@ -24,14 +24,12 @@ pub extern "C" fn roam_fit(
     ensures empty { OnEmpty h.old.value h.new.value result
         ((out.new ≡ out.old) × (told.new ≡ told.old)) }
 {
-    match take(h, alloc) {
-        Some(engine) => {
-            let answer = tell_fit(alloc, &engine, thousandths, budget, out, told);
-            put(h, engine, alloc);
-            answer.number()
-        }
-        None => Answer::IsEmpty.number(),
-    }
+    on!(
+        Engine,
+        h,
+        alloc,
+        |engine| tell_fit(alloc, engine, thousandths, budget, out, told)
+    )
 }
 
 /// Writes the certificate of the best mesh from a place, as text, and how many bytes it has.
@@ -51,12 +49,10 @@ pub extern "C" fn roam_certificate(
     ensures empty { OnEmpty h.old.value h.new.value result
         ((out.new ≡ out.old) × (count.new ≡ count.old)) }
 {
-    match take(h, alloc) {
-        Some(engine) => {
-            let answer = tell_certificate(alloc, &engine, x, y, z, out, count);
-            put(h, engine, alloc);
-            answer.number()
-        }
-        None => Answer::IsEmpty.number(),
-    }
+    on!(
+        Engine,
+        h,
+        alloc,
+        |engine| tell_certificate(alloc, engine, x, y, z, out, count)
+    )
 }

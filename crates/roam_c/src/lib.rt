@@ -1,26 +1,39 @@
-//! The engine for C: a handle that owns an engine or is empty, and a function for each call of `roam.h`.
+//! The engine for C: a handle that owns an engine, a fitter or the bookkeeping of a terrain of tiles, or is empty, and a
+//! function for each call of `roam.h`.
 //!
-//! Each function takes the engine out of the handle, makes one call of `roam_embed`, puts the engine back, and
-//! answers the number of that call's answer. None has a `requires`, so no argument that C may pass breaks a rule.
-//! What C owes for its pointers stands in the head of `roam.h`. Only `roam_open` takes memory for good.
+//! Each function takes what is kept out of the handle, makes one call of `roam_embed`, puts it back, and answers the
+//! number of that call's answer. None has a `requires`, so no argument that C may pass breaks a rule.
+//! What C owes for its pointers stands in the head of `roam.h`. Only the calls that open a handle take memory for good.
 
 #![tactic(auto)]
 
+mod fitter;
 mod found;
 mod handle;
+mod kept;
 mod life;
 mod lists;
 mod mark;
+mod mosaics;
 mod shapes;
 mod state;
 mod told;
 
+pub use fitter::{
+    roam_fit_with, roam_fitter_border, roam_fitter_close, roam_fitter_deviation, roam_fitter_fit,
+    roam_fitter_indices, roam_fitter_leaves, roam_fitter_more, roam_fitter_open,
+    roam_fitter_restore,
+};
 pub use found::{roam_certificate, roam_fit};
 pub use handle::{Handle, crossing};
+pub use kept::Kept;
 pub use life::{roam_close, roam_open};
 pub use lists::{roam_changed, roam_changes, roam_indices, roam_leaves};
 pub use mesh_arrays::Changes;
-pub use roam_embed::{Deviation, Fitted, Frame, PlaneNumbers, Standing};
+pub use mosaics::{
+    roam_mosaic_close, roam_mosaic_next, roam_mosaic_open, roam_mosaic_put, roam_mosaic_required,
+};
+pub use roam_embed::{Deviation, Fitted, Frame, Mosaic, PlaneNumbers, Required, Standing, Tile};
 pub use shapes::{roam_compact, roam_deviation, roam_positions, roam_strip};
 pub use state::{
     roam_add_plane, roam_budget, roam_camera, roam_clear_planes, roam_look, roam_raise, roam_renew,

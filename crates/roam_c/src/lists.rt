@@ -6,9 +6,9 @@ ghost use Rattle.roam_embed.specs.Calls.{AreIndicesTold, AreLeavesTold};
 ghost use Rattle.roam_embed.specs.Changed.{AreChangesTold};
 ghost use Rattle.roam_c.specs.Handle.{OnFull, OnEmpty};
 
-use crate::handle::{Handle, put, take};
+use crate::handle::{Handle, on};
 use mesh_arrays::{Changes, list_changes};
-use roam_embed::{Answer, tell_changes, tell_indices, tell_leaves};
+use roam_embed::{tell_changes, tell_indices, tell_leaves};
 use std::alloc::Global;
 
 /// Writes three indices of heights for each triangle (apex, v0, v1), depth first, and how many triangles there are.
@@ -24,14 +24,12 @@ pub extern "C" fn roam_indices(
     ensures empty { OnEmpty h.old.value h.new.value result
         ((out.new ≡ out.old) × (triangles.new ≡ triangles.old)) }
 {
-    match take(h, alloc) {
-        Some(engine) => {
-            let answer = tell_indices(&engine, out, triangles);
-            put(h, engine, alloc);
-            answer.number()
-        }
-        None => Answer::IsEmpty.number(),
-    }
+    on!(
+        Engine,
+        h,
+        alloc,
+        |engine| tell_indices(engine, out, triangles)
+    )
 }
 
 /// Writes the addresses of the triangles, depth first, and how many there are.
@@ -47,14 +45,12 @@ pub extern "C" fn roam_leaves(
     ensures empty { OnEmpty h.old.value h.new.value result
         ((out.new ≡ out.old) × (triangles.new ≡ triangles.old)) }
 {
-    match take(h, alloc) {
-        Some(engine) => {
-            let answer = tell_leaves(&engine, out, triangles);
-            put(h, engine, alloc);
-            answer.number()
-        }
-        None => Answer::IsEmpty.number(),
-    }
+    on!(
+        Engine,
+        h,
+        alloc,
+        |engine| tell_leaves(engine, out, triangles)
+    )
 }
 
 /// Writes the addresses of the triangles that the last frame took out and put in, each depth first, and how many they
@@ -72,14 +68,12 @@ pub extern "C" fn roam_changed(
     ensures empty { OnEmpty h.old.value h.new.value result
         ((gone.new ≡ gone.old) × (come.new ≡ come.old) × (out.new ≡ out.old)) }
 {
-    match take(h, alloc) {
-        Some(engine) => {
-            let answer = tell_changes(&engine, gone, come, out);
-            put(h, engine, alloc);
-            answer.number()
-        }
-        None => Answer::IsEmpty.number(),
-    }
+    on!(
+        Engine,
+        h,
+        alloc,
+        |engine| tell_changes(engine, gone, come, out)
+    )
 }
 
 /// Writes which triangles are in one of two lists of addresses alone, and how many they are. It needs no handle.

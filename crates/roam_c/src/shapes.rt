@@ -4,8 +4,8 @@ ghost use Rattle.std.specs.Prelude.{◌≡◌};
 ghost use Rattle.roam_embed.specs.Shapes.{ArePositionsTold, IsCompactTold, IsStripTold, IsDeviationTold};
 ghost use Rattle.roam_c.specs.Handle.{OnFull, OnEmpty};
 
-use crate::handle::{Handle, put, take};
-use roam_embed::{Answer, Deviation, tell_compact, tell_deviation, tell_positions, tell_strip};
+use crate::handle::{Handle, on};
+use roam_embed::{Deviation, tell_compact, tell_deviation, tell_positions, tell_strip};
 use std::alloc::Global;
 
 /// Writes x, y and z of each vertex of the mesh, and how many vertices there are.
@@ -21,14 +21,12 @@ pub extern "C" fn roam_positions(
     ensures empty { OnEmpty h.old.value h.new.value result
         ((out.new ≡ out.old) × (vertices.new ≡ vertices.old)) }
 {
-    match take(h, alloc) {
-        Some(engine) => {
-            let answer = tell_positions(&engine, out, vertices);
-            put(h, engine, alloc);
-            answer.number()
-        }
-        None => Answer::IsEmpty.number(),
-    }
+    on!(
+        Engine,
+        h,
+        alloc,
+        |engine| tell_positions(engine, out, vertices)
+    )
 }
 
 /// Writes the vertices of each triangle, by their places among those of `roam_positions`, and how many triangles
@@ -45,14 +43,12 @@ pub extern "C" fn roam_compact(
     ensures empty { OnEmpty h.old.value h.new.value result
         ((out.new ≡ out.old) × (triangles.new ≡ triangles.old)) }
 {
-    match take(h, alloc) {
-        Some(engine) => {
-            let answer = tell_compact(&engine, out, triangles);
-            put(h, engine, alloc);
-            answer.number()
-        }
-        None => Answer::IsEmpty.number(),
-    }
+    on!(
+        Engine,
+        h,
+        alloc,
+        |engine| tell_compact(engine, out, triangles)
+    )
 }
 
 /// Writes three indices of heights for each triangle in the order of one strip, and how many triangles there are.
@@ -68,14 +64,12 @@ pub extern "C" fn roam_strip(
     ensures empty { OnEmpty h.old.value h.new.value result
         ((out.new ≡ out.old) × (triangles.new ≡ triangles.old)) }
 {
-    match take(h, alloc) {
-        Some(engine) => {
-            let answer = tell_strip(alloc, &engine, out, triangles);
-            put(h, engine, alloc);
-            answer.number()
-        }
-        None => Answer::IsEmpty.number(),
-    }
+    on!(
+        Engine,
+        h,
+        alloc,
+        |engine| tell_strip(alloc, engine, out, triangles)
+    )
 }
 
 /// Tells how far the surface is from the mesh at a grid point, at most.
@@ -85,12 +79,5 @@ pub extern "C" fn roam_deviation(alloc: Global, h: &mut Handle, out: &mut Deviat
         (now ≡ was) × IsDeviationTold was out.new answer) }
     ensures empty { OnEmpty h.old.value h.new.value result (out.new ≡ out.old) }
 {
-    match take(h, alloc) {
-        Some(engine) => {
-            let answer = tell_deviation(&engine, out);
-            put(h, engine, alloc);
-            answer.number()
-        }
-        None => Answer::IsEmpty.number(),
-    }
+    on!(Engine, h, alloc, |engine| tell_deviation(engine, out))
 }

@@ -7,9 +7,9 @@ ghost use Rattle.roam_embed.specs.Looking.{ArePlanesPut};
 ghost use Rattle.roam_embed.specs.Renewal.{IsEngineRenewed};
 ghost use Rattle.roam_c.specs.Handle.{OnFull, OnEmpty};
 
-use crate::handle::{Handle, put, take};
+use crate::handle::{Handle, on};
 use roam_embed::{
-    Answer, PlaneNumbers, add_plane, clear_planes, move_camera, put_budget, put_height, put_planes,
+    PlaneNumbers, add_plane, clear_planes, move_camera, put_budget, put_height, put_planes,
     raise_area, renew_engine,
 };
 use std::alloc::Global;
@@ -21,14 +21,7 @@ pub extern "C" fn roam_camera(alloc: Global, h: &mut Handle, x: i64, y: i64, z: 
         IsCameraMoved was now (record { x = x; y = y; z = z }) answer) }
     ensures empty { OnEmpty h.old.value h.new.value result ⊤ }
 {
-    match take(h, alloc) {
-        Some(mut engine) => {
-            let answer = move_camera(&mut engine, x, y, z);
-            put(h, engine, alloc);
-            answer.number()
-        }
-        None => Answer::IsEmpty.number(),
-    }
+    on!(Engine, h, alloc, |engine| move_camera(engine, x, y, z))
 }
 
 /// Takes all planes away.
@@ -38,14 +31,7 @@ pub extern "C" fn roam_clear_planes(alloc: Global, h: &mut Handle) -> i32
         ArePlanesCleared was now answer) }
     ensures empty { OnEmpty h.old.value h.new.value result ⊤ }
 {
-    match take(h, alloc) {
-        Some(mut engine) => {
-            let answer = clear_planes(&mut engine);
-            put(h, engine, alloc);
-            answer.number()
-        }
-        None => Answer::IsEmpty.number(),
-    }
+    on!(Engine, h, alloc, |engine| clear_planes(engine))
 }
 
 /// Puts one plane more in force. Its inside is where a x + b y + c z + d is at least 0.
@@ -62,14 +48,7 @@ pub extern "C" fn roam_add_plane(
         IsPlaneAdded was now (record { a = a; b = b; c = c; d = d }) answer) }
     ensures empty { OnEmpty h.old.value h.new.value result ⊤ }
 {
-    match take(h, alloc) {
-        Some(mut engine) => {
-            let answer = add_plane(&mut engine, a, b, c, d);
-            put(h, engine, alloc);
-            answer.number()
-        }
-        None => Answer::IsEmpty.number(),
-    }
+    on!(Engine, h, alloc, |engine| add_plane(engine, a, b, c, d))
 }
 
 /// Puts these planes in force in the place of those before.
@@ -79,14 +58,7 @@ pub extern "C" fn roam_look(alloc: Global, h: &mut Handle, planes: &[PlaneNumber
         ArePlanesPut was now planes.now answer) }
     ensures empty { OnEmpty h.old.value h.new.value result ⊤ }
 {
-    match take(h, alloc) {
-        Some(mut engine) => {
-            let answer = put_planes(&mut engine, planes);
-            put(h, engine, alloc);
-            answer.number()
-        }
-        None => Answer::IsEmpty.number(),
-    }
+    on!(Engine, h, alloc, |engine| put_planes(engine, planes))
 }
 
 /// Counts frames from 0 on again.
@@ -96,14 +68,7 @@ pub extern "C" fn roam_renew(alloc: Global, h: &mut Handle) -> i32
         IsEngineRenewed was now answer) }
     ensures empty { OnEmpty h.old.value h.new.value result ⊤ }
 {
-    match take(h, alloc) {
-        Some(mut engine) => {
-            let answer = renew_engine(&mut engine);
-            put(h, engine, alloc);
-            answer.number()
-        }
-        None => Answer::IsEmpty.number(),
-    }
+    on!(Engine, h, alloc, |engine| renew_engine(engine))
 }
 
 /// Puts another budget in force.
@@ -113,14 +78,7 @@ pub extern "C" fn roam_budget(alloc: Global, h: &mut Handle, triangles: u32) -> 
         IsBudgetPut was now triangles answer) }
     ensures empty { OnEmpty h.old.value h.new.value result ⊤ }
 {
-    match take(h, alloc) {
-        Some(mut engine) => {
-            let answer = put_budget(&mut engine, triangles);
-            put(h, engine, alloc);
-            answer.number()
-        }
-        None => Answer::IsEmpty.number(),
-    }
+    on!(Engine, h, alloc, |engine| put_budget(engine, triangles))
 }
 
 /// Sets the height of the grid point (x, y).
@@ -130,14 +88,7 @@ pub extern "C" fn roam_set(alloc: Global, h: &mut Handle, x: u32, y: u32, height
         IsHeightPut was now x y height answer) }
     ensures empty { OnEmpty h.old.value h.new.value result ⊤ }
 {
-    match take(h, alloc) {
-        Some(mut engine) => {
-            let answer = put_height(&mut engine, x, y, height);
-            put(h, engine, alloc);
-            answer.number()
-        }
-        None => Answer::IsEmpty.number(),
-    }
+    on!(Engine, h, alloc, |engine| put_height(engine, x, y, height))
 }
 
 /// Raises the heights of the columns x0 to x1 and the rows y0 to y1 by dz.
@@ -155,12 +106,10 @@ pub extern "C" fn roam_raise(
         IsAreaRaised was now x0 y0 x1 y1 dz answer) }
     ensures empty { OnEmpty h.old.value h.new.value result ⊤ }
 {
-    match take(h, alloc) {
-        Some(mut engine) => {
-            let answer = raise_area(&mut engine, x0, y0, x1, y1, dz);
-            put(h, engine, alloc);
-            answer.number()
-        }
-        None => Answer::IsEmpty.number(),
-    }
+    on!(
+        Engine,
+        h,
+        alloc,
+        |engine| raise_area(engine, x0, y0, x1, y1, dz)
+    )
 }

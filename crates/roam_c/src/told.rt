@@ -6,11 +6,13 @@ ghost use Rattle.mesh_defs.specs.BestMesh.{IsBestMesh};
 ghost use Rattle.frame_loop.specs.Changes.{AreChangesOf};
 ghost use Rattle.frame_loop.specs.Engine.{EngineState, mesh_seen};
 ghost use Rattle.roam_embed.specs.Told.{standing_of};
+ghost use Rattle.roam_embed.specs.declared.answer.Answer.{Answer};
 ghost use Rattle.roam_embed.specs.Calls.{IsFrameMade};
+ghost use Rattle.roam_c.specs.declared.kept.Kept.{Kept};
 ghost use Rattle.roam_c.specs.Handle.{OnFull, OnEmpty};
 
-use crate::handle::{Handle, put, take};
-use roam_embed::{Answer, Frame, Standing, make_frame, tell_standing};
+use crate::handle::{Handle, on};
+use roam_embed::{Frame, Standing, make_frame, tell_standing};
 use std::alloc::Global;
 
 /// Makes the mesh of what stands now, and tells of it.
@@ -19,21 +21,14 @@ pub extern "C" fn roam_frame(alloc: Global, h: &mut Handle, out: &mut Frame) -> 
     ensures full { OnFull h.old.value h.new.value result (λ was now answer.
         IsFrameMade was now out.old out.new answer) }
     ensures empty { OnEmpty h.old.value h.new.value result (out.new ≡ out.old) }
-    ensures best { (now : EngineState) → h.new.value ≡ Some now → result ≡ pos 0 →
+    ensures best { (now : EngineState) → h.new.value ≡ Some (Kept.Engine now) → result ≡ pos 0 →
         IsBestMesh now.state.grid.n now.state.budget (priority_in now.state) (mesh_seen now) }
-    ensures triangles { (now : EngineState) → h.new.value ≡ Some now → result ≡ pos 0 →
+    ensures triangles { (now : EngineState) → h.new.value ≡ Some (Kept.Engine now) → result ≡ pos 0 →
         out.new.triangles ≡ length (mesh_seen now) }
-    ensures changes { (was now : EngineState) → h.old.value ≡ Some was → h.new.value ≡ Some now → result ≡ pos 0 →
+    ensures changes { (was now : EngineState) → h.old.value ≡ Some (Kept.Engine was) → h.new.value ≡ Some (Kept.Engine now) → result ≡ pos 0 →
         AreChangesOf (mesh_seen was) (mesh_seen now) now.changes }
 {
-    match take(h, alloc) {
-        Some(mut engine) => {
-            let answer = make_frame(&mut engine, out);
-            put(h, engine, alloc);
-            answer.number()
-        }
-        None => Answer::IsEmpty.number(),
-    }
+    on!(Engine, h, alloc, |engine| make_frame(engine, out))
 }
 
 /// Tells how an engine stands.
@@ -43,12 +38,5 @@ pub extern "C" fn roam_state(alloc: Global, h: &mut Handle, out: &mut Standing) 
         (now ≡ was) × (answer ≡ Answer.Done) × (out.new ≡ standing_of was)) }
     ensures empty { OnEmpty h.old.value h.new.value result (out.new ≡ out.old) }
 {
-    match take(h, alloc) {
-        Some(engine) => {
-            let answer = tell_standing(&engine, out);
-            put(h, engine, alloc);
-            answer.number()
-        }
-        None => Answer::IsEmpty.number(),
-    }
+    on!(Engine, h, alloc, |engine| tell_standing(engine, out))
 }

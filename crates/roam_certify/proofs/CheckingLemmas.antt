@@ -5,10 +5,10 @@ use Rattle.std.proofs.lemmas.Bool.{both_ways}
 use Rattle.std.proofs.lemmas.List.{take_more, take-append-drop, length-take-le}
 use Rattle.mesh_defs.specs.Triangle.{IsSplittable, IsMate}
 use Rattle.mesh_defs.specs.Greedy.{with_triangle}
-use Rattle.tiling_laws.proofs.DescentLemmas.{IsAddress-splittable}
+use Rattle.mesh_laws.proofs.DescentLemmas.{IsAddress-splittable}
 use Rattle.mesh_defs.proofs.ListLemmas.{IsIn-among, among-in}
 use Rattle.mesh_defs.proofs.TestLemmas.{same_tests}
-use Rattle.closure_laws.proofs.ForcingLemmas.{with-cases, with-old, with-new}
+use Rattle.mesh_laws.proofs.ForcingLemmas.{with-cases, with-old, with-new}
 use Rattle.certificate_laws.specs.declared.reason.Reason.{Reason}
 use Rattle.certificate_laws.specs.declared.reason.Kind.{Kind}
 use Rattle.certificate_laws.specs.declared.reason.Kind.TheVariants.{Want, Parent, Mate}

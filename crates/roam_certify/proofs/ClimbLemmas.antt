@@ -9,15 +9,15 @@ use Rattle.mesh_defs.specs.Triangle.{IsAddress, IsSplittable, IsMate}
 use Rattle.mesh_defs.specs.Tiling.{IsConforming}
 use Rattle.mesh_defs.specs.ClosedSet.{among}
 use Rattle.mesh_defs.specs.Greedy.{with_triangle}
-use Rattle.tiling_laws.specs.Ancestors.{is_above, ancestors_of}
-use Rattle.tiling_laws.proofs.ConformityLemmas.{self, member_above}
+use Rattle.mesh_laws.specs.Ancestors.{is_above, ancestors_of}
+use Rattle.mesh_laws.proofs.ConformityLemmas.{self, member_above}
 use Rattle.mesh_defs.proofs.ListLemmas.{IsIn, IsIn-contains, Contains-in, Any-in}
-use Rattle.tiling_laws.proofs.ConverseLemmas.{under-above}
+use Rattle.mesh_laws.proofs.ConverseLemmas.{under-above}
 use Rattle.mesh_defs.proofs.TestLemmas.{same_tests}
 use Rattle.std.specs.List.{IsDistinct}
 use Rattle.certificate_laws.proofs.DistinctLemmas.{distinct-none, distinct-cons, distinct-head, distinct-tail}
-use Rattle.closure_laws.proofs.SetListLemmas.{length-distinct}
-use Rattle.least_laws.specs.Sweep.{IsParentMarked}
+use Rattle.mesh_laws.proofs.SetListLemmas.{length-distinct}
+use Rattle.mesh_laws.specs.Sweep.{IsParentMarked}
 use Rattle.roam_certify.specs.Climb.{AreParentsFlagged, IsClimbed, IsCountedBelow, AreLeavesOf}
 use Rattle.certificate_laws.proofs.CutLemmas.{ancestor_of, ancestor-splittable, ancestor-parent, conforming-cut}
 use Rattle.certificate_laws.proofs.CutLemmas.{cut-conforming}

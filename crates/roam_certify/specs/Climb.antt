@@ -4,7 +4,7 @@ use Rattle.std.specs.Prelude.{◌≡◌, ℕ, ◌/◌, ◌<◌, ◌≤◌, ◌�
 use Rattle.std.specs.List.{IsDistinct}
 use Rattle.mesh_defs.specs.Triangle.{IsMate}
 use Rattle.mesh_defs.specs.ClosedSet.{IsSubset, among}
-use Rattle.tiling_laws.specs.Ancestors.{ancestors_of}
+use Rattle.mesh_laws.specs.Ancestors.{ancestors_of}
 
 -- flags of the parents of the first entries: nothing but ancestors is flagged
 pub record AreParentsFlagged (triangles first : List ℕ) (has : ℕ → Bool) : Type 0 where

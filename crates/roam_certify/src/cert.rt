@@ -14,8 +14,8 @@ use bintree_addr::Tri;
 use cert_text::Cert;
 use certificate_laws::{certificate_laws, reason_laws};
 use cull_marks::Planes;
+use mesh_defs::NoMemory;
 use plain_mesh::{falling_laws, plain_frame};
-use roam_errors::NoMemory;
 use std::alloc::Global;
 use view_priority::{Camera, Scene};
 use wedgie_tree::Wedges;
@@ -55,7 +55,7 @@ pub fn make_cert(
 /// A sound certificate of an optimal mesh within a budget, seen from the camera without view planes.
 ///
 /// The caller has the leaves and their worst from whoever found the mesh: the frame of a budget is optimal
-/// (`frame_laws` of `closure_laws`, and `best` of `certificate_laws`), whether it was made from scratch or by an
+/// (`frame_laws` of `mesh_laws`, and `best` of `certificate_laws`), whether it was made from scratch or by an
 /// engine.
 /// Cost (not proved): a byte for each splittable triangle, a look at each of these bytes until there are reasons
 /// enough, two priorities for each triangle that is worse than the mesh or as bad, and a step for each reason.

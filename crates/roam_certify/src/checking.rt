@@ -4,7 +4,7 @@ ghost use Rattle.std.specs.Prelude.{◌≡◌, ℕ, ◌+◌, ◌*◌, ◌^◌, �
 ghost use Rattle.mesh_defs.specs.Triangle.{IsSplittable};
 ghost use Rattle.mesh_defs.specs.State.{priority_seen};
 ghost use Rattle.mesh_defs.specs.declared.level.TheConstants.{GREATEST_LEVEL};
-ghost use Rattle.least_laws.specs.Sweep.{is_flagged};
+ghost use Rattle.mesh_laws.specs.Sweep.{is_flagged};
 ghost use Rattle.certificate_laws.specs.Certificate.{IsReason, AreReasons, IsFirstBad};
 ghost use Rattle.cert_text.specs.declared.limits.TheConstants.{MOST_REASONS};
 

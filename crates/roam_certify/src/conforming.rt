@@ -5,8 +5,8 @@ ghost use Rattle.std.specs.Prelude.{length, All};
 ghost use Rattle.mesh_defs.specs.Triangle.{IsAddress, IsSplittable, IsMate};
 ghost use Rattle.mesh_defs.specs.Tiling.{IsConforming};
 ghost use Rattle.mesh_defs.specs.declared.level.TheConstants.{GREATEST_LEVEL};
-ghost use Rattle.tiling_laws.specs.Ancestors.{ancestors_of};
-ghost use Rattle.least_laws.specs.Sweep.{is_flagged};
+ghost use Rattle.mesh_laws.specs.Ancestors.{ancestors_of};
+ghost use Rattle.mesh_laws.specs.Sweep.{is_flagged};
 ghost use Rattle.roam_certify.specs.Climb.{AreParentsFlagged, IsClimbed, IsCountedBelow, AreLeavesOf};
 
 use address_flags::{end, flag, flag_parent, is_set};

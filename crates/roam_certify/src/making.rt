@@ -5,7 +5,7 @@ ghost use Rattle.std.specs.Prelude.{OnOk, false, [], length};
 ghost use Rattle.mesh_defs.specs.Triangle.{IsSplittable, IsMate};
 ghost use Rattle.mesh_defs.specs.State.{priority_seen};
 ghost use Rattle.mesh_defs.specs.declared.level.TheConstants.{GREATEST_LEVEL};
-ghost use Rattle.least_laws.specs.Sweep.{is_flagged};
+ghost use Rattle.mesh_laws.specs.Sweep.{is_flagged};
 ghost use Rattle.certificate_laws.specs.declared.reason.Reason.{Reason};
 ghost use Rattle.certificate_laws.specs.Certificate.{named_in, AreReasons, AreAllReasons};
 ghost use Rattle.roam_certify.specs.Making.{AreReasonsListed, IsPushed, IsCause, HasCauses, AreGrownReasons};
@@ -14,8 +14,8 @@ ghost use Rattle.roam_certify.specs.Making.{KeepsReasons, AreWanted, IsQueue};
 use address_flags::{end, flag, is_set};
 use bintree_addr::Tri;
 use certificate_laws::{Kind, Reason};
+use mesh_defs::NoMemory;
 use plain_mesh::falling_laws;
-use roam_errors::NoMemory;
 use std::alloc::Global;
 use view_priority::Scene;
 

@@ -1,7 +1,7 @@
 -- What is known of a run of the program, whatever files it was over. This project's own.
 -- Words: HasRun.
 use Rattle.std.specs.Prelude.{◌≡◌, ◌↔◌, ◌<◌, ◌⊎◌, ℕ, List, Option, None}
-use Rattle.word_laws.specs.Words.{command_of}
+use Rattle.run_words.specs.Words.{command_of}
 use Rattle.run_laws.specs.declared.status.Status.{Status}
 use Rattle.run_laws.specs.declared.status.Status.TheVariants.{Usage, ReadFault, WriteFault}
 use Rattle.run_laws.specs.Outcome.{EngineEnd}

@@ -1,2 +1,5 @@
+pub mod AskedLemmas
+pub mod BorderLemmas
 pub mod CertificateLemmas
 pub mod DrawnLemmas
+pub mod MosaicLemmas

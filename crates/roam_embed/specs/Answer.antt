@@ -3,7 +3,8 @@ use Rattle.std.specs.Prelude.{ℤ, pos}
 use Rattle.roam_embed.specs.declared.answer.Answer.{Answer}
 use Rattle.roam_embed.specs.declared.answer.Answer.TheVariants.{Done, NoMemory, BadGrid, BadBudget, BadSpacing}
 use Rattle.roam_embed.specs.declared.answer.Answer.TheVariants.{BadCamera, BadPlane, TooManyPlanes, OutsideGrid}
-use Rattle.roam_embed.specs.declared.answer.Answer.TheVariants.{BadChange, Worn, NoRoom, IsEmpty, BadTolerance}
+use Rattle.roam_embed.specs.declared.answer.Answer.TheVariants.{BadChange, Worn, NoRoom, IsEmpty, BadTolerance, BadMesh}
+use Rattle.roam_embed.specs.declared.answer.Answer.TheVariants.{Shrunk}
 
 -- the number of an answer
 abbrev pub number_of : Answer → ℤ
@@ -21,3 +22,5 @@ number_of Worn = pos 10
 number_of NoRoom = pos 11
 number_of IsEmpty = pos 12
 number_of BadTolerance = pos 13
+number_of BadMesh = pos 14
+number_of Shrunk = pos 15

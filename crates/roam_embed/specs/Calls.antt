@@ -4,7 +4,7 @@
 -- All of it is this project's own.
 -- Words: IsOpenAnswer, IsOpened, IsCameraMoved, IsPlaneAdded, ArePlanesCleared, IsBudgetPut, IsHeightPut, IsAreaRaised,
 -- IsFrameMade, AreIndicesTold, AreLeavesTold.
-use Rattle.std.specs.Prelude.{◌≡◌, ◌≢◌, ℕ, ◌+◌, ◌*◌, ◌<◌, ◌≤◌, ◌↔◌, ◌⊎◌, true, false, List, ◌++◌, length, drop, All}
+use Rattle.std.specs.Prelude.{◌≡◌, ◌≢◌, ℕ, ◌+◌, ◌*◌, ◌<◌, ◌≤◌, ◌↔◌, ◌⊎◌, true, List, length, All}
 use Rattle.std.specs.Prelude.{Contains, None, ℤ, unsigned_abs, []}
 use Rattle.mesh_defs.specs.BoundingBox.{CameraAt, holds_point, point}
 use Rattle.mesh_defs.specs.View.{ViewPlane}
@@ -24,14 +24,14 @@ use Rattle.frame_loop.specs.Engine.{EngineState, mesh_seen, IsExpired, IsFrameDo
 use Rattle.roam_embed.specs.declared.answer.Answer.{Answer}
 use Rattle.roam_embed.specs.declared.answer.Answer.TheVariants.{Done, NoMemory, BadGrid, BadBudget, BadSpacing}
 use Rattle.roam_embed.specs.declared.answer.Answer.TheVariants.{BadCamera, BadPlane, TooManyPlanes, OutsideGrid}
-use Rattle.roam_embed.specs.declared.answer.Answer.TheVariants.{BadChange, Worn, NoRoom}
+use Rattle.roam_embed.specs.declared.answer.Answer.TheVariants.{BadChange, Worn}
 use Rattle.roam_embed.specs.declared.notes.Frame.{Frame}
 use Rattle.roam_embed.specs.declared.view.TheConstants.{LONGEST_WAY, MOST_PLANES}
 use Rattle.roam_embed.specs.declared.ground.TheConstants.{GREATEST_CHANGE}
 use Rattle.frame_loop.specs.declared.limits.TheConstants.{MOST_FRAMES}
 use Rattle.roam_embed.specs.Grid.{HasGrid, IsPointCount, IsPointOf, IsAreaOf}
 use Rattle.roam_embed.specs.Told.{note_of}
-use Rattle.mesh_arrays.specs.Indices.{indices_of}
+use Rattle.roam_embed.specs.Listed.{AreIndicesOf, AreNumbersTold}
 
 -- of heights, a budget and a spacing: which of them is refused, and whether the rest is up to memory
 pub record IsOpenAnswer (heights : List ℕ) (budget spacing : ℕ) (answer : Answer) : Type 0 where
@@ -129,22 +129,11 @@ pub record IsFrameMade (before after : EngineState) (told_before told : Frame) (
   pub untold : (answer ≡ Done → ⊥) → told ≡ told_before
 
 -- the indices of the mesh stand in the first places of an array, and how many triangles there are is told
-pub record AreIndicesTold (e : EngineState) (array_before array : List ℕ) (count_before count : ℕ)
-    (answer : Answer) : Type 0 where
-  pub done : (answer ≡ Done) ↔ (3 * length (mesh_seen e) ≤ length array_before)
-  pub no_room : (answer ≡ NoRoom) ↔ (length array_before < 3 * length (mesh_seen e))
-  pub written : answer ≡ Done →
-      array ≡ indices_of e.state.grid.n (mesh_seen e) ++ drop (3 * length (mesh_seen e)) array_before
-  pub counted : answer ≡ Done → count ≡ length (mesh_seen e)
-  pub unwritten : (answer ≡ Done → ⊥) → array ≡ array_before
-  pub uncounted : (answer ≡ Done → ⊥) → count ≡ count_before
+abbrev pub AreIndicesTold : EngineState → List ℕ → List ℕ → ℕ → ℕ → Answer → Type 0
+AreIndicesTold e array_before array count_before count answer =
+    AreIndicesOf e.state.grid.n (mesh_seen e) array_before array count_before count answer
 
 -- the same of the addresses of the triangles
-pub record AreLeavesTold (e : EngineState) (array_before array : List ℕ) (count_before count : ℕ)
-    (answer : Answer) : Type 0 where
-  pub done : (answer ≡ Done) ↔ (length (mesh_seen e) ≤ length array_before)
-  pub no_room : (answer ≡ NoRoom) ↔ (length array_before < length (mesh_seen e))
-  pub written : answer ≡ Done → array ≡ mesh_seen e ++ drop (length (mesh_seen e)) array_before
-  pub counted : answer ≡ Done → count ≡ length (mesh_seen e)
-  pub unwritten : (answer ≡ Done → ⊥) → array ≡ array_before
-  pub uncounted : (answer ≡ Done → ⊥) → count ≡ count_before
+abbrev pub AreLeavesTold : EngineState → List ℕ → List ℕ → ℕ → ℕ → Answer → Type 0
+AreLeavesTold e array_before array count_before count answer =
+    AreNumbersTold (mesh_seen e) array_before array count_before count answer

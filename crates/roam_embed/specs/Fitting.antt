@@ -3,10 +3,11 @@
 use Rattle.std.specs.Prelude.{◌≡◌, ℕ, ◌*◌, ◌/◌, ◌^◌, ◌<◌, ◌≤◌, ◌↔◌, ◌⊎◌, min, List, ◌++◌, length, drop}
 use Rattle.mesh_defs.specs.HeightField.{HeightField}
 use Rattle.mesh_defs.specs.MeshText.{vertices_of}
-use Rattle.deviation_laws.specs.PlaneHeight.{deviation_of}
-use Rattle.least_laws.specs.Least.{IsLeastMesh}
+use Rattle.fit_laws.specs.PlaneHeight.{deviation_of}
+use Rattle.mesh_laws.specs.Least.{IsLeastMesh}
 use Rattle.fit_laws.specs.Error.{error_of}
 use Rattle.fit_laws.specs.Budget.{IsBudgetMesh}
+use Rattle.fit_mesh.specs.Splits.{IsMeshListed}
 use Rattle.mesh_arrays.specs.Indices.{indices_of}
 use Rattle.roam_embed.specs.declared.answer.Answer.{Answer}
 use Rattle.roam_embed.specs.declared.answer.Answer.TheVariants.{Done, NoMemory, BadBudget, NoRoom, BadTolerance}
@@ -23,8 +24,9 @@ most_triangles n budget = min budget (2 * 4 ^ n)
 
 -- The mesh for a tolerance: no triangle has an error above it, and there are as few as can be. Where these are more
 -- than the budget, the greatest error is the least that a mesh of the budget can have, and for that there are as few as
--- can be.
+-- can be. It stands depth first.
 pub record IsFit (grid : HeightField) (thousandths budget : ℕ) (leaves : List ℕ) (told : Fitted) : Type 0 where
+  pub listed : IsMeshListed grid.n leaves
   pub within : length leaves ≤ budget
   pub off : told.off ≡ deviation_of grid.n grid.heights leaves
   pub over : told.over ≡ 2 ^ grid.n

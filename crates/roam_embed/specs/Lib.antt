@@ -9,3 +9,10 @@ pub mod Shapes
 pub mod Fitting
 pub mod Certificates
 pub mod Changed
+pub mod FitterState
+pub mod Asked
+pub mod Border
+pub mod Listed
+pub mod Fitter
+pub mod FitWith
+pub mod Mosaics

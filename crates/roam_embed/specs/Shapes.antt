@@ -6,8 +6,8 @@ use Rattle.std.specs.Prelude.{◌≡◌, ℕ, ◌*◌, ◌^◌, ◌<◌, ◌≤�
 use Rattle.std.specs.List.{flat_map}
 use Rattle.mesh_defs.specs.declared.point.Point.{Point}
 use Rattle.mesh_defs.specs.MeshText.{vertices_of}
-use Rattle.deviation_laws.specs.PlaneHeight.{deviation_of}
-use Rattle.strip_laws.specs.Strip.{strip_of}
+use Rattle.fit_laws.specs.PlaneHeight.{deviation_of}
+use Rattle.mesh_laws.specs.Strip.{strip_of}
 use Rattle.obj_write.specs.Arrays.{positions_of, places_of}
 use Rattle.mesh_arrays.specs.Indices.{indices_of}
 use Rattle.frame_loop.specs.Engine.{EngineState, is_split, mesh_seen}

@@ -30,10 +30,14 @@ pub enum Answer {
     Worn,
     /// The caller's array has too few places.
     NoRoom,
-    /// There is no engine.
+    /// The handle has none of what it is to own.
     IsEmpty,
-    /// The tolerance is above 65,535.999 units of height.
+    /// A tolerance is above 65,535.999 units of height, or there is not one for each height.
     BadTolerance,
+    /// The addresses are not those of a conforming mesh of the grid, depth first.
+    BadMesh,
+    /// The tile had a border point that is not among these.
+    Shrunk,
 }
 
 impl Answer {
@@ -56,6 +60,8 @@ impl Answer {
             Answer::NoRoom => 11,
             Answer::IsEmpty => 12,
             Answer::BadTolerance => 13,
+            Answer::BadMesh => 14,
+            Answer::Shrunk => 15,
         }
     }
 }

@@ -8,12 +8,11 @@ ghost use Rattle.roam_embed.specs.Fitting.{fit_tolerance_of, most_triangles, IsF
 use crate::answer::Answer;
 use crate::notes::Fitted;
 use address_flags::end;
-use closure_laws::set_leaf_laws;
 use fit_mesh::Fit;
 use frame_loop::{Engine, Grid};
 use mesh_arrays::write_indices;
+use mesh_laws::{conformity_laws, set_leaf_laws};
 use std::alloc::Global;
-use tiling_laws::conformity_laws;
 
 /// The greatest tolerance, in thousandths of a unit of height: no mesh is off by more.
 pub const GREATEST_TOLERANCE: u32 = 65_535_999;
@@ -76,7 +75,7 @@ fn fit_into(fit: &mut Fit, grid: &Grid, thousandths: u32, out: &mut [u32]) -> Fi
 }
 
 /// A tolerance in thousandths of a unit of height, times 2^n, rounded down.
-fn tolerance(n: u32, thousandths: u32) -> u32
+pub(crate) fn tolerance(n: u32, thousandths: u32) -> u32
     requires in_grid { n ≤ GREATEST_LEVEL }
     requires low { thousandths ≤ GREATEST_TOLERANCE }
     ensures { result ≡ fit_tolerance_of n thousandths }

@@ -7,9 +7,13 @@
 #![tactic(auto)]
 
 mod answer;
+mod asked;
+mod border;
 mod bytes;
 mod certificate;
 mod changed;
+mod fitted;
+mod fitter;
 mod fitting;
 mod frames;
 mod ground;
@@ -17,6 +21,7 @@ mod laws;
 mod looking;
 mod make;
 mod mesh;
+mod mosaic;
 mod notes;
 mod renewal;
 mod shapes;
@@ -25,6 +30,11 @@ mod view;
 pub use answer::Answer;
 pub use certificate::tell_certificate;
 pub use changed::tell_changes;
+pub use fitted::tell_fit_with;
+pub use fitter::{
+    Fitter, fit_points, open_fitter, refine_points, restore_mesh, tell_border,
+    tell_fitter_deviation, tell_fitter_indices, tell_fitter_leaves,
+};
 pub use fitting::{GREATEST_TOLERANCE, tell_fit};
 pub use frame_loop::MOST_FRAMES;
 pub use frames::{make_frame, tell_standing};
@@ -33,7 +43,8 @@ pub use laws::{compact_laws, limit_laws};
 pub use looking::put_planes;
 pub use make::open_engine;
 pub use mesh::{tell_indices, tell_leaves};
-pub use notes::{Deviation, Fitted, Frame, PlaneNumbers, Standing};
+pub use mosaic::{Mosaic, next_tile, open_mosaic, put_tile, tell_required};
+pub use notes::{Deviation, Fitted, Frame, PlaneNumbers, Required, Standing, Tile};
 pub use renewal::renew_engine;
 pub use shapes::{tell_compact, tell_deviation, tell_positions, tell_strip};
 pub use view::{LONGEST_WAY, MOST_PLANES, add_plane, clear_planes, move_camera, put_budget};

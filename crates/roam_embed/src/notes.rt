@@ -85,3 +85,29 @@ pub struct Fitted {
     /// How many vertices they have.
     pub vertices: u32,
 }
+
+/// The next tile of a mosaic that has to be fitted.
+#[repr(C)]
+#[derive(Clone, Copy, Debug, PartialEq, Eq)]
+pub struct Tile {
+    /// Its column, from 0.
+    pub column: u32,
+    /// Its row, from 0.
+    pub row: u32,
+    /// 1, or 0 where no tile has to be fitted; column and row are 0 then.
+    pub waits: u32,
+    /// Always 0.
+    pub spare: u32,
+}
+
+/// What a tile's mesh has to have.
+#[repr(C)]
+#[derive(Clone, Copy, Debug, PartialEq, Eq)]
+pub struct Required {
+    /// How many points.
+    pub count: usize,
+    /// 1 where the tile's mesh lacks one of them, so that it has to be fitted; else 0.
+    pub lacks: u32,
+    /// Always 0.
+    pub spare: u32,
+}

@@ -8,8 +8,8 @@ use Rattle.std.proofs.Math.Nat.{mod-lt, mul-le-mul_right, div-le_self}
 use Rattle.std.proofs.lemmas.Fmt.{length-decimal-le}
 use Rattle.std.proofs.lemmas.List.FromFn.{length-map-range_with_len, get_or-map-range_with_len}
 use Rattle.mesh_defs.specs.HeightField.{IsHeightField, side_of}
-use Rattle.pgm_header.specs.HeaderText.{IsHeaderText}
-use Rattle.pgm_header.specs.Laws.{WrittenHeadersAreTexts}
+use Rattle.pgm_grid.specs.HeaderText.{IsHeaderText}
+use Rattle.pgm_grid.specs.HeaderLaws.{WrittenHeadersAreTexts}
 use Rattle.text_laws.specs.Words.{two_bytes}
 use Rattle.text_laws.proofs.WordLemmas.{length-flat}
 use Rattle.std.proofs.lemmas.Bool.{cond_both}

@@ -4,8 +4,8 @@ use Rattle.std.specs.Prelude.{ℕ, false, List, [], ◌∷◌, ◌++◌, codes, 
 use Rattle.std.specs.Fmt.{signed_decimal}
 use Rattle.std.specs.List.{flat_map}
 use Rattle.mesh_defs.specs.HeightField.{side_of}
-use Rattle.pgm_header.specs.declared.machine.HeaderValues.{HeaderValues}
-use Rattle.pgm_header.specs.HeaderText.{written_header}
+use Rattle.pgm_grid.specs.declared.header_machine.HeaderValues.{HeaderValues}
+use Rattle.pgm_grid.specs.HeaderText.{written_header}
 use Rattle.text_laws.specs.Words.{two_bytes}
 use Rattle.roam_script.specs.declared.line.Line.{Line}
 use Rattle.roam_script.specs.declared.line.Line.TheVariants.{Blank, Camera, Set, Frame, Plane, NoPlanes, Budget, Raise}

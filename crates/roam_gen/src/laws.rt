@@ -3,8 +3,7 @@
 ghost use Rattle.roam_gen.specs.Laws.{MadeGridsAreGrids, WrittenGridsAreTexts, WrittenGridsAreReadBack};
 ghost use Rattle.roam_gen.specs.Laws.{MadeLinesLieInRange};
 
-use pgm_grid::grids_and_texts;
-use pgm_header::header_laws;
+use pgm_grid::{grids_and_texts, header_laws};
 
 /// States that a generated grid is one, that what is written of it is read back as it, and that each
 /// generated line lies in its ranges. It does nothing.

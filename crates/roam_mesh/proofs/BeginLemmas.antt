@@ -8,12 +8,12 @@ use Rattle.std.proofs.lemmas.List.{length_push}
 use Rattle.std.proofs.lemmas.List.Elements.{All-cons, All-nil}
 use Rattle.mesh_defs.specs.ClosedSet.{among}
 use Rattle.mesh_defs.specs.Greedy.{with_triangle}
-use Rattle.edge_laws.specs.Slots.{address_at, IsPool}
+use Rattle.mesh_laws.specs.Slots.{address_at, IsPool}
 use Rattle.bintree_addr.specs.declared.slot.Slot.{Slot}
 use Rattle.triangle_pool.specs.Slots.{PoolState}
 use Rattle.lazy_priority.specs.Due.{IsDue, NoneIsDue}
-use Rattle.frame_steps.specs.Stamps.{is_due}
-use Rattle.frame_steps.specs.Deferred.{IsEntry}
+use Rattle.mesh_laws.specs.Stamps.{is_due}
+use Rattle.mesh_laws.specs.Deferred.{IsEntry}
 use Rattle.deferred_loop.specs.Seen.{IsQuiet, IsBegun}
 use Rattle.roam_mesh.specs.Mesh.{slot_of, pool_set, pool_members}
 use Rattle.roam_mesh.specs.Parts.{PartsState, entry_at, entry_of, is_leaf_at, is_entry_at, deadline_of, stamp_in}

@@ -3,8 +3,8 @@ use Rattle.std.proofs.Common.{◌≡◌, ℕ, ◌+◌, ◌*◌, ◌/◌, ◌≤�
 use Rattle.std.proofs.Common.{IfSome, IsSomeAnd, refl, sym, ◌∙◌, ap, subst, arith, ⊎_elim}
 use Rattle.std.proofs.lemmas.Bool.{false≢true}
 use Rattle.mesh_defs.specs.ClosedSet.{among}
-use Rattle.edge_laws.specs.Edge.{mate_of}
-use Rattle.edge_laws.specs.Slots.{address_at}
+use Rattle.mesh_laws.specs.Edge.{mate_of}
+use Rattle.mesh_laws.specs.Slots.{address_at}
 use Rattle.bintree_addr.specs.declared.slot.Slot.{Slot}
 use Rattle.triangle_pool.specs.declared.pool.Born.{Born}
 use Rattle.triangle_pool.specs.Answer.{AreChildren, IsOfPair, IsBorn}

@@ -3,10 +3,10 @@ use Rattle.std.proofs.Common.{◌≡◌, ℕ, ◌/◌, ◌≤◌, ◌&&◌, ◌�
 use Rattle.std.proofs.Common.{◌∷◌, refl, sym, ◌∙◌, ap, subst, arith, ⊎_elim}
 use Rattle.std.proofs.lemmas.Bool.{false≢true, and_parts, and_from, lt-ltb, ltb-true, le-leb, leb-true}
 use Rattle.mesh_defs.specs.ClosedSet.{among}
-use Rattle.edge_laws.specs.Edge.{mate_of}
-use Rattle.edge_laws.specs.Slots.{address_at, has_children, IsLive, IsPool, HasLeaf}
-use Rattle.edge_laws.proofs.MateLemmas.{mate_of-low}
-use Rattle.edge_laws.proofs.SlotLemmas.{member_parent}
+use Rattle.mesh_laws.specs.Edge.{mate_of}
+use Rattle.mesh_laws.specs.Slots.{address_at, has_children, IsLive, IsPool, HasLeaf}
+use Rattle.mesh_laws.proofs.MateLemmas.{mate_of-low}
+use Rattle.mesh_laws.proofs.SlotLemmas.{member_parent}
 use Rattle.force_split.specs.Chain.{IsChain}
 use Rattle.roam_mesh.specs.Mesh.{slot_of}
 use Rattle.roam_mesh.specs.Parts.{is_ready}

@@ -11,10 +11,10 @@ use Rattle.std.proofs.lemmas.List.{length-append, map-append, reverse-append, ge
 use Rattle.mesh_defs.specs.ClosedSet.{among}
 use Rattle.mesh_defs.specs.Greedy.{with_triangle}
 use Rattle.mesh_defs.proofs.TestLemmas.{same_tests}
-use Rattle.edge_laws.specs.Edge.{mate_of}
-use Rattle.edge_laws.specs.Slots.{address_at, IsLive, IsPool}
-use Rattle.edge_laws.proofs.MateLemmas.{mate_of-back}
-use Rattle.edge_laws.specs.Chief.{chief_of}
+use Rattle.mesh_laws.specs.Edge.{mate_of}
+use Rattle.mesh_laws.specs.Slots.{address_at, IsLive, IsPool}
+use Rattle.mesh_laws.proofs.MateLemmas.{mate_of-back}
+use Rattle.mesh_laws.specs.Chief.{chief_of}
 use Rattle.bintree_addr.specs.declared.slot.Slot.{Slot}
 use Rattle.triangle_pool.specs.Slots.{PoolState}
 use Rattle.deferred_loop.specs.declared.gauge.Reading.{Reading}
@@ -33,7 +33,7 @@ use Rattle.roam_mesh.proofs.PlacedLemmas.{length-cond_set, away_placed, placed_s
 use Rattle.roam_mesh.proofs.PlacedLemmas.{rekeyed_as}
 use Rattle.roam_mesh.proofs.SlotListLemmas.{numbers_count, numbers_pop, among-push, listed_below, among_last}
 use Rattle.roam_mesh.proofs.SlotListLemmas.{distinct_front}
-use Rattle.edge_laws.proofs.ChiefLemmas.{chief_of-cases}
+use Rattle.mesh_laws.proofs.ChiefLemmas.{chief_of-cases}
 use Rattle.text_laws.proofs.TestLemmas.{by_bool}
 use Rattle.std.proofs.Math.Bool.{or-false}
 

@@ -8,12 +8,12 @@ use Rattle.mesh_defs.specs.Ranking.{IsBefore}
 use Rattle.mesh_defs.specs.ClosedSet.{leaves_of, among}
 use Rattle.bintree_addr.specs.declared.rank.Rank.{Rank}
 use Rattle.bintree_addr.specs.declared.slot.Slot.{Slot}
-use Rattle.closure_laws.specs.Order.{IsNoLater}
-use Rattle.closure_laws.proofs.OrderLemmas.{before_cases, before-no_later}
-use Rattle.edge_laws.specs.Edge.{mate_of}
-use Rattle.edge_laws.specs.Slots.{address_at, has_children, IsLive, IsPool, HasLeaf, diamond_size}
-use Rattle.edge_laws.proofs.SlotLemmas.{size_one, size_two}
-use Rattle.frame_steps.specs.Stamps.{Stamp}
+use Rattle.mesh_laws.specs.Order.{IsNoLater}
+use Rattle.mesh_laws.proofs.OrderLemmas.{before_cases, before-no_later}
+use Rattle.mesh_laws.specs.Edge.{mate_of}
+use Rattle.mesh_laws.specs.Slots.{address_at, has_children, IsLive, IsPool, HasLeaf, diamond_size}
+use Rattle.mesh_laws.proofs.SlotLemmas.{size_one, size_two}
+use Rattle.mesh_laws.specs.Stamps.{Stamp}
 use Rattle.split_queue.specs.First.{IsFirstEntry}
 use Rattle.force_split.specs.Chain.{chain_size}
 use Rattle.triangle_pool.specs.Slots.{PoolState}

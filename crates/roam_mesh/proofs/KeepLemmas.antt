@@ -5,9 +5,9 @@ use Rattle.std.specs.List.{IsDistinct}
 use Rattle.std.proofs.lemmas.Bool.{cond-true, cond-false, eqb-true, or_parts, or_cases, both_ways}
 use Rattle.mesh_defs.specs.ClosedSet.{among}
 use Rattle.mesh_defs.proofs.ListLemmas.{among-in}
-use Rattle.closure_laws.proofs.SetListLemmas.{All-in}
-use Rattle.edge_laws.specs.Slots.{address_at}
-use Rattle.frame_steps.specs.Deferred.{IsEntry}
+use Rattle.mesh_laws.proofs.SetListLemmas.{All-in}
+use Rattle.mesh_laws.specs.Slots.{address_at}
+use Rattle.mesh_laws.specs.Deferred.{IsEntry}
 use Rattle.roam_mesh.specs.Mesh.{pool_members}
 use Rattle.roam_mesh.specs.Parts.{PartsState, entry_at, is_entry_at, IsWhole, IsParts}
 use Rattle.roam_mesh.specs.Change.{pushed_all}

@@ -6,14 +6,14 @@ use Rattle.std.proofs.lemmas.Bool.{both_ways, true≢false, cond-true, cond-fals
 use Rattle.std.proofs.lemmas.Bool.{and_from, and_left, and_right}
 use Rattle.std.proofs.lemmas.List.{get_or_read}
 use Rattle.mesh_defs.specs.Ranking.{IsBefore}
-use Rattle.closure_laws.specs.Order.{IsNoLater}
-use Rattle.closure_laws.proofs.OrderLemmas.{no_later_other}
-use Rattle.edge_laws.specs.Edge.{mate_of}
-use Rattle.edge_laws.proofs.MateLemmas.{mate_of-low, mate_of-back, mate_of-other}
+use Rattle.mesh_laws.specs.Order.{IsNoLater}
+use Rattle.mesh_laws.proofs.OrderLemmas.{no_later_other}
+use Rattle.mesh_laws.specs.Edge.{mate_of}
+use Rattle.mesh_laws.proofs.MateLemmas.{mate_of-low, mate_of-back, mate_of-other}
 use Rattle.bintree_addr.specs.declared.rank.Rank.{Rank}
 use Rattle.bintree_addr.specs.RankOrder.{ComesFirst}
-use Rattle.edge_laws.specs.Chief.{chief_of}
-use Rattle.edge_laws.specs.Slots.{address_at, IsLive, IsPool}
+use Rattle.mesh_laws.specs.Chief.{chief_of}
+use Rattle.mesh_laws.specs.Slots.{address_at, IsLive, IsPool}
 use Rattle.bintree_addr.specs.declared.slot.Slot.{Slot}
 use Rattle.roam_mesh.specs.Mesh.{slot_of}
 use Rattle.roam_mesh.specs.Parts.{PartsState, IsWhole, blank, entry_at, entry_of, is_ready, is_ready_at, best_of}
@@ -22,7 +22,7 @@ use Rattle.roam_mesh.specs.Keys.{is_sure, IsOfDiamond, IsBetterFirst, IsKnownRan
 use Rattle.roam_mesh.specs.declared.entry.Entry.{Entry}
 use Rattle.roam_mesh.proofs.PlaceLemmas.{live_below, slot_of-at, one_slot}
 use Rattle.roam_mesh.proofs.RoleLemmas.{ready_live, ready_mate}
-use Rattle.edge_laws.proofs.ChiefLemmas.{chief_of-cases}
+use Rattle.mesh_laws.proofs.ChiefLemmas.{chief_of-cases}
 
 -- one of two ranks is no later, or the other comes first
 pub rank_cases : (r q : Rank) → IsNoLater r.p r.tri q.p q.tri ⊎ ComesFirst q r

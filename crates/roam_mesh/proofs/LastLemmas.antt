@@ -5,17 +5,17 @@ use Rattle.std.proofs.lemmas.Bool.{cases_lt, or_from, and_right, and_parts, eqb-
 use Rattle.mesh_defs.specs.Triangle.{level_of}
 use Rattle.mesh_defs.specs.ClosedSet.{among}
 use Rattle.mesh_defs.specs.Ranking.{IsBefore}
-use Rattle.closure_laws.specs.Order.{IsNoLater}
-use Rattle.closure_laws.specs.Diamond.{IsInDiamond, CanMerge}
-use Rattle.edge_laws.specs.Edge.{mate_of}
-use Rattle.edge_laws.specs.Slots.{address_at, IsLive}
-use Rattle.edge_laws.proofs.MateLemmas.{mate_of-low, mate_of-back}
-use Rattle.edge_laws.proofs.IsMateLemmas.{mate_of-IsMate, IsMate-mate_of}
+use Rattle.mesh_laws.specs.Order.{IsNoLater}
+use Rattle.mesh_laws.specs.Diamond.{IsInDiamond, CanMerge}
+use Rattle.mesh_laws.specs.Edge.{mate_of}
+use Rattle.mesh_laws.specs.Slots.{address_at, IsLive}
+use Rattle.mesh_laws.proofs.MateLemmas.{mate_of-low, mate_of-back}
+use Rattle.mesh_laws.proofs.IsMateLemmas.{mate_of-IsMate, IsMate-mate_of}
 use Rattle.bintree_addr.specs.declared.rank.Rank.{Rank}
 use Rattle.bintree_addr.specs.declared.slot.Slot.{Slot}
 use Rattle.bintree_addr.specs.RankOrder.{ComesFirst}
 use Rattle.slot_heap.specs.Keys.{IsEmpty}
-use Rattle.edge_laws.specs.Chief.{chief_of}
+use Rattle.mesh_laws.specs.Chief.{chief_of}
 use Rattle.merge_queue.specs.Last.{IsLastEntry}
 use Rattle.deferred_loop.specs.Seen.{best_key, worst_key, sure, IsDecided, IsToAsk, IsLastHead}
 use Rattle.deferred_loop.specs.declared.queued.Located.{Located}

@@ -6,12 +6,12 @@ use Rattle.std.proofs.lemmas.Bool.{cases_Bool, cases_eq, cases_lt, both_ways, co
 use Rattle.std.proofs.lemmas.Bool.{false_from_ne_true, false≢true}
 use Rattle.mesh_defs.specs.ClosedSet.{among}
 use Rattle.bintree_addr.specs.declared.slot.Slot.{Slot}
-use Rattle.edge_laws.specs.Edge.{mate_of}
-use Rattle.edge_laws.specs.Slots.{address_at, has_children, split_set, diamond_size, IsLive, IsPool, IsMerge}
-use Rattle.closure_laws.proofs.ForcingLemmas.{with-old}
-use Rattle.edge_laws.proofs.SlotLemmas.{slot_of, set-has_children, has_children-set, parent_has_children, size_one}
-use Rattle.edge_laws.proofs.SlotLemmas.{size_two, among-split_list}
-use Rattle.edge_laws.proofs.MateLemmas.{mate_of-low}
+use Rattle.mesh_laws.specs.Edge.{mate_of}
+use Rattle.mesh_laws.specs.Slots.{address_at, has_children, split_set, diamond_size, IsLive, IsPool, IsMerge}
+use Rattle.mesh_laws.proofs.ForcingLemmas.{with-old}
+use Rattle.mesh_laws.proofs.SlotLemmas.{slot_of, set-has_children, has_children-set, parent_has_children, size_one}
+use Rattle.mesh_laws.proofs.SlotLemmas.{size_two, among-split_list}
+use Rattle.mesh_laws.proofs.MateLemmas.{mate_of-low}
 use Rattle.triangle_pool.specs.Slots.{PoolState}
 use Rattle.triangle_pool.specs.Answer.{AreChildren, IsOfPair, IsBorn}
 use Rattle.triangle_pool.specs.declared.pool.Born.{Born}

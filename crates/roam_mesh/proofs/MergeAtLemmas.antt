@@ -2,11 +2,11 @@
 use Rattle.std.proofs.Common.{◌≡◌, ℕ, ◌+◌, ◌*◌, ◌/◌, ◌≤◌, ◌⊎◌, inl, inr, true, false, cond, nat_lt, List, [], ◌∷◌, ◌++◌}
 use Rattle.std.proofs.Common.{slice_index, refl, sym, ◌∙◌, ap, subst, arith, ⊎_elim}
 use Rattle.std.proofs.lemmas.Bool.{both_ways, false_from_ne_true, lt-ltb}
-use Rattle.edge_laws.specs.Edge.{mate_of}
-use Rattle.edge_laws.specs.Slots.{address_at, has_children, split_set, room_of, diamond_size, IsLive, IsPool}
-use Rattle.edge_laws.specs.Slots.{IsMergeReady, IsUnder, IsMerge}
-use Rattle.edge_laws.proofs.MateLemmas.{mate_of-low, mate_of-back, mate_of-no_child}
-use Rattle.edge_laws.proofs.SlotLemmas.{has_children-set}
+use Rattle.mesh_laws.specs.Edge.{mate_of}
+use Rattle.mesh_laws.specs.Slots.{address_at, has_children, split_set, room_of, diamond_size, IsLive, IsPool}
+use Rattle.mesh_laws.specs.Slots.{IsMergeReady, IsUnder, IsMerge}
+use Rattle.mesh_laws.proofs.MateLemmas.{mate_of-low, mate_of-back, mate_of-no_child}
+use Rattle.mesh_laws.proofs.SlotLemmas.{has_children-set}
 use Rattle.triangle_pool.specs.Slots.{PoolState}
 use Rattle.roam_mesh.specs.Mesh.{slot_of}
 use Rattle.roam_mesh.specs.Parts.{PartsState, is_leaf_at, is_ready_at}

@@ -6,16 +6,16 @@ use Rattle.std.proofs.lemmas.Bool.{ltb-true}
 use Rattle.std.proofs.lemmas.List.{append_assoc}
 use Rattle.mesh_defs.specs.ClosedSet.{among}
 use Rattle.mesh_defs.proofs.ListLemmas.{among-in}
-use Rattle.closure_laws.proofs.SetListLemmas.{All-in}
-use Rattle.closure_laws.proofs.SizeLemmas.{length-leaves_of}
-use Rattle.closure_laws.proofs.DiamondLemmas.{without_diamond-length}
-use Rattle.edge_laws.specs.Edge.{mate_of}
-use Rattle.closure_laws.specs.Diamond.{CanMerge, IsWithoutDiamond}
-use Rattle.frame_steps.specs.Deferred.{IsEntry}
-use Rattle.edge_laws.proofs.MateLemmas.{mate_of-other}
-use Rattle.edge_laws.specs.Slots.{address_at, diamond_size, IsLive, IsPool}
-use Rattle.edge_laws.proofs.IsMateLemmas.{IsMate-mate_of, mate_of-IsMate}
-use Rattle.edge_laws.proofs.SlotLemmas.{size_one, size_two, split_list-closed}
+use Rattle.mesh_laws.proofs.SetListLemmas.{All-in}
+use Rattle.mesh_laws.proofs.SizeLemmas.{length-leaves_of}
+use Rattle.mesh_laws.proofs.DiamondLemmas.{without_diamond-length}
+use Rattle.mesh_laws.specs.Edge.{mate_of}
+use Rattle.mesh_laws.specs.Diamond.{CanMerge, IsWithoutDiamond}
+use Rattle.mesh_laws.specs.Deferred.{IsEntry}
+use Rattle.mesh_laws.proofs.MateLemmas.{mate_of-other}
+use Rattle.mesh_laws.specs.Slots.{address_at, diamond_size, IsLive, IsPool}
+use Rattle.mesh_laws.proofs.IsMateLemmas.{IsMate-mate_of, mate_of-IsMate}
+use Rattle.mesh_laws.proofs.SlotLemmas.{size_one, size_two, split_list-closed}
 use Rattle.triangle_pool.specs.Slots.{PoolState}
 use Rattle.deferred_loop.specs.Seen.{IsMergeOf}
 use Rattle.roam_mesh.specs.Mesh.{slot_of, pool_members}

@@ -5,15 +5,15 @@ use Rattle.std.proofs.lemmas.Bool.{cases_lt, both_ways, false_from_ne_true, fals
 use Rattle.std.proofs.lemmas.Bool.{and_from}
 use Rattle.mesh_defs.specs.Triangle.{level_of}
 use Rattle.mesh_defs.specs.ClosedSet.{among, IsClosed}
-use Rattle.frame_steps.specs.Deferred.{IsEntry}
-use Rattle.closure_laws.specs.Diamond.{IsInDiamond, CanMerge, IsWithoutDiamond}
+use Rattle.mesh_laws.specs.Deferred.{IsEntry}
+use Rattle.mesh_laws.specs.Diamond.{IsInDiamond, CanMerge, IsWithoutDiamond}
 use Rattle.mesh_defs.proofs.TestLemmas.{same_tests}
-use Rattle.closure_laws.proofs.ChangeLemmas.{merge_keeps_mergeable, merge_new_mergeable}
-use Rattle.edge_laws.specs.Edge.{mate_of}
-use Rattle.edge_laws.specs.Slots.{address_at, has_children, split_set, IsLive, IsPool, HasTwoLeaves, IsMergeReady}
-use Rattle.edge_laws.specs.Slots.{IsUnder}
-use Rattle.edge_laws.proofs.MateLemmas.{mate_of-low, mate_of-back}
-use Rattle.edge_laws.proofs.SlotLemmas.{set-has_children, has_children-set, among-split_list, split_list-closed}
+use Rattle.mesh_laws.proofs.ChangeLemmas.{merge_keeps_mergeable, merge_new_mergeable}
+use Rattle.mesh_laws.specs.Edge.{mate_of}
+use Rattle.mesh_laws.specs.Slots.{address_at, has_children, split_set, IsLive, IsPool, HasTwoLeaves, IsMergeReady}
+use Rattle.mesh_laws.specs.Slots.{IsUnder}
+use Rattle.mesh_laws.proofs.MateLemmas.{mate_of-low, mate_of-back}
+use Rattle.mesh_laws.proofs.SlotLemmas.{set-has_children, has_children-set, among-split_list, split_list-closed}
 use Rattle.triangle_pool.specs.Slots.{PoolState}
 use Rattle.roam_mesh.specs.Mesh.{slot_of, pool_members}
 use Rattle.roam_mesh.specs.Parts.{is_leaf_at, is_ready, is_ready_at, is_entry_at}

@@ -9,11 +9,11 @@ use Rattle.std.proofs.Math.ListN.{get_or-map}
 use Rattle.std.proofs.lemmas.Option.{none-some}
 use Rattle.mesh_defs.specs.ClosedSet.{among}
 use Rattle.bintree_addr.specs.declared.rank.Rank.{Rank}
-use Rattle.edge_laws.specs.Edge.{mate_of}
-use Rattle.edge_laws.specs.Slots.{address_at, split_set, IsLive, IsPool}
-use Rattle.edge_laws.proofs.SlotLemmas.{pair_of, set-has_children}
-use Rattle.frame_steps.specs.Deferred.{IsEntry}
-use Rattle.frame_steps.specs.Stamps.{Stamp, Readings, StampsHold}
+use Rattle.mesh_laws.specs.Edge.{mate_of}
+use Rattle.mesh_laws.specs.Slots.{address_at, split_set, IsLive, IsPool}
+use Rattle.mesh_laws.proofs.SlotLemmas.{pair_of, set-has_children}
+use Rattle.mesh_laws.specs.Deferred.{IsEntry}
+use Rattle.mesh_laws.specs.Stamps.{Stamp, Readings, StampsHold}
 use Rattle.deferred_loop.specs.Seen.{IsQuiet}
 use Rattle.deferred_loop.specs.Log.{Log}
 use Rattle.roam_mesh.specs.Mesh.{MeshState, slot_of, stamp_of, pool_members, with_expired}

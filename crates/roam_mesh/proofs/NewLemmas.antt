@@ -9,10 +9,10 @@ use Rattle.std.proofs.lemmas.Bool.{false_from_ne_true, lt-ltb, le-ltb, lt-leb, l
 use Rattle.std.proofs.lemmas.List.{length-replicate}
 use Rattle.mesh_defs.specs.ClosedSet.{leaves_of, among}
 use Rattle.bintree_addr.specs.declared.rank.Rank.{Rank}
-use Rattle.edge_laws.specs.Edge.{mate_of}
-use Rattle.edge_laws.specs.Slots.{address_at, has_children, split_set, room_of, IsPool}
-use Rattle.edge_laws.proofs.SlotLemmas.{pair_of}
-use Rattle.edge_laws.specs.Chief.{chief_of}
+use Rattle.mesh_laws.specs.Edge.{mate_of}
+use Rattle.mesh_laws.specs.Slots.{address_at, has_children, split_set, room_of, IsPool}
+use Rattle.mesh_laws.proofs.SlotLemmas.{pair_of}
+use Rattle.mesh_laws.specs.Chief.{chief_of}
 use Rattle.triangle_pool.specs.Slots.{PoolState}
 use Rattle.triangle_pool.specs.declared.pool.TheConstants.{MOST_LEAVES}
 use Rattle.roam_mesh.specs.Parts.{PartsState, blank, entry_at, is_leaf_at, is_bare, is_ready, is_ready_at, is_chief_at}

@@ -5,8 +5,8 @@ use Rattle.std.proofs.Common.{get_or-set_other, get_or-set_same}
 use Rattle.std.specs.List.{position_or_len}
 use Rattle.std.proofs.lemmas.Bool.{cases_eq, eqb-true, ne_eqb, false_from_ne_true}
 use Rattle.std.proofs.lemmas.List.Sums.{position_or_len_is, passes_at_first}
-use Rattle.edge_laws.specs.Slots.{address_at, has_children, IsLive, IsPool}
-use Rattle.edge_laws.proofs.SlotLemmas.{live_within, pair_one, slot_of as pair_slot, member_parent, parent_has_children}
+use Rattle.mesh_laws.specs.Slots.{address_at, has_children, IsLive, IsPool}
+use Rattle.mesh_laws.proofs.SlotLemmas.{live_within, pair_one, slot_of as pair_slot, member_parent, parent_has_children}
 use Rattle.mesh_defs.proofs.TestLemmas.{same_tests}
 use Rattle.roam_mesh.specs.Mesh.{slot_of}
 use Rattle.roam_mesh.specs.Parts.{blank}

@@ -12,10 +12,10 @@ use Rattle.mesh_defs.specs.ClosedSet.{among}
 use Rattle.mesh_defs.specs.Greedy.{with_triangle}
 use Rattle.bintree_addr.specs.declared.rank.Rank.{Rank}
 use Rattle.bintree_addr.specs.declared.slot.Slot.{Slot}
-use Rattle.edge_laws.specs.Edge.{mate_of}
-use Rattle.edge_laws.specs.Slots.{address_at, IsLive, IsPool}
-use Rattle.edge_laws.proofs.MateLemmas.{mate_of-low, mate_of-back}
-use Rattle.edge_laws.specs.Chief.{chief_of}
+use Rattle.mesh_laws.specs.Edge.{mate_of}
+use Rattle.mesh_laws.specs.Slots.{address_at, IsLive, IsPool}
+use Rattle.mesh_laws.proofs.MateLemmas.{mate_of-low, mate_of-back}
+use Rattle.mesh_laws.specs.Chief.{chief_of}
 use Rattle.roam_mesh.specs.declared.entry.Entry.{Entry}
 use Rattle.roam_mesh.specs.Mesh.{slot_of}
 use Rattle.roam_mesh.specs.Parts.{PartsState, blank, entry_at, entry_of, best_of, merging_key, leaf_rank, worst_rank}
@@ -25,7 +25,7 @@ use Rattle.roam_mesh.specs.Change.{chief_slot, gone_entry, taken_out, left, left
 use Rattle.roam_mesh.proofs.PlaceLemmas.{live_below, slot_of-at, one_slot, entry_at-set}
 use Rattle.roam_mesh.proofs.RoleLemmas.{entry_live, ready_live, not_both, entry_cases, ready_mate, chief_ready}
 use Rattle.roam_mesh.proofs.TestLemmas.{cond_same}
-use Rattle.edge_laws.proofs.ChiefLemmas.{chief_of-mate, chief_of-cases}
+use Rattle.mesh_laws.proofs.ChiefLemmas.{chief_of-mate, chief_of-cases}
 use Rattle.text_laws.proofs.TestLemmas.{by_bool}
 use Rattle.mesh_defs.proofs.TestLemmas.{or_none}
 use Rattle.std.proofs.Math.Bool.{or_assoc}

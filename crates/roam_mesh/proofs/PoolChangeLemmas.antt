@@ -6,9 +6,9 @@ use Rattle.std.proofs.Common.{IsTrue}
 use Rattle.std.specs.List.{IsDistinct}
 use Rattle.std.proofs.lemmas.Bool.{true≢false, both_ways, and_parts, and_from, not_from_false, false_from_ne_true}
 use Rattle.std.proofs.lemmas.Bool.{cond-true, cond-false, cond_both, not-true}
-use Rattle.edge_laws.specs.Edge.{mate_of}
-use Rattle.edge_laws.specs.Slots.{address_at, IsPool, room_of, split_set}
-use Rattle.edge_laws.specs.Chief.{chief_of}
+use Rattle.mesh_laws.specs.Edge.{mate_of}
+use Rattle.mesh_laws.specs.Slots.{address_at, IsPool, room_of, split_set}
+use Rattle.mesh_laws.specs.Chief.{chief_of}
 use Rattle.triangle_pool.specs.Slots.{PoolState}
 use Rattle.bintree_addr.specs.declared.rank.Rank.{Rank}
 use Rattle.roam_mesh.specs.Mesh.{slot_of, pool_members}
@@ -19,13 +19,13 @@ use Rattle.roam_mesh.proofs.PlaceLemmas.{slot_of-at, one_slot}
 use Rattle.roam_mesh.proofs.RoleLemmas.{leaf_entry, ready_entry, entry_cases, ready_live, ready_mate, entry_live}
 use Rattle.roam_mesh.proofs.RoleLemmas.{entry_of-at, entry_at-of, IsChiefIn, chief_in, in_chief}
 use Rattle.roam_mesh.proofs.TestLemmas.{same_cond}
-use Rattle.edge_laws.proofs.SlotLemmas.{leaves_count}
+use Rattle.mesh_laws.proofs.SlotLemmas.{leaves_count}
 use Rattle.mesh_defs.specs.ClosedSet.{leaves_of, among}
 use Rattle.roam_mesh.specs.declared.entry.Entry.{Entry}
 use Rattle.roam_mesh.specs.Change.{gone_entry}
 use Rattle.roam_mesh.proofs.PlacedLemmas.{HasLeft, placed_same}
 use Rattle.roam_mesh.proofs.FreshLemmas.{HasPushed}
-use Rattle.frame_steps.specs.Deferred.{IsEntry}
+use Rattle.mesh_laws.specs.Deferred.{IsEntry}
 use Rattle.deferred_loop.specs.Seen.{IsSame, IsNewEntry, IsRenewed}
 use Rattle.roam_mesh.proofs.SlotListLemmas.{seen_in, in_seen, seen_distinct}
 use Rattle.text_laws.proofs.TestLemmas.{by_bool}

@@ -7,27 +7,27 @@ use Rattle.std.proofs.lemmas.Bool.{le-leb, not-true, not_from_false, not_from_tr
 use Rattle.std.proofs.lemmas.Bool.{false_from_ne_true, or_parts, or_from}
 use Rattle.mesh_defs.specs.Triangle.{IsMate, level_of}
 use Rattle.mesh_defs.specs.ClosedSet.{leaves_of, among}
-use Rattle.tiling_laws.proofs.DescentLemmas.{IsAddress-level}
-use Rattle.closure_laws.specs.Diamond.{IsInDiamond, CanMerge}
-use Rattle.closure_laws.proofs.LeafLemmas.{leaf-where}
-use Rattle.closure_laws.proofs.RankLemmas.{at_place}
-use Rattle.edge_laws.specs.Edge.{mate_of}
-use Rattle.edge_laws.specs.Slots.{address_at, has_children, split_set, room_of, IsLive, IsPool, HasTwoLeaves}
-use Rattle.edge_laws.specs.Slots.{IsMergeReady, HasLeaf}
-use Rattle.edge_laws.proofs.MateLemmas.{mate_of-low, mate_of-back}
-use Rattle.edge_laws.proofs.IsMateLemmas.{IsMate-mate_of, mate_of-IsMate}
-use Rattle.edge_laws.proofs.LeafLemmas.{leaf-level}
-use Rattle.edge_laws.proofs.SlotLemmas.{IsLeafOf-slot, has_children-set, set-has_children, set_false, member_mate}
-use Rattle.edge_laws.proofs.SlotLemmas.{member_parent, members_count, leaves_count, among-split_list, leaves-split_list}
-use Rattle.frame_steps.specs.Deferred.{IsEntry, leaf as of_leaf, member as of_diamond}
-use Rattle.frame_steps.specs.Steps.{leaf_count}
-use Rattle.edge_laws.specs.Chief.{chief_of}
+use Rattle.mesh_laws.proofs.DescentLemmas.{IsAddress-level}
+use Rattle.mesh_laws.specs.Diamond.{IsInDiamond, CanMerge}
+use Rattle.mesh_laws.proofs.LeafLemmas.{leaf-where}
+use Rattle.mesh_laws.proofs.RankLemmas.{at_place}
+use Rattle.mesh_laws.specs.Edge.{mate_of}
+use Rattle.mesh_laws.specs.Slots.{address_at, has_children, split_set, room_of, IsLive, IsPool, HasTwoLeaves}
+use Rattle.mesh_laws.specs.Slots.{IsMergeReady, HasLeaf}
+use Rattle.mesh_laws.proofs.MateLemmas.{mate_of-low, mate_of-back}
+use Rattle.mesh_laws.proofs.IsMateLemmas.{IsMate-mate_of, mate_of-IsMate}
+use Rattle.mesh_laws.proofs.LeafAcrossLemmas.{leaf-level}
+use Rattle.mesh_laws.proofs.SlotLemmas.{IsLeafOf-slot, has_children-set, set-has_children, set_false, member_mate}
+use Rattle.mesh_laws.proofs.SlotLemmas.{member_parent, members_count, leaves_count, among-split_list, leaves-split_list}
+use Rattle.mesh_laws.specs.Deferred.{IsEntry, leaf as of_leaf, member as of_diamond}
+use Rattle.mesh_laws.specs.Steps.{leaf_count}
+use Rattle.mesh_laws.specs.Chief.{chief_of}
 use Rattle.triangle_pool.specs.Slots.{PoolState}
 use Rattle.roam_mesh.specs.Mesh.{slot_of, pool_members}
 use Rattle.roam_mesh.specs.Parts.{is_leaf_at, is_bare, is_ready, is_ready_at, is_chief_at, is_entry_at, is_out}
 use Rattle.roam_mesh.specs.Change.{chief_slot}
 use Rattle.roam_mesh.proofs.PlaceLemmas.{address-slot_of}
-use Rattle.edge_laws.proofs.ChiefLemmas.{chief_of-mate, chief_of-cases}
+use Rattle.mesh_laws.proofs.ChiefLemmas.{chief_of-mate, chief_of-cases}
 
 -- how many leaves the pool's set has
 pub members_leaves : (pool : PoolState) → IsPool pool.n pool.pairs →

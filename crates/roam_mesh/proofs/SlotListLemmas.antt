@@ -11,7 +11,7 @@ use Rattle.std.proofs.lemmas.List.Sorted.{IsPermutation-reverse, list_any-IsPerm
 use Rattle.mesh_defs.specs.ClosedSet.{among}
 use Rattle.mesh_defs.proofs.ListLemmas.{IsIn, IsIn-among, among-in}
 use Rattle.mesh_defs.proofs.TestLemmas.{same_tests}
-use Rattle.edge_laws.specs.Slots.{address_at, IsLive, IsPool}
+use Rattle.mesh_laws.specs.Slots.{address_at, IsLive, IsPool}
 use Rattle.std.proofs.lemmas.Cmp.{nat_eq_equiv}
 use Rattle.std.proofs.lemmas.List.{get_or_past, length_push, take_more, take_more_set, map-append, length-map}
 use Rattle.std.proofs.lemmas.List.{length-take-le}

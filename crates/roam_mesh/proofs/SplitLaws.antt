@@ -8,17 +8,17 @@ use Rattle.mesh_defs.specs.Triangle.{IsSplittable}
 use Rattle.mesh_defs.specs.Greedy.{with_triangle}
 use Rattle.mesh_defs.specs.GridSet.{IsForced}
 use Rattle.mesh_defs.proofs.ListLemmas.{among-in}
-use Rattle.frame_steps.specs.Deferred.{IsEntry}
-use Rattle.edge_laws.specs.Edge.{mate_of}
-use Rattle.edge_laws.proofs.MateLemmas.{mate_of-other}
-use Rattle.closure_laws.proofs.SetListLemmas.{All-in, among-filter, filter-among}
-use Rattle.closure_laws.proofs.SizeLemmas.{length-leaves_of}
-use Rattle.closure_laws.proofs.ExistenceLemmas.{forced_list}
-use Rattle.edge_laws.specs.Slots.{address_at, has_children, split_set, room_of, IsLive, IsPool}
-use Rattle.edge_laws.proofs.SlotLemmas.{leaves_count, parent_has_children, among-split_list, split_list-closed}
+use Rattle.mesh_laws.specs.Deferred.{IsEntry}
+use Rattle.mesh_laws.specs.Edge.{mate_of}
+use Rattle.mesh_laws.proofs.MateLemmas.{mate_of-other}
+use Rattle.mesh_laws.proofs.SetListLemmas.{All-in, among-filter, filter-among}
+use Rattle.mesh_laws.proofs.SizeLemmas.{length-leaves_of}
+use Rattle.mesh_laws.proofs.ExistenceLemmas.{forced_list}
+use Rattle.mesh_laws.specs.Slots.{address_at, has_children, split_set, room_of, IsLive, IsPool}
+use Rattle.mesh_laws.proofs.SlotLemmas.{leaves_count, parent_has_children, among-split_list, split_list-closed}
 use Rattle.triangle_pool.specs.Slots.{PoolState}
 use Rattle.force_split.specs.Chain.{IsBornOf, IsGainOf, chain_size}
-use Rattle.frame_steps.specs.Steps.{leaf_count}
+use Rattle.mesh_laws.specs.Steps.{leaf_count}
 use Rattle.deferred_loop.specs.Seen.{IsSplitOf}
 use Rattle.roam_mesh.specs.Mesh.{slot_of, pool_members}
 use Rattle.roam_mesh.specs.Parts.{PartsState, entry_at, seen_parts, is_leaf_at, is_entry_at, IsWhole, IsParts}

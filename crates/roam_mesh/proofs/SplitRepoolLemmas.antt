@@ -2,12 +2,12 @@
 use Rattle.std.proofs.Common.{◌≡◌, ℕ, ◌≤◌, ◌⊎◌, inl, inr, Bool, true, false, List, sym, ◌∙◌, ap, subst, arith, ⊎_elim}
 use Rattle.std.proofs.lemmas.Bool.{both_ways, false_from_ne_true}
 use Rattle.mesh_defs.specs.ClosedSet.{among}
-use Rattle.closure_laws.specs.Diamond.{IsInDiamond, CanMerge}
-use Rattle.closure_laws.proofs.ChangeLemmas.{split_mergeable, split_diamonds}
-use Rattle.edge_laws.specs.Edge.{mate_of}
-use Rattle.edge_laws.specs.Slots.{address_at, has_children, HasLeaf}
-use Rattle.edge_laws.proofs.MateLemmas.{mate_of-back}
-use Rattle.edge_laws.proofs.SlotLemmas.{set_false, among-split_list, split_list-closed}
+use Rattle.mesh_laws.specs.Diamond.{IsInDiamond, CanMerge}
+use Rattle.mesh_laws.proofs.ChangeLemmas.{split_mergeable, split_diamonds}
+use Rattle.mesh_laws.specs.Edge.{mate_of}
+use Rattle.mesh_laws.specs.Slots.{address_at, has_children, HasLeaf}
+use Rattle.mesh_laws.proofs.MateLemmas.{mate_of-back}
+use Rattle.mesh_laws.proofs.SlotLemmas.{set_false, among-split_list, split_list-closed}
 use Rattle.triangle_pool.specs.Slots.{PoolState}
 use Rattle.triangle_pool.specs.declared.pool.Born.{Born}
 use Rattle.force_split.specs.Chain.{IsBornOf}

@@ -5,12 +5,12 @@ use Rattle.std.proofs.lemmas.Bool.{cases_lt, both_ways, false_from_ne_true}
 use Rattle.mesh_defs.specs.ClosedSet.{among, IsLeastClosed}
 use Rattle.mesh_defs.specs.Greedy.{with_triangle}
 use Rattle.mesh_defs.specs.GridSet.{IsForced}
-use Rattle.edge_laws.specs.Edge.{mate_of}
-use Rattle.edge_laws.specs.Slots.{address_at, has_children, split_set, IsLive, IsPool, HasLeaf, HasTwoLeaves}
-use Rattle.edge_laws.specs.Slots.{IsMergeReady}
-use Rattle.edge_laws.proofs.MateLemmas.{mate_of-low, mate_of-back}
-use Rattle.edge_laws.proofs.SlotLemmas.{has_children_low, slot_of as some_slot, member_mate, parent_has_children}
-use Rattle.edge_laws.proofs.SlotLemmas.{among-split_list, split_list-closed}
+use Rattle.mesh_laws.specs.Edge.{mate_of}
+use Rattle.mesh_laws.specs.Slots.{address_at, has_children, split_set, IsLive, IsPool, HasLeaf, HasTwoLeaves}
+use Rattle.mesh_laws.specs.Slots.{IsMergeReady}
+use Rattle.mesh_laws.proofs.MateLemmas.{mate_of-low, mate_of-back}
+use Rattle.mesh_laws.proofs.SlotLemmas.{has_children_low, slot_of as some_slot, member_mate, parent_has_children}
+use Rattle.mesh_laws.proofs.SlotLemmas.{among-split_list, split_list-closed}
 use Rattle.triangle_pool.specs.Slots.{PoolState}
 use Rattle.triangle_pool.specs.declared.pool.Born.{Born}
 use Rattle.force_split.specs.Chain.{IsChain, IsBornOf, AreAnswers}

@@ -9,14 +9,14 @@ use Rattle.std.proofs.lemmas.Cmp.{nat_eq_equiv}
 use Rattle.std.proofs.lemmas.List.{get_or-set_same, get_or-set_other, length-set}
 use Rattle.std.proofs.lemmas.Map.Keys.{IsDistinct-push}
 use Rattle.mesh_defs.specs.ClosedSet.{among}
-use Rattle.edge_laws.specs.Edge.{mate_of}
-use Rattle.edge_laws.specs.Slots.{address_at, IsLive, IsPool}
+use Rattle.mesh_laws.specs.Edge.{mate_of}
+use Rattle.mesh_laws.specs.Slots.{address_at, IsLive, IsPool}
 use Rattle.bintree_addr.specs.declared.rank.Rank.{Rank}
 use Rattle.bintree_addr.specs.declared.slot.Slot.{Slot}
 use Rattle.triangle_pool.specs.Slots.{PoolState}
-use Rattle.edge_laws.specs.Chief.{chief_of}
+use Rattle.mesh_laws.specs.Chief.{chief_of}
 use Rattle.deferred_loop.specs.Seen.{IsRated, IsForgotten}
-use Rattle.frame_steps.specs.Deferred.{IsEntry}
+use Rattle.mesh_laws.specs.Deferred.{IsEntry}
 use Rattle.roam_mesh.specs.Mesh.{slot_of, pool_members, pool_set}
 use Rattle.roam_mesh.specs.Parts.{PartsState, parts_of, blank, stamp_in, best_of, merging_key, deadline_of, entry_at}
 use Rattle.roam_mesh.specs.Parts.{entry_of, seen_parts, is_leaf_at, is_ready_at, is_chief_at, is_entry_at, is_out}

@@ -5,9 +5,9 @@
 -- read_entry, entered, seated, unheard, forgotten, begun_at, expired_at.
 use Rattle.std.specs.Prelude.{ℕ, ◌+◌, ◌*◌, ◌/◌, ◌&&◌, ◌||◌, Bool, true, false, cond, nat_le, nat_lt, List, [], ◌∷◌}
 use Rattle.std.specs.Prelude.{◌++◌, None, Some, option_map, slice_index_or, slice_set}
-use Rattle.edge_laws.specs.Edge.{mate_of}
-use Rattle.edge_laws.specs.Slots.{address_at, has_children}
-use Rattle.edge_laws.specs.Chief.{chief_of}
+use Rattle.mesh_laws.specs.Edge.{mate_of}
+use Rattle.mesh_laws.specs.Slots.{address_at, has_children}
+use Rattle.mesh_laws.specs.Chief.{chief_of}
 use Rattle.deferred_loop.specs.declared.gauge.Reading.{Reading}
 use Rattle.roam_mesh.specs.Mesh.{slot_of}
 use Rattle.roam_mesh.specs.declared.entry.Entry.{Entry}

@@ -1,11 +1,11 @@
 -- That a frame keeps what greedy splitting picks.
 -- Source: the dual-queue algorithm of Duchaineau et al., "ROAMing Terrain", IEEE Visualization 1997; the chosen
--- triangles and the steps are those of `mesh_defs` and `frame_steps`.
+-- triangles and the steps are those of `mesh_defs` and `mesh_laws`.
 -- Words: SparesChosen.
 use Rattle.std.specs.Prelude.{ℕ, List}
 use Rattle.mesh_defs.specs.ClosedSet.{among}
 use Rattle.mesh_defs.specs.Ranking.{IsRanking, IsRankClosure}
-use Rattle.frame_steps.specs.Steps.{IsMergeStep, StepRun, HoldsChosen}
+use Rattle.mesh_laws.specs.Steps.{IsMergeStep, StepRun, HoldsChosen}
 
 -- Where last is the closure of the chosen triangles: from each set that the steps of the frame come to, no step merges
 -- a diamond that holds a chosen triangle.

@@ -2,8 +2,8 @@
 -- All of it is this project's own.
 -- Words: CanTakeBack, IsKeptMate.
 use Rattle.std.specs.Prelude.{◌≡◌, ℕ, ◌≤◌, true, false, List, [], ◌∷◌, ◌++◌}
-use Rattle.edge_laws.specs.Edge.{mate_of}
-use Rattle.edge_laws.specs.Slots.{address_at}
+use Rattle.mesh_laws.specs.Edge.{mate_of}
+use Rattle.mesh_laws.specs.Slots.{address_at}
 use Rattle.roam_mesh.specs.Mesh.{slot_of}
 use Rattle.roam_mesh.specs.Parts.{PartsState, entry_at, is_leaf_at, IsNear, IsParts}
 use Rattle.roam_mesh.specs.declared.entry.Entry.{Entry}

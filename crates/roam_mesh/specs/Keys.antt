@@ -2,11 +2,11 @@
 -- All of it is this project's own.
 -- Words: is_sure, IsOfDiamond, IsBetterFirst, IsKnownRank, IsTurn, IsUnasked.
 use Rattle.std.specs.Prelude.{◌≡◌, ◌≢◌, ℕ, ◌≤◌, ◌⊎◌, ◌↔◌, Bool, true, false, ◌||◌, cond, nat_eq, Option, IfSome, IsNone}
-use Rattle.edge_laws.specs.Edge.{mate_of}
-use Rattle.edge_laws.specs.Slots.{address_at}
-use Rattle.edge_laws.specs.Chief.{chief_of}
+use Rattle.mesh_laws.specs.Edge.{mate_of}
+use Rattle.mesh_laws.specs.Slots.{address_at}
+use Rattle.mesh_laws.specs.Chief.{chief_of}
 use Rattle.mesh_defs.specs.Ranking.{IsBefore}
-use Rattle.closure_laws.specs.Order.{IsNoLater}
+use Rattle.mesh_laws.specs.Order.{IsNoLater}
 use Rattle.bintree_addr.specs.declared.rank.Rank.{Rank}
 use Rattle.bintree_addr.specs.declared.slot.Slot.{Slot}
 use Rattle.roam_mesh.specs.Parts.{PartsState, entry_at, entry_of, is_ready_at, best_of, merging_key, worst_rank}

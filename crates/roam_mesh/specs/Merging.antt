@@ -2,8 +2,8 @@
 -- All of it is this project's own.
 -- Words: mate_slots, IsMergeAt.
 use Rattle.std.specs.Prelude.{◌≡◌, ℕ, ◌+◌, List, [], ◌∷◌, ◌++◌, cond, nat_lt}
-use Rattle.edge_laws.specs.Edge.{mate_of}
-use Rattle.edge_laws.specs.Slots.{address_at, IsPool, IsMerge, room_of, diamond_size}
+use Rattle.mesh_laws.specs.Edge.{mate_of}
+use Rattle.mesh_laws.specs.Slots.{address_at, IsPool, IsMerge, room_of, diamond_size}
 use Rattle.roam_mesh.specs.Mesh.{slot_of}
 use Rattle.roam_mesh.specs.Parts.{PartsState}
 use Rattle.roam_mesh.specs.Change.{above_slots, with_children, left_all, pushed_all}

@@ -5,10 +5,10 @@ use Rattle.std.specs.Prelude.{◌≡◌, ℕ, ◌+◌, ◌*◌, ◌/◌, ◌%◌
 use Rattle.std.specs.Prelude.{slice_index_or}
 use Rattle.std.specs.List.{position_or_len}
 use Rattle.mesh_defs.specs.ClosedSet.{among}
-use Rattle.edge_laws.specs.Slots.{split_list}
+use Rattle.mesh_laws.specs.Slots.{split_list}
 use Rattle.triangle_pool.specs.Slots.{PoolState}
-use Rattle.frame_steps.specs.Deferred.{IsEntry}
-use Rattle.frame_steps.specs.Stamps.{Stamp}
+use Rattle.mesh_laws.specs.Deferred.{IsEntry}
+use Rattle.mesh_laws.specs.Stamps.{Stamp}
 use Rattle.deferred_loop.specs.Seen.{PoolSet, SeenMesh}
 use Rattle.deferred_loop.specs.Log.{Log}
 

@@ -8,14 +8,14 @@ use Rattle.std.specs.Prelude.{nat_lt, List, length, map, take, reverse, Option, 
 use Rattle.std.specs.List.{IsDistinct}
 use Rattle.mesh_defs.specs.declared.counters.TheConstants.{LONGEST_WAY}
 use Rattle.mesh_defs.specs.ClosedSet.{among}
-use Rattle.edge_laws.specs.Edge.{mate_of}
-use Rattle.edge_laws.specs.Slots.{address_at, has_children, IsPool}
+use Rattle.mesh_laws.specs.Edge.{mate_of}
+use Rattle.mesh_laws.specs.Slots.{address_at, has_children, IsPool}
 use Rattle.triangle_pool.specs.Slots.{PoolState}
 use Rattle.triangle_pool.specs.declared.pool.TheConstants.{MOST_LEAVES}
 use Rattle.bintree_addr.specs.declared.rank.Rank.{Rank}
 use Rattle.bintree_addr.specs.declared.slot.Slot.{Slot}
-use Rattle.frame_steps.specs.Stamps.{Stamp}
-use Rattle.edge_laws.specs.Chief.{chief_of}
+use Rattle.mesh_laws.specs.Stamps.{Stamp}
+use Rattle.mesh_laws.specs.Chief.{chief_of}
 use Rattle.deferred_loop.specs.Seen.{SeenMesh}
 use Rattle.deferred_loop.specs.Log.{Log}
 use Rattle.roam_mesh.specs.Mesh.{MeshState, slot_of, pool_set}

@@ -2,7 +2,7 @@
 -- All of it is this project's own.
 -- Words: is_ready_above.
 use Rattle.std.specs.Prelude.{ℕ, ◌/◌, ◌&&◌, Bool, nat_le, List}
-use Rattle.edge_laws.specs.Slots.{address_at}
+use Rattle.mesh_laws.specs.Slots.{address_at}
 use Rattle.roam_mesh.specs.Parts.{is_ready}
 
 -- the parent of the slot's triangle has a diamond that can be merged

@@ -1,7 +1,7 @@
 //! The slot of an address.
 
 ghost use Rattle.std.specs.Prelude.{◌≡◌, ℕ, ◌≤◌, IsNone, IfSome, slice_index};
-ghost use Rattle.edge_laws.specs.Slots.{address_at, IsLive};
+ghost use Rattle.mesh_laws.specs.Slots.{address_at, IsLive};
 
 use bintree_addr::{Slot, Tri};
 use triangle_pool::Pool;

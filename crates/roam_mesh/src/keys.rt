@@ -1,9 +1,9 @@
 //! The keys of the queues.
 
 ghost use Rattle.std.specs.Prelude.{◌≡◌, ◌↔◌, true, IfSome, IsNone, MatchOption};
-ghost use Rattle.edge_laws.specs.Edge.{mate_of};
-ghost use Rattle.edge_laws.specs.Slots.{address_at, IsLive};
-ghost use Rattle.edge_laws.specs.Chief.{chief_of};
+ghost use Rattle.mesh_laws.specs.Edge.{mate_of};
+ghost use Rattle.mesh_laws.specs.Slots.{address_at, IsLive};
+ghost use Rattle.mesh_laws.specs.Chief.{chief_of};
 ghost use Rattle.roam_mesh.specs.Parts.{entry_at, is_ready_at, leaf_rank, worst_rank, diamond_rank};
 ghost use Rattle.roam_mesh.specs.Keys.{IsBetterFirst, IsUnasked, IsKnownRank};
 

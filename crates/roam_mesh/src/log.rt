@@ -2,7 +2,7 @@
 
 ghost use Rattle.std.specs.Prelude.{◌≡◌, ◌≤◌, ◌/◌, IfOk, MatchOption, None, Some, true, []};
 ghost use Rattle.std.specs.List.{AllByRecursion};
-ghost use Rattle.edge_laws.specs.Slots.{address_at};
+ghost use Rattle.mesh_laws.specs.Slots.{address_at};
 ghost use Rattle.deferred_loop.specs.Log.{emptied};
 ghost use Rattle.roam_mesh.specs.Parts.{is_ready_at};
 ghost use Rattle.roam_mesh.specs.Splitting.{born_slots};
@@ -10,7 +10,7 @@ ghost use Rattle.roam_mesh.specs.Log.{noted, noted_all, parents_of, diamond_of};
 
 use crate::parts::Parts;
 use bintree_addr::{Slot, Tri};
-use roam_errors::NoMemory;
+use mesh_defs::NoMemory;
 use std::alloc::Global;
 use std::marker::Model;
 use triangle_pool::Born;

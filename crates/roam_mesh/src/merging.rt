@@ -2,8 +2,8 @@
 
 ghost use Rattle.std.specs.Prelude.{◌≡◌, ◌+◌, ◌<◌, ◌≤◌, ◌++◌, true, cond, nat_lt, [], IsNone, IfSome};
 ghost use Rattle.mesh_defs.specs.declared.counters.TheConstants.{MOST_CHANGES};
-ghost use Rattle.edge_laws.specs.Edge.{mate_of};
-ghost use Rattle.edge_laws.specs.Slots.{address_at, diamond_size, IsMerge};
+ghost use Rattle.mesh_laws.specs.Edge.{mate_of};
+ghost use Rattle.mesh_laws.specs.Slots.{address_at, diamond_size, IsMerge};
 ghost use Rattle.roam_mesh.specs.Mesh.{slot_of};
 ghost use Rattle.deferred_loop.specs.Seen.{IsMergeOf};
 ghost use Rattle.roam_mesh.specs.Parts.{entry_at, is_ready_at, seen_parts, IsParts};

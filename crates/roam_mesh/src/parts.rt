@@ -3,7 +3,7 @@
 ghost use Rattle.std.specs.Prelude.{◌≡◌, ℕ, ◌+◌, ◌*◌, ◌<◌, ◌≤◌, ◌^◌, IfOk, [], None, Some, cond, nat_lt, false, length};
 ghost use Rattle.std.specs.Prelude.{replicate, slice_index, slice_index_or, slice_set};
 ghost use Rattle.mesh_defs.specs.declared.level.TheConstants.{GREATEST_LEVEL};
-ghost use Rattle.edge_laws.specs.Slots.{IsLive, IsPool};
+ghost use Rattle.mesh_laws.specs.Slots.{IsLive, IsPool};
 ghost use Rattle.triangle_pool.specs.declared.pool.TheConstants.{MOST_LEAVES};
 ghost use Rattle.roam_mesh.specs.Parts.{IsParts, blank, entry_at, leaf_rank};
 ghost use Rattle.roam_mesh.specs.Base.{AreEmpty};
@@ -12,7 +12,7 @@ use crate::entry::Entry;
 use bintree_addr::Slot;
 use lazy_priority::Lazy;
 use merge_queue::MergeQueue;
-use roam_errors::NoMemory;
+use mesh_defs::NoMemory;
 use split_queue::SplitQueue;
 use std::alloc::Global;
 use std::marker::Model;

@@ -2,8 +2,8 @@
 
 ghost use Rattle.std.specs.Prelude.{◌≡◌, ◌*◌, ◌/◌, ◌<◌, ◌≤◌, length, true, false, None, IsNone, IsSome, IfSome};
 ghost use Rattle.std.specs.Prelude.{slice_index_or};
-ghost use Rattle.edge_laws.specs.Edge.{mate_of};
-ghost use Rattle.edge_laws.specs.Slots.{address_at, IsLive};
+ghost use Rattle.mesh_laws.specs.Edge.{mate_of};
+ghost use Rattle.mesh_laws.specs.Slots.{address_at, IsLive};
 ghost use Rattle.roam_mesh.specs.Mesh.{slot_of};
 ghost use Rattle.roam_mesh.specs.Places.{is_ready_above};
 ghost use Rattle.roam_mesh.specs.Parts.{is_leaf_at, is_ready_at, is_entry_at, IsWhole};

@@ -1,6 +1,6 @@
 //! What the loop of a frame sees of the parts.
 
-ghost use Rattle.edge_laws.specs.Slots.{address_at};
+ghost use Rattle.mesh_laws.specs.Slots.{address_at};
 ghost use Rattle.roam_mesh.specs.Parts.{seen_parts};
 
 use crate::log::ChangeLog;

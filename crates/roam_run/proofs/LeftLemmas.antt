@@ -17,7 +17,7 @@ use Rattle.run_laws.specs.Promise.{is_complete, ends_script, leaves_engine}
 use Rattle.run_laws.specs.Moment.{Moment, moment}
 use Rattle.run_laws.specs.Maker.{Leaves, IsScriptEnd}
 use Rattle.run_laws.proofs.GridLemmas.{not-complete}
-use Rattle.word_laws.specs.Words.{Scripted, OnGrid, Frames, is_of_engine}
+use Rattle.run_words.specs.Words.{Scripted, OnGrid, Frames, is_of_engine}
 use Rattle.run_words.specs.declared.showing.Showing.{Showing}
 use Rattle.run_words.specs.declared.showing.Showing.TheVariants.{Meshes, Strips, Measures}
 use Rattle.run_words.specs.ShowView.{show_seen}

@@ -8,7 +8,7 @@ use Rattle.frame_loop.specs.Engine.{EngineState}
 use Rattle.run_laws.specs.declared.status.Status.{Status}
 use Rattle.run_laws.specs.declared.status.Status.TheVariants as ends
 use Rattle.run_laws.specs.Walk.{Refusal}
-use Rattle.word_laws.specs.Words.{as_sums, Generated}
+use Rattle.run_words.specs.Words.{as_sums, Generated}
 use Rattle.run_laws.specs.Picture.{Picture}
 use Rattle.run_laws.specs.ReportText.{all_triangles, worst_in, sums_line, try_line}
 use Rattle.run_laws.specs.Act.{Act, ReportText, Told, Stands, IsCutShort}
@@ -118,7 +118,7 @@ made-runs before now n seed sums engine left text status all is by some tells =
         no_mesh = λ text_alone. tells.no_mesh refl;
         opens = record {
           done = λ e. omega (arith, opened);
-          script_refused = λ e. omega (arith, opened);
+          script_refused = λ e. absurd (not-script tells.ends e);
           grid_refused = λ e. absurd (not-grid tells.ends e);
           usage = λ e. opened;
           read_fault = λ e. absurd (not-read tells.ends e);
@@ -153,6 +153,10 @@ made-runs before now n seed sums engine left text status all is by some tells =
     not-grid (inl a) e = cc
     not-grid (inr a) e = cc
 
+    not-script : (status ≡ ends.Done) ⊎ (status ≡ ends.WriteFault) → status ≡ ends.ScriptRefused → ⊥
+    not-script (inl a) e = cc
+    not-script (inr a) e = cc
+
     not-rejected : (status ≡ ends.Done) ⊎ (status ≡ ends.WriteFault) → status ≡ ends.Rejected → ⊥
     not-rejected (inl a) e = cc
     not-rejected (inr a) e = cc
@@ -177,6 +181,8 @@ unmade-runs now n seed = record {
         header = λ name job files same. cc;
         in_order = λ name c files same. cc;
         fit_in_order = λ name c files same. cc;
+        kept_make_in_order = λ name m files same. cc;
+        kept_in_order = λ name c files same. cc;
       });
   leaves = record {
     files = refl;

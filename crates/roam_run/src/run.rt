@@ -4,7 +4,7 @@ ghost use Rattle.std.specs.Prelude.{◌≡◌, ◌≢◌, ◌-◌, ◌^◌, ◌<
 ghost use Rattle.std.specs.Prelude.{IsTrue, IsSome, false, if◌then◌else◌, string_bytes};
 ghost use Rattle.mesh_defs.specs.declared.level.TheConstants.{GREATEST_LEVEL};
 ghost use Rattle.roam_edge.specs.Shelf.{NamedFile};
-ghost use Rattle.word_laws.specs.Words.{OnGrid, Generated, Frames, command_of};
+ghost use Rattle.run_words.specs.Words.{OnGrid, Generated, Frames, command_of};
 ghost use Rattle.run_laws.specs.Outcome.{Outcome, EngineEnd, IsOutcome, MakesNoCertificate};
 ghost use Rattle.run_laws.specs.Promise.{IsAccepted, ends_script};
 ghost use Rattle.run_laws.specs.Moment.{moment};
@@ -18,13 +18,11 @@ ghost use Rattle.run_words.specs.ShowView.{show_seen, IsShowing};
 
 use frame_loop::Engine;
 use roam_edge::{MeshSink, Shelf, Sink};
-use run_check::run_check;
+use run_certify::{run_check, run_fit_check, run_fit_make, run_kept_check, run_kept_make};
 use run_engine::{EngineFrames, run_make, sums_of, try_report};
 use run_files::{Lent, Outside, end_with_text, grid_or_end, run_info};
-use run_fit::{run_fit, run_keep};
-use run_fit_check::{run_fit_check, run_fit_make};
 use run_laws::{Status, fitting_laws, run_laws, state_laws};
-use run_script::{run_least, run_script};
+use run_meshes::{run_fit, run_keep, run_least, run_script};
 use run_words::{Command, FrameWords, Meshing, Showing, command_in};
 use std::alloc::Global;
 
@@ -82,7 +80,8 @@ impl Run {
 /// - `fit` reads a grid, and writes its fitted mesh for an error or a budget, and a line; with `keep` it reads points
 ///   behind the grid, and the mesh has them as vertices.
 /// - `certify make` and `certify make-fit` read a grid, and write a certificate of its best mesh, or of its fitted one;
-///   `certify check` and `certify check-fit` read one beside a mesh, and write whether the mesh is certified by it.
+///   `certify check` and `certify check-fit` read one beside a mesh, and write whether the mesh is certified by it. With
+///   `keep` those of fitted meshes read points behind the grid, and are of the mesh that has them as vertices.
 /// - `info` reads a grid, and writes a line on it. `try` reads nothing: it makes a grid and a script from a level and
 ///   a seed, and writes a line with the sums of their frames.
 ///
@@ -90,7 +89,8 @@ impl Run {
 /// two sinks is told, so `ends` shows it where the write of either fails. The first call that fails ends the run.
 /// Proved of this: each of shelf, meshes and report that had not failed before the run is not called again once a call
 /// of it has failed (`leaves`); and where contents are told, nothing is written after a write that failed (`ends`).
-/// A run that ends NoMemory has opened no script and no points (`ends`), since all memory is taken before.
+/// A run that ends NoMemory has opened no script, and no points that a mesh is fitted to (`ends`), since all memory is
+/// taken before.
 ///
 /// A shelf and sinks in memory tell what they hold, in ghost values, and the clauses speak of their bytes. Real files
 /// tell no contents. Over them `causes`, `untouched` and `leaves` hold, and what speaks of outcomes alone; of a command
@@ -120,7 +120,8 @@ pub fn roam<F: Shelf, M: MeshSink, R: Sink>(
     //
     // The meshes, where shelf and sink tell them: each one that is finished is the right one for its command, whatever
     // the status. One that is checked and certified, whoever made it, is optimal (`certify check`), or has the fewest
-    // triangles for its error or the least error for its budget (`certify check-fit`).
+    // triangles for its error, with `keep` of those that have the points as vertices, or the least error for its budget
+    // (`certify check-fit`).
     ensures best { KeepsBestMeshes (moment F.Shelf M.MeshSink R.Sink shelf.old meshes.old report.old)
         (moment F.Shelf M.MeshSink R.Sink shelf.new meshes.new report.new)
         (map string_bytes words.now) result.status }
@@ -239,6 +240,8 @@ fn run_command<O: Outside>(alloc: Global, command: &Command<'_>, outside: &mut O
         Command::Keep(words) => Run::without_engine(run_keep(alloc, words, outside)),
         Command::MakeFit(words) => Run::without_engine(run_fit_make(alloc, words, outside)),
         Command::CheckFit(words) => Run::without_engine(run_fit_check(alloc, words, outside)),
+        Command::MakeKept(words) => Run::without_engine(run_kept_make(alloc, words, outside)),
+        Command::CheckKept(words) => Run::without_engine(run_kept_check(alloc, words, outside)),
     }
 }
 

@@ -1,2 +1,7 @@
+pub mod Form
+pub mod Opened
+pub mod Prefix
+pub mod Watching
+pub mod Asked
 pub mod Ending
 pub mod Explanation

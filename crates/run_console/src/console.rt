@@ -2,18 +2,22 @@
 
 ghost use Rattle.std.specs.Prelude.{◌≡◌, ◌≢◌, ◌↔◌, None, drop, map, string_bytes};
 ghost use Rattle.std.specs.Process.{exit_status};
-ghost use Rattle.word_laws.specs.Words.{command_of};
+ghost use Rattle.run_words.specs.Words.{command_of};
 ghost use Rattle.run_console.specs.Ending.{IsExit};
 
 use crate::explanation::{Topic, topic_after};
+use crate::first_wrong::word_fault;
+use crate::hint::{GridHint, grid_hint};
+use crate::note::Note;
+use crate::noted_files::{Noted, NotedFiles};
+use crate::opened::opened_file;
+use crate::outside_text::{MeshFault, ReadFault, ReportFault};
+use crate::prefix::mesh_prefix;
 use crate::runs::Runs;
 use crate::usage::{Asked, VERSION, asked_for, tell_usage};
+use crate::watched::{WatchedShelf, WatchedSink};
 use roam_edge::{FileMeshes, FileShelf, StdSink};
 use run_laws::Status;
-use run_messages::{
-    GridHint, MeshFault, Note, Noted, NotedFiles, ReadFault, ReportFault, WatchedShelf,
-    WatchedSink, grid_hint, mesh_prefix, opened_file, word_fault,
-};
 use std::env::Env;
 use std::fmt::Display;
 use std::io::ErrorKind;

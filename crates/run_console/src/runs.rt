@@ -2,7 +2,7 @@
 
 ghost use Rattle.std.specs.Prelude.{◌≡◌, ◌≢◌, ◌<◌, ◌≤◌, ◌-◌, ◌^◌, ◌⊎◌, ◌↔◌, ℕ, List, Option, None, false, map};
 ghost use Rattle.std.specs.Prelude.{string_bytes};
-ghost use Rattle.word_laws.specs.Words.{command_of};
+ghost use Rattle.run_words.specs.Words.{command_of};
 ghost use Rattle.run_laws.specs.Outcome.{EngineEnd};
 ghost use Rattle.run_laws.specs.Moment.{moment};
 ghost use Rattle.run_laws.specs.Statement.{EndsByStatus};

@@ -1,12 +1,14 @@
 //! The forms of the words, for whoever asks for them or gives others.
 
-ghost use Rattle.std.specs.Prelude.{◌≡◌};
+ghost use Rattle.std.specs.Prelude.{◌≡◌, map, string_bytes};
+ghost use Rattle.std.specs.List.{list_any};
+ghost use Rattle.run_console.specs.Asked.{is_only, is_help, asked_of};
 
 /// The version of the program: that of `CHANGELOG.md`.
 pub const VERSION: &str = "roam 1.0";
 
 /// The forms of the words, line by line.
-const USAGE: [&str; 21] = [
+const USAGE: [&str; 23] = [
     "usage: roam mesh GRID SCRIPT PREFIX BUDGET SPACING",
     "       roam strip GRID SCRIPT PREFIX BUDGET SPACING",
     "       roam least GRID SCRIPT PREFIX TOLERANCE SPACING",
@@ -14,8 +16,10 @@ const USAGE: [&str; 21] = [
     "       roam certify make GRID X Y Z BUDGET SPACING",
     "       roam certify check GRID OBJ CERT BUDGET SPACING",
     "       roam certify make-fit GRID error E SPACING",
+    "       roam certify make-fit GRID error E SPACING keep POINTS",
     "       roam certify make-fit GRID budget BUDGET SPACING",
     "       roam certify check-fit GRID OBJ CERT error E SPACING",
+    "       roam certify check-fit GRID OBJ CERT error E SPACING keep POINTS",
     "       roam certify check-fit GRID OBJ CERT budget BUDGET SPACING",
     "       roam fit GRID PREFIX error E SPACING",
     "       roam fit GRID PREFIX error E SPACING keep POINTS",
@@ -41,21 +45,35 @@ pub enum Asked {
 
 /// What words ask for that are no command: `--version` alone, `help` alone, or `--help` or `-h`
 /// anywhere.
-pub fn asked_for(words: &[String]) -> Option<Asked> {
-    if let [word] = words {
-        if word.as_str() == "--version" {
-            return Some(Asked::Version);
-        }
-        if word.as_str() == "help" {
-            return Some(Asked::Usage);
-        }
+pub fn asked_for(words: &[String]) -> Option<Asked>
+    ensures { result ≡ asked_of (map string_bytes words.now) }
+{
+    if is_only(words, "--version") {
+        return Some(Asked::Version);
     }
-    for word in words {
-        if word.as_str() == "--help" || word.as_str() == "-h" {
-            return Some(Asked::Usage);
-        }
+    if is_only(words, "help") || has_help(words) {
+        return Some(Asked::Usage);
     }
     None
+}
+
+/// Whether this is the only word.
+fn is_only(words: &[String], text: &str) -> bool
+    ensures { result ≡ is_only text.now (map string_bytes words.now) }
+{
+    match words {
+        [word] => word.as_str() == text,
+        _ => false,
+    }
+}
+
+/// Whether a word is `--help` or `-h`.
+fn has_help(words: &[String]) -> bool
+    ensures { result ≡ list_any is_help (map string_bytes words.now) }
+{
+    words
+        .iter()
+        .any(|word| word.as_str() == "--help" || word.as_str() == "-h")
 }
 
 /// Tells the forms of the words.

@@ -6,13 +6,13 @@ use Rattle.mesh_defs.specs.Priority.{worst_of}
 use Rattle.mesh_defs.specs.Falling.{IsFalling}
 use Rattle.mesh_defs.specs.BestMesh.{IsBestMesh}
 use Rattle.mesh_defs.specs.State.{State, priority_in}
-use Rattle.closure_laws.specs.Frame.{IsFrame}
-use Rattle.closure_laws.proofs.FrameLemmas.{IsBestMesh-frame}
+use Rattle.mesh_laws.specs.Frame.{IsFrame}
+use Rattle.mesh_laws.proofs.FrameLemmas.{IsBestMesh-frame}
 use Rattle.roam_mesh.specs.Mesh.{pool_members}
 use Rattle.frame_loop.specs.Engine.{EngineState, IsFrameDone}
 use Rattle.frame_loop.specs.declared.note.FrameNote.{FrameNote}
 use Rattle.cert_text.specs.Certificate.{Certificate}
-use Rattle.word_laws.specs.Words.{Making}
+use Rattle.run_words.specs.Words.{Making}
 use Rattle.certificate_laws.specs.Certificate.{IsSound}
 use Rattle.run_laws.specs.Certify.{IsMade, makes_at}
 

@@ -7,10 +7,10 @@ use Rattle.mesh_defs.specs.GridSet.{IsAscending}
 use Rattle.mesh_defs.specs.HeightField.{HeightField}
 use Rattle.mesh_defs.specs.ClosedSet.{among}
 use Rattle.mesh_defs.specs.State.{State, start_state, priority_in}
-use Rattle.closure_laws.specs.Frame.{IsFrame}
-use Rattle.closure_laws.proofs.SetListLemmas.{ascending-filter, ascending-range}
-use Rattle.edge_laws.specs.Slots.{split_set}
-use Rattle.frame_steps.specs.Steps.{IsFrameRun}
+use Rattle.mesh_laws.specs.Frame.{IsFrame}
+use Rattle.mesh_laws.proofs.SetListLemmas.{ascending-filter, ascending-range}
+use Rattle.mesh_laws.specs.Slots.{split_set}
+use Rattle.mesh_laws.specs.Steps.{IsFrameRun}
 use Rattle.triangle_pool.specs.Slots.{PoolState}
 use Rattle.roam_mesh.specs.Mesh.{pool_members}
 use Rattle.frame_loop.specs.Engine.{EngineState, IsFrameDone}
@@ -18,7 +18,7 @@ use Rattle.frame_loop.specs.declared.note.FrameNote.{FrameNote}
 use Rattle.roam_script.specs.declared.line.Line.{Line}
 use Rattle.roam_script.specs.declared.line.Line.TheVariants.{Frame}
 use Rattle.run_laws.specs.Walk.{Walk, start_walk, state_after, way_of, after_line}
-use Rattle.word_laws.specs.Words.{Criterion, Show, is_of_engine}
+use Rattle.run_words.specs.Words.{Criterion, Show, is_of_engine}
 use Rattle.run_laws.specs.Picture.{Picture, IsPicture, IsFrameFor, IsChangeFor, last_members}
 use Rattle.run_laws.proofs.PictureLemmas.{of-budget}
 use Rattle.run_laws.proofs.ShownLemmas.{shown_by-none}

@@ -7,7 +7,7 @@ use Rattle.mesh_defs.specs.ClosedSet.{among}
 use Rattle.mesh_defs.specs.MeshText.{mesh_text}
 use Rattle.obj_write.specs.declared.mesh.MeshView.{MeshView}
 use Rattle.obj_write.specs.MeshView.{view_text}
-use Rattle.strip_laws.specs.Strip.{strip_of}
+use Rattle.mesh_laws.specs.Strip.{strip_of}
 use Rattle.roam_mesh.specs.Mesh.{pool_members}
 use Rattle.frame_loop.specs.Engine.{EngineState}
 use Rattle.frame_loop.specs.declared.note.FrameNote.{FrameNote}

@@ -3,12 +3,12 @@ use Rattle.std.proofs.Common.{◌≡◌, ℕ, ◌+◌, ◌*◌, ◌^◌, ◌≤�
 use Rattle.std.proofs.Common.{sym, subst, arith}
 use Rattle.mesh_defs.specs.State.{State}
 use Rattle.mesh_defs.specs.ClosedSet.{leaves_of, among}
-use Rattle.closure_laws.proofs.LeafLemmas.{leaves-most}
+use Rattle.mesh_laws.proofs.LeafLemmas.{leaves-most}
 use Rattle.roam_mesh.specs.Mesh.{pool_members}
 use Rattle.frame_loop.specs.Engine.{EngineState, IsFrameDone, mesh_seen}
 use Rattle.frame_loop.specs.declared.note.FrameNote.{FrameNote}
 use Rattle.run_laws.specs.Walk.{Walk}
-use Rattle.word_laws.specs.Words.{Show, is_of_engine}
+use Rattle.run_words.specs.Words.{Show, is_of_engine}
 use Rattle.run_laws.specs.Picture.{Picture, IsPicture, last_members}
 use Rattle.run_laws.specs.Act.{Told, Stands, IsCutShort}
 use Rattle.run_laws.specs.Outcome.{picture_acts}

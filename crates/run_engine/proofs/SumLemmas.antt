@@ -20,7 +20,7 @@ use Rattle.roam_script.specs.Laws.{LiesInRange}
 use Rattle.roam_gen.specs.Generated.{made_grid, made_lines}
 use Rattle.roam_gen.specs.Laws.{IsMadeLine}
 use Rattle.run_laws.specs.Walk.{Walk, start_walk, state_after, after_line, walk_along}
-use Rattle.word_laws.specs.Words.{as_sums}
+use Rattle.run_words.specs.Words.{as_sums}
 use Rattle.run_laws.specs.Picture.{Picture, triangles_of, ArePictures}
 use Rattle.run_laws.specs.ReportText.{all_triangles, worst_in, count_blocked}
 use Rattle.run_laws.specs.Outcome.{made_budget, made_spacing, made_walk}

@@ -6,7 +6,7 @@ use Rattle.frame_loop.specs.Engine.{EngineState}
 use Rattle.roam_script.specs.declared.limits.Limits.{Limits}
 use Rattle.roam_script.specs.declared.limits.TheConstants.{MOST_FRAMES}
 use Rattle.run_laws.specs.Walk.{Walk}
-use Rattle.word_laws.specs.Words.{Show}
+use Rattle.run_words.specs.Words.{Show}
 use Rattle.run_laws.specs.Picture.{Picture}
 use Rattle.run_words.specs.declared.showing.Showing.{Showing}
 use Rattle.run_engine.specs.EngineSeen.{IsUnderLimits, HasFollowed}

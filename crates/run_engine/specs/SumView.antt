@@ -6,7 +6,7 @@ use Rattle.view_priority.specs.Camera.{IsCamera}
 use Rattle.roam_gen.specs.Generated.{made_grid, made_lines}
 use Rattle.frame_loop.specs.Engine.{EngineState}
 use Rattle.run_laws.specs.Walk.{Walk, start_walk, walk_along}
-use Rattle.word_laws.specs.Words.{as_sums}
+use Rattle.run_words.specs.Words.{as_sums}
 use Rattle.run_laws.specs.Picture.{Picture, ArePictures}
 use Rattle.run_laws.specs.ReportText.{all_triangles, worst_in, count_blocked}
 use Rattle.run_laws.specs.Outcome.{made_budget, made_spacing, made_walk}

@@ -5,7 +5,7 @@ ghost use Rattle.mesh_defs.specs.Priority.{worst_of};
 ghost use Rattle.mesh_defs.specs.BestMesh.{IsBestMesh};
 ghost use Rattle.mesh_defs.specs.State.{priority_in, start_state};
 ghost use Rattle.cert_text.specs.CertText.{cert_text};
-ghost use Rattle.word_laws.specs.Words.{OnGrid, Make};
+ghost use Rattle.run_words.specs.Words.{OnGrid, Make};
 ghost use Rattle.run_laws.specs.Certify.{IsMade, makes_at};
 ghost use Rattle.frame_loop.specs.Engine.{mesh_seen};
 ghost use Rattle.run_words.specs.CertifyView.{making_seen, AreInBounds};

@@ -5,7 +5,7 @@ ghost use Rattle.mesh_defs.specs.State.{start_state};
 ghost use Rattle.mesh_defs.specs.declared.level.TheConstants.{GREATEST_LEVEL};
 ghost use Rattle.wedgie_tree.specs.declared.wedges.TheConstants.{GREATEST_SPACING};
 ghost use Rattle.run_laws.specs.Walk.{start_walk};
-ghost use Rattle.word_laws.specs.Words.{least_budget, greatest_budget};
+ghost use Rattle.run_words.specs.Words.{least_budget, greatest_budget};
 ghost use Rattle.run_engine.specs.EngineFrames.{IsEngineReady, IsUnderEngine, EngineHasFollowed};
 ghost use Rattle.run_words.specs.ShowView.{show_seen, IsShowing};
 ghost use Rattle.run_engine.specs.ShowView.{is_strip};

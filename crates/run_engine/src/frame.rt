@@ -2,7 +2,7 @@
 
 ghost use Rattle.std.specs.Prelude.{◌≡◌, true, ◌<◌, ◌≤◌, false, length};
 ghost use Rattle.roam_edge.specs.declared.mesh_sink.TheConstants.{LONGEST_PREFIX, GREATEST_NUMBER};
-ghost use Rattle.word_laws.specs.Words.{as_meshes};
+ghost use Rattle.run_words.specs.Words.{as_meshes};
 ghost use Rattle.run_laws.specs.Moment.{Does};
 ghost use Rattle.run_laws.specs.Outcome.{picture_acts};
 ghost use Rattle.mesh_defs.specs.ClosedSet.{IsClosed};

@@ -2,7 +2,7 @@
 //! mesh.
 //!
 //! For the run of `roam`. `EngineFrames` is one maker of the frames of a script: what followed a walk follows it
-//! behind the next line, and shows the picture of a frame line. It stands beside `run_script`, which reads scripts
+//! behind the next line, and shows the picture of a frame line. It stands beside `run_meshes`, which reads scripts
 //! whatever makes their frames, and below `roam_run`, so that the three are not proved one after the other. Nothing
 //! here reads a script.
 

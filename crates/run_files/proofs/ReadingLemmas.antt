@@ -11,7 +11,7 @@ use Rattle.pgm_grid.specs.declared.fault.PgmFault.TheVariants.{BadSide, Truncate
 use Rattle.pgm_grid.specs.declared.fault.PgmFault.TheVariants.{NoMemory, TooLong}
 use Rattle.std.proofs.lemmas.Result.{IfOk-at_ok, IfErr-at_err}
 use Rattle.pgm_grid.specs.Laws.{OthersAreAbsent, GridsHaveHeaders}
-use Rattle.pgm_header.specs.Reading.{header_of}
+use Rattle.pgm_grid.specs.HeaderReading.{header_of}
 use Rattle.pgm_grid.specs.Progress.{Progress, grid_of, resume, taken, StaysRefused, EndsHeader}
 use Rattle.run_laws.specs.Promise.{seen, HasEnded, HasReadHeader, IsUndecided}
 use Rattle.run_files.specs.declared.grid_file.GridStop.{GridStop}

@@ -7,7 +7,7 @@ ghost use Rattle.pgm_grid.specs.declared.fault.PgmFault.{PgmFault as Fault};
 ghost use Rattle.pgm_grid.specs.Progress.{grid_of, resume};
 ghost use Rattle.run_laws.specs.Promise.{HasEnded, HasReadHeader, IsUndecided};
 ghost use Rattle.run_laws.specs.FileStop.{StopsReading};
-ghost use Rattle.word_laws.specs.Words.{Job, OnGrid};
+ghost use Rattle.run_words.specs.Words.{Job, OnGrid};
 ghost use Rattle.run_laws.specs.Moment.{OnlyReads};
 ghost use Rattle.run_laws.specs.Leaving.{Runs, ReadsGrid};
 ghost use Rattle.run_files.specs.GridStop.{stop_for};

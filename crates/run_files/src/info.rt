@@ -3,7 +3,7 @@
 ghost use Rattle.std.specs.Prelude.{◌≡◌, ◌^◌, ◌<◌, ◌≤◌, None, Some, false, max, length};
 ghost use Rattle.mesh_defs.specs.BoundingBox.{least, greatest};
 ghost use Rattle.mesh_defs.specs.Thickness.{thickness_of};
-ghost use Rattle.word_laws.specs.Words.{OnGrid, Facts};
+ghost use Rattle.run_words.specs.Words.{OnGrid, Facts};
 ghost use Rattle.run_laws.specs.ReportText.{info_line};
 ghost use Rattle.run_laws.specs.Leaving.{Runs};
 

@@ -7,7 +7,7 @@ ghost use Rattle.roam_script.specs.declared.limits.TheConstants.{MOST_LINES};
 ghost use Rattle.roam_script.specs.Laws.{LiesInRange};
 ghost use Rattle.run_laws.specs.Picture.{Picture};
 ghost use Rattle.run_laws.specs.Walk.{Walk, limits_of, after_line};
-ghost use Rattle.word_laws.specs.Words.{Show};
+ghost use Rattle.run_words.specs.Words.{Show};
 ghost use Rattle.run_laws.specs.Maker.{TakesFrame};
 ghost use Rattle.run_laws.specs.Moment.{OnlyWrites};
 

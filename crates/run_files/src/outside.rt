@@ -11,21 +11,21 @@ ghost use Rattle.roam_edge.specs.declared.mesh_sink.TheConstants.{LONGEST_PREFIX
 ghost use Rattle.wedgie_tree.specs.declared.wedges.TheConstants.{GREATEST_SPACING};
 ghost use Rattle.obj_write.specs.MeshView.{view_text, IsView};
 ghost use Rattle.cert_text.specs.CertText.{cert_text};
-ghost use Rattle.fit_cert_text.specs.FitCertText.{fit_cert_text};
+ghost use Rattle.cert_text.specs.FitCertText.{fit_cert_text};
+ghost use Rattle.cert_text.specs.KeptCert.{kept_cert_text};
 ghost use Rattle.mesh_compare.specs.Differs.{FindsDifference, IsReadInPart};
 ghost use Rattle.mesh_compare.specs.declared.comparing.CompareFault.{CompareFault as CompareFaultSeen};
 ghost use Rattle.run_laws.specs.Act.{WholeMesh, ReportText};
 ghost use Rattle.run_laws.specs.Moment.{Moment, moment, OnlyReads, Does};
 
 use bintree_addr::Tri;
-use cert_text::{Cert, write_cert};
-use fit_cert_text::write_fit_cert;
-use fit_certificate_laws::FitCert;
-use mesh_compare::{CompareFault, compare};
+use cert_text::{Cert, write_cert, write_fit_cert, write_kept_cert};
+use certificate_laws::{FitCert, KeptCert};
+use mesh_compare::{CompareFault, compare_heights};
 use obj_write::{SparseView, write_sparse};
+use pgm_grid::Grid;
 use roam_edge::{Failed, MeshSink, Shelf, Sink};
 use std::alloc::Global;
-use wedgie_tree::Wedges;
 
 /// The outside of a run: files are read from it, and meshes and a report are written to it.
 ///
@@ -66,15 +66,15 @@ pub trait Outside {
             ≡ late_after (moment self.old).shelf_late (moment self.old).shelf_faults };
 
     /// Compares what is left of the file with the text of the mesh of these triangles, without view planes, as
-    /// `mesh_compare::compare`.
+    /// `mesh_compare::compare_heights`.
     fn compare_rest(
         &mut self,
         alloc: Global,
-        w: &Wedges,
+        grid: &Grid,
         leaves: &[Tri],
         spacing: u32,
     ) -> Result<Option<u64>, CompareFault>
-        requires levels { All (λ a. level_of a ≤ 2 * w.now.n) leaves.now }
+        requires levels { All (λ a. level_of a ≤ 2 * grid.now.n) leaves.now }
         requires few { length leaves.now < 2 ^ 31 }
         requires spacing_low { 1 ≤ spacing }
         requires spacing_high { spacing ≤ GREATEST_SPACING }
@@ -82,7 +82,7 @@ pub trait Outside {
         ensures same { is_same self.old self.new }
         ensures only { OnlyReads (moment self.old) (moment self.new) }
         ensures place { IfOk result (λ found. FindsDifference
-            (mesh_text w.now.n w.now.heights spacing [] leaves.now) (moment self.old).shelf.rest found) }
+            (mesh_text grid.now.n grid.now.heights spacing [] leaves.now) (moment self.old).shelf.rest found) }
         ensures ended { IfOk result (λ found. found ≡ None → (moment self.new).shelf.ended ≡ true) }
         ensures all_read { IfOk result (λ found. found ≡ None → (rest : List ℕ) →
             (moment self.old).shelf.rest ≡ Some rest →
@@ -91,7 +91,7 @@ pub trait Outside {
         ensures failed { result ≡ Err CompareFaultSeen.Failed →
             Rose (moment self.old).shelf_faults (moment self.new).shelf_faults }
         ensures cut { result ≡ Err CompareFaultSeen.Failed → IsReadInPart
-            (mesh_text w.now.n w.now.heights spacing [] leaves.now) (moment self.old).shelf.rest
+            (mesh_text grid.now.n grid.now.heights spacing [] leaves.now) (moment self.old).shelf.rest
             (moment self.new).shelf.rest }
         ensures goes_on { result ≡ Err CompareFaultSeen.Failed → (moment self.new).shelf.ended ≡ false }
         ensures no_memory { result ≡ Err CompareFaultSeen.NoMemory → moment self.new ≡ moment self.old }
@@ -126,6 +126,11 @@ pub trait Outside {
     fn tell_fit_cert(&mut self, cert: &FitCert) -> Result<(), Failed>
         ensures same { is_same self.old self.new }
         ensures does { Does (moment self.old) (moment self.new) (ReportText (fit_cert_text cert.now) ∷ []) result };
+
+    /// Writes the text of a certificate of a fitted mesh that keeps points to the report.
+    fn tell_kept_cert(&mut self, cert: &KeptCert) -> Result<(), Failed>
+        ensures same { is_same self.old self.new }
+        ensures does { Does (moment self.old) (moment self.new) (ReportText (kept_cert_text cert.now) ∷ []) result };
 
     // What is lent stays the same from call to call.
     ghost is_same_now: { (a : Self) → is_same a a };
@@ -167,11 +172,11 @@ impl<'f, 'm, 'r, F: Shelf, M: MeshSink, R: Sink> Outside for Lent<'f, 'm, 'r, F,
     fn compare_rest(
         &mut self,
         alloc: Global,
-        w: &Wedges,
+        grid: &Grid,
         leaves: &[Tri],
         spacing: u32,
     ) -> Result<Option<u64>, CompareFault> {
-        compare(alloc, w, leaves, spacing, self.shelf)
+        compare_heights(alloc, grid, leaves, spacing, self.shelf)
     }
 
     fn write_mesh(
@@ -193,5 +198,9 @@ impl<'f, 'm, 'r, F: Shelf, M: MeshSink, R: Sink> Outside for Lent<'f, 'm, 'r, F,
 
     fn tell_fit_cert(&mut self, cert: &FitCert) -> Result<(), Failed> {
         write_fit_cert(cert, self.report)
+    }
+
+    fn tell_kept_cert(&mut self, cert: &KeptCert) -> Result<(), Failed> {
+        write_kept_cert(cert, self.report)
     }
 }

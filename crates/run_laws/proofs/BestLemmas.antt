@@ -17,7 +17,7 @@ use Rattle.run_laws.specs.declared.status.Status.{Status}
 use Rattle.run_laws.specs.declared.status.Status.TheVariants.{Done, NoMemory, Usage, GridRefused, ScriptRefused}
 use Rattle.run_laws.specs.declared.status.Status.TheVariants.{ReadFault, WriteFault, Rejected}
 use Rattle.run_laws.specs.Walk.{Walk, start_walk, walk_of}
-use Rattle.word_laws.specs.Words.{Scripted, Checking, Frames, Check, Command, OnGrid, prefix_of, command_of}
+use Rattle.run_words.specs.Words.{Scripted, Checking, Frames, Check, Command, OnGrid, prefix_of, command_of}
 use Rattle.run_laws.specs.CertFile.{cert_in}
 use Rattle.run_laws.specs.Act.{Act, Told, Stands, report_of}
 use Rattle.run_laws.specs.Picture.{Picture, ArePictures}

@@ -9,12 +9,15 @@ use Rattle.roam_script.specs.declared.limits.TheConstants.{MOST_LINE_BYTES}
 use Rattle.text_laws.specs.Fields.{fields_of, without_last_cr}
 use Rattle.cert_text.specs.CertLine.{cert_fields_line, read_cert_line}
 use Rattle.cert_text.specs.CertReader.{ReadSoFar, nothing_read, line_taken, cert_line_in}
-use Rattle.fit_cert_text.specs.FitLine as fit_line
-use Rattle.fit_cert_text.specs.FitCertReader.{fit_line_in}
-use Rattle.fit_cert_text.specs.FitCertReader as fit
+use Rattle.cert_text.specs.FitLine as fit_line
+use Rattle.cert_text.specs.FitCertReader.{fit_line_in}
+use Rattle.cert_text.specs.FitCertReader as fit
+use Rattle.cert_text.specs.NeedLine.{need_fields, need_in}
+use Rattle.cert_text.specs.KeptCert.{kept_line_in}
+use Rattle.cert_text.specs.KeptCert as kept
 use Rattle.run_laws.specs.Walk.{lines_of, AreWhole}
 use Rattle.run_laws.specs.CertFile.{lines_behind, lines_in, file_in, FilePlace, HaveCome, cert_of, cert_in, fit_cert_of}
-use Rattle.run_laws.specs.CertFile.{fit_cert_in}
+use Rattle.run_laws.specs.CertFile.{fit_cert_in, kept_cert_of, kept_cert_in}
 use Rattle.run_laws.proofs.LineLemmas.{NoEnd, no_end, no_end-append, lines_of-ends, lines_of-last, lines_of-begins}
 use Rattle.run_laws.proofs.LineLemmas.{BeginsWith}
 use Rattle.run_laws.proofs.WalkLemmas.{lines_of-ended}
@@ -115,6 +118,29 @@ fit-whole n bytes = refl
 -- and so have those of certificates of fitted meshes
 pub fit-format : (n : ℕ) → IsFormat (fit_line_in n) fit.nothing_fit_read fit_cert_of (fit_cert_in n)
 fit-format n = record { long = fit-long n; whole = fit-whole n }
+
+-- and of one that keeps points
+
+kept-long : (n : ℕ) (said : kept.KeptReadSoFar) (bytes : List ℕ) → MOST_LINE_BYTES < length bytes →
+    kept_line_in n said bytes ≡ None
+unfolding need_in
+kept-long n said bytes long =
+    ap (λ (b : Bool). elim (if b then None
+    else need_fields n (fields_of (without_last_cr bytes))) as (λ _. Option kept.KeptReadSoFar) [
+      | None ↦ kept.rest_taken said.needs (fit_line_in n said.rest bytes)
+      | Some p ↦ kept.need_taken said p
+    ])
+    (lt-ltb MOST_LINE_BYTES (length bytes) long)
+    ∙ ap (kept.rest_taken said.needs) (fit-long n said.rest bytes long)
+
+kept-whole : (n : ℕ) (bytes : List ℕ) →
+    kept_cert_in n bytes ≡ file_in (kept_line_in n) kept.nothing_kept_read kept_cert_of bytes
+unfolding kept_cert_in
+kept-whole n bytes = refl
+
+-- and so have those of certificates of meshes that keep points
+pub kept-format : (n : ℕ) → IsFormat (kept_line_in n) kept.nothing_kept_read kept_cert_of (kept_cert_in n)
+kept-format n = record { long = kept-long n; whole = kept-whole n }
 
 -- the place that was reached
 

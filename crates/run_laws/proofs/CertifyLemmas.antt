@@ -20,7 +20,7 @@ use Rattle.cert_text.specs.Certificate.{Certificate}
 use Rattle.cert_text.specs.CertText.{cert_text}
 use Rattle.run_laws.specs.declared.status.Status.{Status}
 use Rattle.run_laws.specs.declared.status.Status.TheVariants.{Done, Rejected}
-use Rattle.word_laws.specs.Words.{Making, Checking, Make}
+use Rattle.run_words.specs.Words.{Making, Checking, Make}
 use Rattle.run_laws.specs.Certify.{makes_at, checks_at, IsMade, IsFaultless}
 use Rattle.run_laws.specs.ReportText.{certified_line, rejection}
 use Rattle.run_laws.specs.Outcome.{Outcome, text_outcome, IsJobOutcome, IsCompared, IsVerdictOutcome, IsCheckOutcome}
@@ -36,14 +36,15 @@ abbrev pub IsOneText : Outcome → Type 0
 IsOneText end = (bytes : List ℕ) × (status : Status) × (files : ℕ) × (end ≡ text_outcome bytes status files)
 
 -- comparing the file of a mesh with a text comes to one text of the report
-pub compared-text : (mesh text line : List ℕ) (end : Outcome) → IsCompared mesh text line end → IsOneText end
-compared-text mesh text line end (inl same) = (line, Done, 3, same.1)
-compared-text mesh text line end (inr differs) = (rejection (MeshDiffers differs.0), Rejected, 3, differs.2)
+pub compared-text : (files : ℕ) (mesh text line : List ℕ) (end : Outcome) → IsCompared files mesh text line end →
+    IsOneText end
+compared-text files mesh text line end (inl same) = (line, Done, files, same.1)
+compared-text files mesh text line end (inr differs) = (rejection (MeshDiffers differs.0), Rejected, files, differs.2)
 
 verdict-text : (state : State) (cert : Certificate) (mesh : List ℕ) (is : Verdict) (end : Outcome) →
     IsVerdictOutcome state cert mesh is end → IsOneText end
 verdict-text state cert mesh (verdict.Certified triangles worst) end of =
-    compared-text mesh (text_in state cert.leaves) (certified_line cert.camera triangles worst) end of
+    compared-text 3 mesh (text_in state cert.leaves) (certified_line cert.camera triangles worst) end of
 verdict-text state cert mesh (verdict.Rejected why) end of = (rejection why, Rejected, 2, of)
 
 -- what a check comes to is one line
@@ -60,19 +61,19 @@ make-text m grid files end is = (cert_text is.0, Done, 1, is.2)
 -- a check has one outcome
 
 -- comparing the file of a mesh with a text has one outcome alone
-pub compared-unique : (mesh text line : List ℕ) (end other : Outcome) → IsCompared mesh text line end →
-    IsCompared mesh text line other → end ≡ other
-compared-unique mesh text line end other (inl f) (inl g) = f.1 ∙ sym g.1
-compared-unique mesh text line end other (inl f) (inr g) = absurd (difference-same mesh text g.0 g.1 f.0)
-compared-unique mesh text line end other (inr f) (inl g) = absurd (difference-same mesh text f.0 f.1 g.0)
-compared-unique mesh text line end other (inr f) (inr g) =
-    f.2 ∙ (ap (λ (at : ℕ). text_outcome (rejection (MeshDiffers at)) Rejected 3)
+pub compared-unique : (files : ℕ) (mesh text line : List ℕ) (end other : Outcome) →
+    IsCompared files mesh text line end → IsCompared files mesh text line other → end ≡ other
+compared-unique files mesh text line end other (inl f) (inl g) = f.1 ∙ sym g.1
+compared-unique files mesh text line end other (inl f) (inr g) = absurd (difference-same mesh text g.0 g.1 f.0)
+compared-unique files mesh text line end other (inr f) (inl g) = absurd (difference-same mesh text f.0 f.1 g.0)
+compared-unique files mesh text line end other (inr f) (inr g) =
+    f.2 ∙ (ap (λ (at : ℕ). text_outcome (rejection (MeshDiffers at)) Rejected files)
     (difference-unique mesh text f.0 g.0 f.1 g.1) ∙ sym g.2)
 
 verdict-unique : (state : State) (cert : Certificate) (mesh : List ℕ) (is : Verdict) (end other : Outcome)
     → IsVerdictOutcome state cert mesh is end → IsVerdictOutcome state cert mesh is other → end ≡ other
 verdict-unique state cert mesh (verdict.Certified triangles worst) end other f g =
-    compared-unique mesh (text_in state cert.leaves) (certified_line cert.camera triangles worst) end other f g
+    compared-unique 3 mesh (text_in state cert.leaves) (certified_line cert.camera triangles worst) end other f g
 verdict-unique state cert mesh (verdict.Rejected why) end other f g = f ∙ sym g
 
 -- a check of a certificate has one outcome alone
@@ -88,16 +89,16 @@ check-unique c grid (Err line) mesh end other f g = f ∙ sym g
 -- and it has one
 
 -- comparing the file of a mesh with a text has an outcome
-pub compared-exists : (mesh text line : List ℕ) → (end : Outcome) × IsCompared mesh text line end
-compared-exists mesh text line = elim (same-or-different mesh text) [
-  | inl same ↦ (text_outcome line Done 3, inl (same, refl))
-  | inr one ↦ (text_outcome (rejection (MeshDiffers one.0)) Rejected 3, inr (one.0, one.1, refl))
+pub compared-exists : (files : ℕ) (mesh text line : List ℕ) → (end : Outcome) × IsCompared files mesh text line end
+compared-exists files mesh text line = elim (same-or-different mesh text) [
+  | inl same ↦ (text_outcome line Done files, inl (same, refl))
+  | inr one ↦ (text_outcome (rejection (MeshDiffers one.0)) Rejected files, inr (one.0, one.1, refl))
 ]
 
 verdict-exists : (state : State) (cert : Certificate) (mesh : List ℕ) (is : Verdict) →
     (end : Outcome) × IsVerdictOutcome state cert mesh is end
 verdict-exists state cert mesh (verdict.Certified triangles worst) =
-    compared-exists mesh (text_in state cert.leaves) (certified_line cert.camera triangles worst)
+    compared-exists 3 mesh (text_in state cert.leaves) (certified_line cert.camera triangles worst)
 verdict-exists state cert mesh (verdict.Rejected why) = (text_outcome (rejection why) Rejected 2, refl)
 
 -- a check of a certificate has an outcome
@@ -181,7 +182,7 @@ module _ (falling : (n : ℕ) (heights : List ℕ) (view : View) → IsFalling n
     (done : end.status ≡ Done) where
   compared-certifies : (cert : Certificate) (line : List ℕ) →
       IsCertifiedMesh c grid (text_in (checks_at c grid cert.camera) cert.leaves) line
-      → IsCompared mesh (text_in (checks_at c grid cert.camera) cert.leaves) line end → Certifies c grid mesh end
+      → IsCompared 3 mesh (text_in (checks_at c grid cert.camera) cert.leaves) line end → Certifies c grid mesh end
   compared-certifies cert line certified (inl f) =
       (line, subst (λ (l : List ℕ). IsCertifiedMesh c grid l line) (sym f.0) certified, f.1)
   compared-certifies cert line certified (inr f) = absurd (not-done end (rejection (MeshDiffers f.0)) 3 f.2 done)

@@ -15,7 +15,7 @@ use Rattle.pgm_grid.specs.Laws.{TextsAreRead}
 use Rattle.run_laws.specs.declared.status.Status.{Status}
 use Rattle.run_laws.specs.declared.status.Status.TheVariants.{NoMemory, ReadFault, WriteFault}
 use Rattle.run_laws.specs.Walk.{Refusal}
-use Rattle.word_laws.specs.Words.{Criterion, TriangleOrder, Output, Meshes, Measures, Sums, Show, Frames, Command}
+use Rattle.run_words.specs.Words.{Criterion, TriangleOrder, Output, Meshes, Measures, Sums, Show, Frames, Command}
 use Rattle.run_laws.specs.Act.{Act, WholeMesh, ReportText, Told, StandsInPart, IsCutShort, meshes_of, report_of}
 use Rattle.run_laws.specs.Picture.{Picture, shown_triangles}
 use Rattle.run_laws.specs.Outcome.{Outcome, picture_acts, shown_acts, sum_acts, stop_acts, script_walk, IsFramesOutcome}

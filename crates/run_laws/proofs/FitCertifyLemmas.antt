@@ -1,52 +1,54 @@
 -- What making and checking a certificate of a fitted mesh come to: there is an outcome, of a check one alone, and a
 -- mesh that is certified is a best one.
-use Rattle.std.proofs.Common.{◌≡◌, ◌≢◌, ℕ, List, ◌++◌, Option, Some, Result, Ok, Err, IsTrue, refl, sym, ◌∙◌, ap, ap₂}
+use Rattle.std.proofs.Common.{◌≡◌, ◌≢◌, ℕ, ◌+◌, List, length, ◌++◌, Option, Some, Result, Ok, Err, IsTrue, refl, sym, ◌∙◌, ap, ap₂}
 use Rattle.std.proofs.Common.{subst, inl, inr, append-nil}
 use Rattle.mesh_defs.specs.HeightField.{HeightField}
 use Rattle.roam_edge.specs.Shelf.{NamedFile, bytes_of}
 use Rattle.pgm_grid.specs.declared.fault.PgmFault.{PgmFault}
 use Rattle.pgm_grid.specs.Laws.{TextsAreRead}
+use Rattle.fit_laws.specs.PlaneHeight.{deviation_of}
 use Rattle.obj_write.specs.Written.{Grows}
 use Rattle.certificate_laws.specs.declared.reason.Reject.TheVariants.{BadLine, MeshDiffers}
-use Rattle.fit_certificate_laws.specs.declared.reason.Target.{Target as Goal}
-use Rattle.fit_certificate_laws.specs.declared.reason.Verdict.{Verdict}
-use Rattle.fit_certificate_laws.specs.declared.reason.Verdict.TheVariants as verdict
-use Rattle.fit_certificate_laws.specs.Certificate.{FitCertificate, IsVerdictOf, IsFitSound}
-use Rattle.fit_certificate_laws.specs.Making.{IsPossible}
-use Rattle.fit_certificate_laws.proofs.SoundLemmas.{sound-error, sound-budget, sound-few}
-use Rattle.fit_certificate_laws.proofs.DecisionLemmas.{verdict_found, verdict-is, verdict_one, mesh_one}
-use Rattle.fit_certificate_laws.proofs.FoundLemmas.{sound_found}
-use Rattle.fit_cert_text.specs.FitCertText.{fit_cert_text}
+use Rattle.certificate_laws.specs.declared.fit_reason.Target.{Target as Goal}
+use Rattle.certificate_laws.specs.declared.fit_reason.FitVerdict.{FitVerdict}
+use Rattle.certificate_laws.specs.declared.fit_reason.FitVerdict.TheVariants as verdict
+use Rattle.certificate_laws.specs.FitCertificate.{FitCertificate, IsVerdictOf, IsFitSound}
+use Rattle.certificate_laws.specs.Making.{IsPossible}
+use Rattle.certificate_laws.proofs.FitSoundLemmas.{sound-error, sound-budget, sound-few}
+use Rattle.certificate_laws.proofs.DecisionLemmas.{verdict_found, verdict-is, verdict_one, mesh_one}
+use Rattle.certificate_laws.proofs.FoundLemmas.{sound_found}
+use Rattle.cert_text.specs.FitCertText.{fit_cert_text}
 use Rattle.run_laws.specs.declared.status.Status.{Status}
 use Rattle.run_laws.specs.declared.status.Status.TheVariants.{Done, NoMemory, ReadFault, Rejected}
-use Rattle.word_laws.specs.Words.{Target, AtError, InBudget, FitMaking, FitChecking, CheckFit, Command, command_of}
-use Rattle.word_laws.specs.Words.{MakeFit}
+use Rattle.run_words.specs.Words.{Target, AtError, InBudget, FitMaking, FitChecking, CheckFit, Command, command_of}
+use Rattle.run_words.specs.Words.{MakeFit, Job}
 use Rattle.run_laws.specs.CertFile.{fit_cert_in}
 use Rattle.run_laws.specs.Certify.{IsFitMade, IsFitFaultless}
-use Rattle.run_laws.specs.Fit.{goal_of, IsFitFor, fit_text}
+use Rattle.run_laws.specs.Fit.{goal_of, IsFitFor, IsBestFit, fit_text}
 use Rattle.run_laws.specs.Act.{Told, Stands, report_of}
 use Rattle.run_laws.specs.ReportText.{certified_fit_line, fit_rejection, rejection}
 use Rattle.run_laws.specs.Outcome.{Outcome, text_outcome, IsJobOutcome, IsCompared, IsFitVerdictOutcome}
 use Rattle.run_laws.specs.Outcome.{IsFitCheckOutcome, IsGridOutcome, IsOutcome}
 use Rattle.run_laws.specs.Promise.{Seen, is_complete, EndsRight}
-use Rattle.run_laws.specs.Headline.{IsRunOf, IsCertifiedFit}
+use Rattle.run_laws.specs.Headline.{IsRunOf, IsCertifiedAs, IsCertifiedFit}
 use Rattle.run_laws.proofs.DifferenceLemmas.{difference-same}
 use Rattle.run_laws.proofs.CertifyLemmas.{IsOneText, compared-text, compared-unique, compared-exists, not-done}
 use Rattle.run_laws.proofs.FitLemmas.{IsTargetOfWords, fit-best}
 
 -- one text, and then the end
 
-verdict-text : (c : FitChecking) (grid : HeightField) (triangles mesh : List ℕ) (is : Verdict) (end : Outcome)
-    → IsFitVerdictOutcome c grid triangles mesh is end → IsOneText end
-verdict-text c grid triangles mesh (verdict.Certified count deviation) end of =
-    compared-text mesh (fit_text c.spacing grid triangles) (certified_fit_line grid.n count deviation) end of
-verdict-text c grid triangles mesh (verdict.Rejected why) end of = (fit_rejection why, Rejected, 2, of)
+-- what a verdict leads to is one line
+pub verdict-text : (files spacing : ℕ) (grid : HeightField) (triangles mesh : List ℕ) (is : FitVerdict) (end : Outcome)
+    → IsFitVerdictOutcome files spacing grid triangles mesh is end → IsOneText end
+verdict-text files spacing grid triangles mesh (verdict.Certified count deviation) end of =
+    compared-text (files + 1) mesh (fit_text spacing grid triangles) (certified_fit_line grid.n count deviation) end of
+verdict-text files spacing grid triangles mesh (verdict.Rejected why) end of = (fit_rejection why, Rejected, files, of)
 
 -- what a check comes to is one line
 pub fit_check-text : (c : FitChecking) (grid : HeightField) (r : Result FitCertificate ℕ)
     (mesh : List ℕ) (end : Outcome)
     → IsFitCheckOutcome c grid r mesh end → IsOneText end
-fit_check-text c grid (Ok cert) mesh end is = verdict-text c grid is.1 mesh is.0 end is.3
+fit_check-text c grid (Ok cert) mesh end is = verdict-text 2 c.spacing grid is.1 mesh is.0 end is.3
 fit_check-text c grid (Err line) mesh end is = (rejection (BadLine line), Rejected, 2, is)
 
 -- what is made is one text
@@ -56,17 +58,18 @@ fit_make-text m grid files end is = (fit_cert_text is.0, Done, 1, is.2)
 
 -- a check has one outcome
 
-verdict-unique : (c : FitChecking) (grid : HeightField) (cert : FitCertificate) (triangles others mesh : List ℕ)
-    (is : Verdict) (end other : Outcome)
-    → IsVerdictOf grid.n grid.heights (goal_of grid.n c.target) cert is triangles →
-    IsVerdictOf grid.n grid.heights (goal_of grid.n c.target) cert is others
-    → IsFitVerdictOutcome c grid triangles mesh is end → IsFitVerdictOutcome c grid others mesh is other → end ≡ other
-verdict-unique c grid cert triangles others mesh (verdict.Certified count deviation) end other v w f g =
-    let same = mesh_one grid.n grid.heights (goal_of grid.n c.target) cert others triangles w.0 v.0 in
+-- where only triangles of one certificate are certified, a verdict on it has one outcome alone
+pub verdict-unique : (files spacing : ℕ) (grid : HeightField) (triangles others mesh : List ℕ) (is : FitVerdict)
+    (end other : Outcome)
+    → ((count deviation : ℕ) → is ≡ verdict.Certified count deviation → others ≡ triangles)
+    → IsFitVerdictOutcome files spacing grid triangles mesh is end →
+    IsFitVerdictOutcome files spacing grid others mesh is other → end ≡ other
+verdict-unique files spacing grid triangles others mesh (verdict.Certified count deviation) end other one f g =
     let line : List ℕ = certified_fit_line grid.n count deviation in
-    compared-unique mesh (fit_text c.spacing grid triangles) line end other f
-    (subst (λ (l : List ℕ). IsCompared mesh (fit_text c.spacing grid l) line other) same g)
-verdict-unique c grid cert triangles others mesh (verdict.Rejected why) end other v w f g = f ∙ sym g
+    compared-unique (files + 1) mesh (fit_text spacing grid triangles) line end other f
+    (subst (λ (l : List ℕ). IsCompared (files + 1) mesh (fit_text spacing grid l) line other)
+    (one count deviation refl) g)
+verdict-unique files spacing grid triangles others mesh (verdict.Rejected why) end other one f g = f ∙ sym g
 
 -- a check of a certificate of a fitted mesh has one outcome alone
 pub fit_check-unique : (c : FitChecking) (grid : HeightField) (r : Result FitCertificate ℕ)
@@ -74,28 +77,33 @@ pub fit_check-unique : (c : FitChecking) (grid : HeightField) (r : Result FitCer
     → IsFitCheckOutcome c grid r mesh end → IsFitCheckOutcome c grid r mesh other → end ≡ other
 fit_check-unique c grid (Ok cert) mesh end other f g =
     let goal : Goal = goal_of grid.n c.target in
-    let P : Verdict → Type 0 =
-    λ v. IsVerdictOf grid.n grid.heights goal cert v g.1 × IsFitVerdictOutcome c grid g.1 mesh v other in
+    let P : FitVerdict → Type 0 =
+    λ v. IsVerdictOf grid.n grid.heights goal cert v g.1 × IsFitVerdictOutcome 2 c.spacing grid g.1 mesh v other in
+    let Q : FitVerdict → List ℕ → Type 0 = λ v l. IsVerdictOf grid.n grid.heights goal cert v l in
     let same = verdict_one grid.n grid.heights goal cert g.0 f.0 (verdict-is grid.n grid.heights goal cert g.0 g.1 g.2)
     (verdict-is grid.n grid.heights goal cert f.0 f.1 f.2) in
     let as_that = subst P same (g.2, g.3) in
-    verdict-unique c grid cert f.1 g.1 mesh f.0 end other f.2 as_that.0 f.3 as_that.1
+    verdict-unique 2 c.spacing grid f.1 g.1 mesh f.0 end other
+    (λ count deviation is. mesh_one grid.n grid.heights goal cert g.1 f.1
+    (subst (λ v. Q v g.1) is as_that.0).0 (subst (λ v. Q v f.1) is f.2).0) f.3 as_that.1
 fit_check-unique c grid (Err line) mesh end other f g = f ∙ sym g
 
 -- and it has one
 
-verdict-exists : (c : FitChecking) (grid : HeightField) (triangles mesh : List ℕ) (is : Verdict) →
-    (end : Outcome) × IsFitVerdictOutcome c grid triangles mesh is end
-verdict-exists c grid triangles mesh (verdict.Certified count deviation) =
-    compared-exists mesh (fit_text c.spacing grid triangles) (certified_fit_line grid.n count deviation)
-verdict-exists c grid triangles mesh (verdict.Rejected why) = (text_outcome (fit_rejection why) Rejected 2, refl)
+-- a verdict has an outcome
+pub verdict-exists : (files spacing : ℕ) (grid : HeightField) (triangles mesh : List ℕ) (is : FitVerdict) →
+    (end : Outcome) × IsFitVerdictOutcome files spacing grid triangles mesh is end
+verdict-exists files spacing grid triangles mesh (verdict.Certified count deviation) =
+    compared-exists (files + 1) mesh (fit_text spacing grid triangles) (certified_fit_line grid.n count deviation)
+verdict-exists files spacing grid triangles mesh (verdict.Rejected why) =
+    (text_outcome (fit_rejection why) Rejected files, refl)
 
 -- a check of a certificate of a fitted mesh has an outcome
 pub fit_check-exists : (c : FitChecking) (grid : HeightField) (r : Result FitCertificate ℕ) (mesh : List ℕ) →
     (end : Outcome) × IsFitCheckOutcome c grid r mesh end
 fit_check-exists c grid (Ok cert) mesh =
     let v = verdict_found grid.n grid.heights (goal_of grid.n c.target) cert in
-    let e = verdict-exists c grid v.1 mesh v.0 in
+    let e = verdict-exists 2 c.spacing grid v.1 mesh v.0 in
     (e.0, (v.0, v.1, v.2, e.1))
 fit_check-exists c grid (Err line) mesh = (text_outcome (rejection (BadLine line)) Rejected 2, refl)
 
@@ -122,30 +130,35 @@ fit_make-exists m grid files two =
 
 -- what is accepted ends with Done
 
-module _ (c : FitChecking) (grid : HeightField) (cert : FitCertificate) (triangles mesh : List ℕ) where
-  abbrev goal : Goal
-  goal = goal_of grid.n c.target
+-- where the verdict certifies these triangles, and the file has their text, the outcome ends with Done
+pub verdict-done : (files spacing : ℕ) (grid : HeightField) (triangles others mesh : List ℕ) (is : FitVerdict)
+    (end : Outcome) (count deviation : ℕ) → is ≡ verdict.Certified count deviation → triangles ≡ others
+    → mesh ≡ fit_text spacing grid triangles → IsFitVerdictOutcome files spacing grid others mesh is end
+    → end.status ≡ Done
+verdict-done files spacing grid triangles others mesh (verdict.Certified i k) end count deviation is one same (inl f) =
+    ap (λ (o : Outcome). o.status) f.1
+verdict-done files spacing grid triangles others mesh (verdict.Certified i k) end count deviation is one same (inr f) =
+    absurd (difference-same mesh (fit_text spacing grid others) f.0 f.1
+    (same ∙ ap (λ (l : List ℕ). fit_text spacing grid l) one))
+verdict-done files spacing grid triangles others mesh (verdict.Rejected why) end count deviation is one same of =
+    absurd (differ is)
+  where
+    differ : verdict.Rejected why ≡ verdict.Certified count deviation → ⊥
+    differ e = cc
 
-  sound-verdict : (is : Verdict) (others : List ℕ) (end : Outcome) → IsFitFaultless c grid cert triangles →
-      mesh ≡ fit_text c.spacing grid triangles
-      → IsVerdictOf grid.n grid.heights goal cert is others →
-      IsFitVerdictOutcome c grid others mesh is end → end.status ≡ Done
-  sound-verdict (verdict.Certified count deviation) others end sound same v (inl f) = ap (λ (o : Outcome). o.status) f.1
-  sound-verdict (verdict.Certified count deviation) others end sound same v (inr f) =
-      let one = mesh_one grid.n grid.heights goal cert triangles others sound v.0 in
-      absurd (difference-same mesh (fit_text c.spacing grid others) f.0 f.1
-      (same ∙ ap (λ (l : List ℕ). fit_text c.spacing grid l) one))
-  sound-verdict (verdict.Rejected why) others end sound same v of =
-      absurd (differ (verdict_one grid.n grid.heights goal cert (verdict.Rejected why) (verdict.Certified _ _) v
-      (triangles, sound, refl, refl)))
-    where
-      differ : {count deviation : ℕ} → verdict.Rejected why ≡ verdict.Certified count deviation → ⊥
-      differ e = cc
-
-  -- a check of a faultless certificate of a fitted mesh and of the text of its triangles ends with Done
-  pub fit_check-done : (end : Outcome) → IsFitFaultless c grid cert triangles → mesh ≡ fit_text c.spacing grid triangles
-      → IsFitCheckOutcome c grid (Ok cert) mesh end → end.status ≡ Done
-  fit_check-done end sound same is = sound-verdict is.0 is.1 end sound same is.2 is.3
+-- a check of a faultless certificate of a fitted mesh and of the text of its triangles ends with Done
+pub fit_check-done : (c : FitChecking) (grid : HeightField) (cert : FitCertificate) (triangles mesh : List ℕ)
+    (end : Outcome) → IsFitFaultless c grid cert triangles → mesh ≡ fit_text c.spacing grid triangles
+    → IsFitCheckOutcome c grid (Ok cert) mesh end → end.status ≡ Done
+fit_check-done c grid cert triangles mesh end sound same is =
+    let goal : Goal = goal_of grid.n c.target in
+    let count : ℕ = length triangles in
+    let deviation : ℕ = deviation_of grid.n grid.heights triangles in
+    let certified = verdict_one grid.n grid.heights goal cert is.0 (verdict.Certified count deviation)
+    (verdict-is grid.n grid.heights goal cert is.0 is.1 is.2) (triangles, sound, refl, refl) in
+    let v = subst (λ (v : FitVerdict). IsVerdictOf grid.n grid.heights goal cert v is.1) certified is.2 in
+    verdict-done 2 c.spacing grid triangles is.1 mesh is.0 end count deviation certified
+    (mesh_one grid.n grid.heights goal cert triangles is.1 sound v.0) same is.3
 
 -- the mesh of a check that is done
 
@@ -155,72 +168,103 @@ pub sound-fits : (target : Target) (grid : HeightField) (cert : FitCertificate) 
 sound-fits (AtError thousandths) grid cert triangles sound = sound-error grid.n grid.heights _ cert triangles sound
 sound-fits (InBudget budget) grid cert triangles sound = sound-budget grid.n grid.heights budget cert triangles sound
 
--- the line of a check that certifies its mesh
-abbrev pub Certifies : FitChecking → HeightField → List ℕ → Outcome → Type 0
-Certifies c grid mesh end = (line : List ℕ) × IsCertifiedFit c grid mesh line × (end ≡ text_outcome line Done 3)
+-- The line of a check that certifies its mesh, the last of so many files.
+abbrev pub CertifiesAs : ℕ → (List ℕ → Type 0) → Outcome → Type 0
+CertifiesAs files certified end = (line : List ℕ) × certified line × (end ≡ text_outcome line Done files)
 
-module _ (c : FitChecking) (grid : HeightField) (mesh : List ℕ) (end : Outcome) (done : end.status ≡ Done) where
-  compared-certifies : (triangles line : List ℕ) → IsCertifiedFit c grid (fit_text c.spacing grid triangles) line
-      → IsCompared mesh (fit_text c.spacing grid triangles) line end → Certifies c grid mesh end
+-- A verdict on a certificate, behind so many files, whose triangles are best ones, and are told so.
+module _ (files spacing : ℕ) (grid : HeightField) (is_best is_fit : List ℕ → Type 0) (mesh : List ℕ) (end : Outcome)
+    (done : end.status ≡ Done) where
+  abbrev CertifiesOne : Type 0
+  CertifiesOne = CertifiesAs (files + 1) (λ line. IsCertifiedAs spacing grid is_best is_fit mesh line) end
+
+  compared-certifies : (triangles line : List ℕ) →
+      IsCertifiedAs spacing grid is_best is_fit (fit_text spacing grid triangles) line
+      → IsCompared (files + 1) mesh (fit_text spacing grid triangles) line end → CertifiesOne
   compared-certifies triangles line certified (inl f) =
-      (line, subst (λ (l : List ℕ). IsCertifiedFit c grid l line) (sym f.0) certified, f.1)
-  compared-certifies triangles line certified (inr f) = absurd (not-done end (rejection (MeshDiffers f.0)) 3 f.2 done)
+      (line, subst (λ (l : List ℕ). IsCertifiedAs spacing grid is_best is_fit l line) (sym f.0) certified, f.1)
+  compared-certifies triangles line certified (inr f) =
+      absurd (not-done end (rejection (MeshDiffers f.0)) (files + 1) f.2 done)
 
-  verdict-certifies : (cert : FitCertificate) (triangles : List ℕ) (is : Verdict) →
-      IsVerdictOf grid.n grid.heights (goal_of grid.n c.target) cert is triangles
-      → IsFitVerdictOutcome c grid triangles mesh is end → Certifies c grid mesh end
-  verdict-certifies cert triangles (verdict.Certified count deviation) v of =
-      let fit : IsFitFor c.target grid triangles = sound-fits c.target grid cert triangles v.0 in
+  pub verdict-certifies : (triangles : List ℕ) (is : FitVerdict)
+      → ((count deviation : ℕ) → is ≡ verdict.Certified count deviation → is_best triangles × is_fit triangles
+      × (count ≡ length triangles) × (deviation ≡ deviation_of grid.n grid.heights triangles))
+      → IsFitVerdictOutcome files spacing grid triangles mesh is end → CertifiesOne
+  verdict-certifies triangles (verdict.Certified count deviation) right of =
+      let v = right count deviation refl in
       compared-certifies triangles (certified_fit_line grid.n count deviation)
       (record {
         triangles = triangles;
         text = refl;
-        best = fit-best c.target grid triangles fit;
-        fit = fit;
-        told = ap₂ (λ (i k : ℕ). certified_fit_line grid.n i k) v.1 v.2;
+        best = v.0;
+        fit = v.1;
+        told = ap₂ (λ (i k : ℕ). certified_fit_line grid.n i k) v.2 v.3;
       }) of
-  verdict-certifies cert triangles (verdict.Rejected why) v of = absurd (not-done end (fit_rejection why) 2 of done)
+  verdict-certifies triangles (verdict.Rejected why) right of =
+      absurd (not-done end (fit_rejection why) files of done)
 
-  -- a check of a fitted mesh that ends with Done comes to one line, which certifies the mesh
-  pub fit_check-certifies : (r : Result FitCertificate ℕ) → IsFitCheckOutcome c grid r mesh end →
-      Certifies c grid mesh end
-  fit_check-certifies (Ok cert) is = verdict-certifies cert is.1 is.0 is.2 is.3
-  fit_check-certifies (Err line) is = absurd (not-done end (rejection (BadLine line)) 2 is done)
+-- a check of a fitted mesh that ends with Done comes to one line, which certifies the mesh
+pub fit_check-certifies : (c : FitChecking) (grid : HeightField) (mesh : List ℕ) (end : Outcome) → end.status ≡ Done
+    → (r : Result FitCertificate ℕ) → IsFitCheckOutcome c grid r mesh end →
+    CertifiesAs 3 (λ line. IsCertifiedFit c grid mesh line) end
+fit_check-certifies c grid mesh end done (Ok cert) is =
+    let goal : Goal = goal_of grid.n c.target in
+    verdict-certifies 2 c.spacing grid (IsBestFit c.target grid) (IsFitFor c.target grid) mesh end done is.1 is.0
+    (λ count deviation certified.
+    let v = subst (λ (v : FitVerdict). IsVerdictOf grid.n grid.heights goal cert v is.1) certified is.2 in
+    let fit : IsFitFor c.target grid is.1 = sound-fits c.target grid cert is.1 v.0 in
+    (fit-best c.target grid is.1 fit, fit, v.1, v.2)) is.3
+fit_check-certifies c grid mesh end done (Err line) is = absurd (not-done end (rejection (BadLine line)) 2 is done)
 
 -- where it is done, the report got its line
 
-module _ (read_texts : TextsAreRead) (words : List (List ℕ)) (files : List NamedFile) (c : FitChecking)
-    (grid : HeightField) (is : IsRunOf words files (CheckFit c) grid)
-    (before now : Told) (old new : Seen) where
-  -- the outcome of the words is that of the check
-  check-outcome : (end : Outcome) → IsOutcome (command_of words) files end →
-      IsFitCheckOutcome c grid (fit_cert_in grid.n (bytes_of files c.certificate)) (bytes_of files c.mesh) end
-  check-outcome end of =
-      let P : Option Command → Type 0 = λ o. IsOutcome o files end in
-      let Q : Result HeightField PgmFault → Type 0 = λ r. IsGridOutcome (CheckFit c) r files end in
-      subst Q (read_texts grid (bytes_of files is.grid_name) is.valid is.file_text) (subst P is.is_command of)
+-- its line stands, and it certifies the mesh
+line-stands : (before now : Told) (files : ℕ) (certified : List ℕ → Type 0) (end : Outcome) →
+    Stands before now end.acts → CertifiesAs files certified end
+    → (line : List ℕ) × Grows before.report now.report line × certified line
+line-stands before now files certified end stands certifies = (
+  certifies.0,
+  λ all told. stands.report_grows all told ∙ ap (λ (l : List ℕ). Some (all ++ l))
+      (ap (λ (o : Outcome). report_of o.acts) certifies.2 ∙ append-nil certifies.0),
+  certifies.1,
+)
 
-  -- its line stands, and it certifies the mesh
-  line-stands : (end : Outcome) → Stands before now end.acts → Certifies c grid (bytes_of files c.mesh) end
-      → (line : List ℕ) × Grows before.report now.report line × IsCertifiedFit c grid (bytes_of files c.mesh) line
-  line-stands end stands certifies = (
-    certifies.0,
-    λ all told. stands.report_grows all told ∙ ap (λ (l : List ℕ). Some (all ++ l))
-        (ap (λ (o : Outcome). report_of o.acts) certifies.2 ∙ append-nil certifies.0),
-    certifies.1,
-  )
+-- the outcome of words over an accepted grid is that of their job
+pub job-outcome : TextsAreRead → (words : List (List ℕ)) (files : List NamedFile) (job : Job) (grid : HeightField)
+    (run : IsRunOf words files job grid) (end : Outcome) → IsOutcome (command_of words) files end
+    → IsJobOutcome job grid files end
+job-outcome read_texts words files job grid run end is =
+    let P : Option Command → Type 0 = λ c. IsOutcome c files end in
+    let Q : Result HeightField PgmFault → Type 0 = λ r. IsGridOutcome job r files end in
+    subst Q (read_texts grid (bytes_of files run.grid_name) run.valid run.file_text) (subst P run.is_command is)
 
+module _ (read_texts : TextsAreRead) (words : List (List ℕ)) (files : List NamedFile) (job : Job)
+    (grid : HeightField) (is : IsRunOf words files job grid)
+    (before now : Told) (old new : Seen) (count : ℕ) (certified : List ℕ → Type 0)
+    (certifies : (end : Outcome) → end.status ≡ Done → IsJobOutcome job grid files end →
+    CertifiesAs count certified end) where
   done-certified : (status : Status) → IsTrue (is_complete status) → EndsRight before now old new words files status →
       status ≢ NoMemory → status ≢ ReadFault → status ≡ Done
-      → (line : List ℕ) × Grows before.report now.report line × IsCertifiedFit c grid (bytes_of files c.mesh) line
+      → (line : List ℕ) × Grows before.report now.report line × certified line
   done-certified status complete ends m r done =
       let e = ends.ends m r in
       let stands = e.2.complete complete in
-      line-stands e.0 stands.0 (fit_check-certifies c grid (bytes_of files c.mesh) e.0 (sym stands.1 ∙ done)
-      (fit_cert_in grid.n (bytes_of files c.certificate)) (check-outcome e.0 e.1))
+      line-stands before now count certified e.0 stands.0
+      (certifies e.0 (sym stands.1 ∙ done) (job-outcome read_texts words files job grid is e.0 e.1))
 
-  -- where a check of a fitted mesh is done, the report got one line, by which its mesh is certified
-  pub fit_mesh-certified : (status : Status) → EndsRight before now old new words files status → status ≡ Done
-      → (line : List ℕ) × Grows before.report now.report line × IsCertifiedFit c grid (bytes_of files c.mesh) line
-  fit_mesh-certified status ends done =
+  -- where a check is done whose outcomes certify its mesh, the report got one line, by which its mesh is certified
+  pub mesh-certified : (status : Status) → EndsRight before now old new words files status → status ≡ Done
+      → (line : List ℕ) × Grows before.report now.report line × certified line
+  mesh-certified status ends done =
       done-certified status (ap is_complete done) ends (λ e. cc) (λ e. cc) done
+
+-- where a check of a fitted mesh is done, the report got one line, by which its mesh is certified
+pub fit_mesh-certified : TextsAreRead → (words : List (List ℕ)) (files : List NamedFile) (c : FitChecking)
+    (grid : HeightField) (is : IsRunOf words files (CheckFit c) grid) (before now : Told) (old new : Seen)
+    (status : Status) → EndsRight before now old new words files status → status ≡ Done
+    → (line : List ℕ) × Grows before.report now.report line × IsCertifiedFit c grid (bytes_of files c.mesh) line
+fit_mesh-certified read_texts words files c grid is before now old new =
+    mesh-certified read_texts words files (CheckFit c) grid is before now old new 3
+    (λ line. IsCertifiedFit c grid (bytes_of files c.mesh) line)
+    (λ end done of. fit_check-certifies c grid (bytes_of files c.mesh) end done
+    (fit_cert_in grid.n (bytes_of files c.certificate)) of)

@@ -4,8 +4,8 @@ use Rattle.std.proofs.Math.Nat.{le-div_iff_mul-le}
 use Rattle.roam_edge.specs.Shelf.{NamedFile}
 use Rattle.mesh_defs.specs.HeightField.{HeightField}
 use Rattle.mesh_defs.specs.ClosedSet.{leaves_of}
-use Rattle.deviation_laws.specs.PlaneHeight.{deviation_of}
-use Rattle.least_laws.specs.Least.{IsLeastMesh}
+use Rattle.fit_laws.specs.PlaneHeight.{deviation_of}
+use Rattle.mesh_laws.specs.Least.{IsLeastMesh}
 use Rattle.fit_laws.specs.Error.{error_of}
 use Rattle.fit_laws.specs.Budget.{IsBudgetMesh}
 use Rattle.fit_laws.proofs.FitLemmas.{fit_found, fit_mesh}
@@ -13,7 +13,7 @@ use Rattle.fit_laws.proofs.BudgetLemmas.{budget_found}
 use Rattle.fit_laws.proofs.ErrorLemmas.{error-finest, worst-deviation}
 use Rattle.fit_laws.proofs.OrderLemmas.{leaves-order, least-one, budget-one}
 use Rattle.run_laws.specs.declared.status.Status.TheVariants.{Done}
-use Rattle.word_laws.specs.Words.{Target, AtError, InBudget, greatest_error, Fitting, Fit}
+use Rattle.run_words.specs.Words.{Target, AtError, InBudget, greatest_error, Fitting, Fit}
 use Rattle.run_laws.specs.Fit.{tolerance_of, IsFitFor, IsFitted, IsFewestFor, IsClosestFor, IsBestFit}
 use Rattle.run_laws.specs.Outcome.{Outcome, plain_outcome, fit_acts, IsJobOutcome}
 use Rattle.run_laws.specs.Laws.{TolerancesAreExact}

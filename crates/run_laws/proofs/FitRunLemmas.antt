@@ -7,26 +7,26 @@ use Rattle.mesh_defs.specs.declared.point.Point.{Point}
 use Rattle.mesh_defs.specs.HeightField.{HeightField}
 use Rattle.roam_edge.specs.MeshSink.{WrittenMesh}
 use Rattle.roam_edge.specs.Shelf.{NamedFile, bytes_of}
-use Rattle.pgm_grid.specs.declared.fault.PgmFault.{PgmFault}
 use Rattle.pgm_grid.specs.Laws.{TextsAreRead}
 use Rattle.roam_script.specs.PointText.{PointsAreInGrid}
 use Rattle.obj_write.specs.Written.{mesh_with}
 use Rattle.run_laws.specs.declared.status.Status.{Status}
 use Rattle.run_laws.specs.declared.status.Status.TheVariants.{Done, NoMemory, Usage, GridRefused, ScriptRefused}
 use Rattle.run_laws.specs.declared.status.Status.TheVariants.{ReadFault, WriteFault, Rejected}
-use Rattle.word_laws.specs.Words.{Fitting, Keeping, Job, Fit, Keep, Command, OnGrid, has_script, command_of}
+use Rattle.run_words.specs.Words.{Fitting, Keeping, Job, Fit, Keep, Command, OnGrid, has_script, command_of}
 use Rattle.run_laws.specs.Walk.{Refusal}
 use Rattle.run_laws.specs.Fit.{IsFitFor, IsBestFit, IsKeptFor, IsFewestKeeping, fit_text}
 use Rattle.run_laws.specs.PointFile.{points_in}
 use Rattle.run_laws.specs.ReportText.{fit_line}
 use Rattle.run_laws.specs.Act.{Act, WholeMesh, ReportText, Told, Stands, IsCutShort}
 use Rattle.run_laws.specs.CutShort.{StandsInMesh}
-use Rattle.run_laws.specs.Outcome.{Outcome, IsJobOutcome, IsKeepOutcome, IsGridOutcome, IsOutcome}
+use Rattle.run_laws.specs.Outcome.{Outcome, IsKeepOutcome, IsOutcome}
 use Rattle.run_laws.specs.Promise.{Seen, is_complete, EndsRight, LeavesAtReadFault, LeavesAtNoMemory}
 use Rattle.run_laws.specs.Headline.{IsRunOf, IsOneMeshOf, KeepsOneMesh, KeepsFitMesh, KeepsKeptMesh}
 use Rattle.run_laws.proofs.BestLemmas.{same-command}
 use Rattle.run_laws.proofs.CutShortLemmas.{mesh_cut}
 use Rattle.run_laws.proofs.FitLemmas.{fit-best}
+use Rattle.run_laws.proofs.FitCertifyLemmas.{job-outcome}
 use Rattle.run_laws.proofs.KeepLemmas.{kept-best}
 use Rattle.run_laws.proofs.PointFileLemmas.{points-in_grid}
 
@@ -159,15 +159,6 @@ module _ (words : List (List ℕ)) (files : List NamedFile) (name : List ℕ) (j
   one-keeps WriteFault ends read memory =
       let e = ends.ends (λ f. cc) (λ f. cc) in
       cut WriteFault (λ f. cc) e.0 (one_mesh e.0 e.1) (e.2.cut_short refl)
-
--- the outcome of words over an accepted grid is that of their job
-job-outcome : TextsAreRead → (words : List (List ℕ)) (files : List NamedFile) (job : Job) (grid : HeightField)
-    (run : IsRunOf words files job grid) (end : Outcome) → IsOutcome (command_of words) files end
-    → IsJobOutcome job grid files end
-job-outcome read_texts words files job grid run end is =
-    let P : Option Command → Type 0 = λ c. IsOutcome c files end in
-    let Q : Result HeightField PgmFault → Type 0 = λ r. IsGridOutcome job r files end in
-    subst Q (read_texts grid (bytes_of files run.grid_name) run.valid run.file_text) (subst P run.is_command is)
 
 -- whatever the status, the mesh of a fit is a best one if it is finished
 pub fit-keeps : TextsAreRead → (words : List (List ℕ)) (files : List NamedFile) (f : Fitting) (grid : HeightField)

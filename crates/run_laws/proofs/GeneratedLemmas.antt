@@ -11,13 +11,13 @@ use Rattle.std.proofs.lemmas.Option.{slice_get_within}
 use Rattle.mesh_defs.specs.ClosedSet.{among}
 use Rattle.mesh_defs.specs.State.{State, start_state, priority_in}
 use Rattle.bintree_addr.specs.declared.blocked.Blocked.{Blocked}
-use Rattle.closure_laws.specs.Frame.{IsFrame}
-use Rattle.closure_laws.proofs.LeafLemmas.{four-power, leaves-most}
+use Rattle.mesh_laws.specs.Frame.{IsFrame}
+use Rattle.mesh_laws.proofs.LeafLemmas.{four-power, leaves-most}
 use Rattle.roam_script.specs.declared.line.Line.{Line}
 use Rattle.roam_script.specs.declared.line.Line.TheVariants.{Blank, Camera, Set, Plane, NoPlanes, Budget, Raise, Frame}
 use Rattle.roam_gen.specs.Generated.{made_grid, made_lines, frame_lines, camera_line, edit_line}
 use Rattle.run_laws.specs.Walk.{Walk, start_walk, after_line, walk_along}
-use Rattle.word_laws.specs.Words.{as_sums, Command}
+use Rattle.run_words.specs.Words.{as_sums, Command}
 use Rattle.run_laws.specs.Act.{Act, ReportText}
 use Rattle.run_laws.specs.Picture.{Picture, ArePictures, IsCertified}
 use Rattle.run_laws.specs.ReportText.{all_triangles, worst_in, count_blocked, sums_line, try_line}

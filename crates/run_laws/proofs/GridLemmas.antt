@@ -11,8 +11,8 @@ use Rattle.pgm_grid.specs.Progress.{grid_of}
 use Rattle.run_laws.specs.declared.status.Status.{Status}
 use Rattle.run_laws.specs.declared.status.Status.TheVariants as ends
 use Rattle.run_laws.specs.Walk.{Walk, start_walk}
-use Rattle.word_laws.specs.Words.{Show, Scripted, Job, Frames, Facts, Command, OnGrid, Make, Check, Fit, Keep}
-use Rattle.word_laws.specs.Words.{MakeFit, CheckFit, names_of}
+use Rattle.run_words.specs.Words.{Show, Scripted, Job, Frames, Facts, Command, OnGrid, Make, Check, Fit, Keep}
+use Rattle.run_words.specs.Words.{MakeFit, CheckFit, MakeKept, CheckKept, names_of}
 use Rattle.run_laws.specs.Picture.{Picture}
 use Rattle.run_laws.specs.Act.{Act, Told, Stands}
 use Rattle.run_laws.specs.Outcome.{Outcome, EngineEnd, shown_acts, IsGridOutcome}
@@ -25,7 +25,7 @@ use Rattle.run_laws.specs.FileStop.{StopsReading}
 use Rattle.run_laws.specs.Leaving.{CommandEnds}
 
 -- a count that is far from its greatest value goes up by one
-pub next-one : (before now : ℕ) → before ≤ 2 ^ 63 + 2 → now ≡ next_count before → now ≡ before + 1
+pub next-one : (before now : ℕ) → before ≤ 2 ^ 63 + 3 → now ≡ next_count before → now ≡ before + 1
 next-one before now low is = is ∙ min-eq_left (omega (arith, low))
 
 -- the same of a count of at most 2 ^ 63
@@ -97,6 +97,8 @@ one-open name (Fit f) = omega arith
 one-open name (Keep k) = omega arith
 one-open name (MakeFit m) = omega arith
 one-open name (CheckFit c) = omega arith
+one-open name (MakeKept m) = omega arith
+one-open name (CheckKept c) = omega arith
 
 -- memory ran out at the grid
 pub grid-memory : (before : Told) (old new : Seen) (name : List ℕ) (job : Job) → new.opens ≡ old.opens + 1
@@ -113,6 +115,8 @@ grid-memory before old new name job opened header = record {
       subst P (same-name name other job job' e) (header files told_files);
   in_order = λ other c files e told_files two. absurd (omega (arith, two));
   fit_in_order = λ other c files e told_files two. absurd (omega (arith, two));
+  kept_make_in_order = λ other m files e told_files two. absurd (omega (arith, two));
+  kept_in_order = λ other c files e told_files two. absurd (omega (arith, two));
 }
 
 -- a run is complete only by a status that is

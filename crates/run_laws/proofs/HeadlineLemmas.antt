@@ -6,17 +6,17 @@ use Rattle.std.proofs.lemmas.List.Elements.{All-from_recursion}
 use Rattle.mesh_defs.specs.ClosedSet.{IsClosed, among, leaves_of}
 use Rattle.mesh_defs.specs.HeightField.{HeightField}
 use Rattle.mesh_defs.specs.State.{State, priority_in, text_in}
-use Rattle.strip_laws.specs.Strip.{strip_of}
-use Rattle.strip_laws.proofs.OrderLemmas.{AreLeaves-strip_of, once-strip_of}
-use Rattle.strip_laws.proofs.StripLemmas.{IsRing-strip_of}
-use Rattle.least_laws.specs.Least.{IsLeastMesh}
+use Rattle.mesh_laws.specs.Strip.{strip_of}
+use Rattle.mesh_laws.proofs.StripOrderLemmas.{AreLeaves-strip_of, once-strip_of}
+use Rattle.mesh_laws.proofs.StripLemmas.{IsRing-strip_of}
+use Rattle.mesh_laws.specs.Least.{IsLeastMesh}
 use Rattle.bintree_addr.specs.declared.blocked.Blocked.{Blocked}
 use Rattle.roam_edge.specs.MeshSink.{WrittenMesh}
 use Rattle.obj_write.specs.Written.{mesh_with, IsPartOfMesh}
 use Rattle.run_laws.specs.declared.status.Status.{Status}
 use Rattle.run_laws.specs.Walk.{Refusal}
-use Rattle.word_laws.specs.Words.{Criterion, OfBudget, OfTolerance, TriangleOrder, DepthFirst, AlongStrip, Output}
-use Rattle.word_laws.specs.Words.{Meshes, Measures, Sums, Show, Scripted, prefix_of}
+use Rattle.run_words.specs.Words.{Criterion, OfBudget, OfTolerance, TriangleOrder, DepthFirst, AlongStrip, Output}
+use Rattle.run_words.specs.Words.{Meshes, Measures, Sums, Show, Scripted, prefix_of}
 use Rattle.run_laws.specs.Act.{Act, WholeMesh, ReportText, meshes_of, Told, Stands, StandsInPart, IsCutShort}
 use Rattle.run_laws.specs.Picture.{Picture, shown_triangles, IsLeastFrame, IsFrameFor, IsPicture, ArePictures}
 use Rattle.run_laws.specs.Outcome.{Outcome, picture_acts, shown_acts, sum_acts, stop_acts, script_walk, IsFramesOutcome}

@@ -1,74 +1,32 @@
 -- Meshes that keep points: there is one for each error and its points, and it has the fewest triangles of those that
 -- have the points as vertices.
-use Rattle.std.proofs.Common.{◌≡◌, ◌⊎◌, ℕ, ◌*◌, ◌^◌, ◌≤◌, ◌&&◌, Bool, true, IsTrue, nat_le, nat_lt, List, []}
+use Rattle.std.proofs.Common.{◌≡◌, ℕ, ◌^◌, ◌≤◌, Bool, IsTrue, List, []}
 use Rattle.std.proofs.Common.{All, Contains, Result, Ok, Err, refl, sym, ◌∙◌, ap, subst, ⊎_elim}
-use Rattle.std.specs.Cmp.{IsEquivalence}
-use Rattle.std.specs.List.{list_any}
-use Rattle.std.proofs.lemmas.Bool.{and_parts, and_from, leb-true, ltb-true, le-leb, lt-ltb}
 use Rattle.std.proofs.lemmas.List.Elements.{All-contains, All-contains_itself}
-use Rattle.std.proofs.lemmas.Map.Views.{Contains-from_any, list_any-from_Contains}
 use Rattle.mesh_defs.specs.declared.point.Point.{Point}
 use Rattle.mesh_defs.specs.HeightField.{HeightField}
-use Rattle.mesh_defs.specs.Triangle.{level_of, IsSplittable}
 use Rattle.mesh_defs.specs.Tiling.{IsConforming}
 use Rattle.mesh_defs.specs.ClosedSet.{IsSubset, leaves_of}
-use Rattle.mesh_defs.specs.MeshText.{is_same_point}
-use Rattle.mesh_defs.proofs.PointLemmas.{same_point-eq, eq-same_point}
-use Rattle.mesh_defs.proofs.TestLemmas.{same_tests}
 use Rattle.bintree_laws.specs.Corners.{IsInSquare}
-use Rattle.tiling_laws.specs.Ancestors.{ancestors_of}
-use Rattle.vertex_laws.specs.Vertex.{is_mesh_vertex, centre_of}
-use Rattle.deviation_laws.specs.PlaneHeight.{deviation_of}
+use Rattle.mesh_laws.specs.Ancestors.{ancestors_of}
+use Rattle.mesh_laws.specs.Vertex.{is_mesh_vertex, centre_of}
+use Rattle.fit_laws.specs.PlaneHeight.{deviation_of}
 use Rattle.fit_laws.specs.Error.{error_of}
 use Rattle.fit_laws.proofs.ErrorLemmas.{error-finest, worst-deviation}
 use Rattle.fit_laws.proofs.OrderLemmas.{leaves-order}
-use Rattle.required_laws.proofs.RequiredLemmas.{with-found, with-mesh, with-one}
+use Rattle.fit_laws.proofs.RequiredLemmas.{with-found, with-mesh, with-one}
+use Rattle.certificate_laws.specs.Keeping.{is_centred}
+use Rattle.certificate_laws.proofs.CentreLemmas.{centred-splittable, centred-point, is-centred}
 use Rattle.run_laws.specs.declared.status.Status.TheVariants.{Done, ScriptRefused}
-use Rattle.word_laws.specs.Words.{Keeping, fitting_of}
+use Rattle.run_words.specs.Words.{Keeping, fitting_of}
 use Rattle.run_laws.specs.Walk.{Refusal}
-use Rattle.run_laws.specs.Fit.{tolerance_of, is_centred, IsKeptFor, IsKept, IsFewestKeeping}
+use Rattle.run_laws.specs.Fit.{tolerance_of, IsKeptFor, IsKept, IsFewestKeeping}
 use Rattle.run_laws.specs.ReportText.{line_refusal}
 use Rattle.run_laws.specs.Outcome.{Outcome, plain_outcome, text_outcome, fit_acts, IsKeepOutcome}
 use Rattle.run_laws.proofs.FitLemmas.{tolerance-exact}
 use Rattle.run_laws.proofs.VertexLemmas.{HasCentreAt, centre-above, square-above, grid-point}
 
 -- one mesh
-
--- what is centred at points may be split, and has one of them as its centre
-module _ (n : ℕ) (points : List Point) (a : ℕ) where
-  abbrev is_coarse : Bool
-  is_coarse = nat_le 2 a && nat_lt (level_of a) (2 * n)
-
-  abbrev is_at : Bool
-  is_at = list_any (is_same_point (centre_of n a)) points
-
-  pub centred-splittable : IsTrue (is_centred n points a) → IsSplittable n a
-  centred-splittable is =
-      let test = and_parts (nat_le 2 a) (nat_lt (level_of a) (2 * n)) (and_parts is_coarse is_at is).0 in
-      record { low = leb-true 2 a test.0; coarse = ltb-true (level_of a) (2 * n) test.1 }
-
-  pub centred-point : IsTrue (is_centred n points a) → Contains points (centre_of n a)
-  centred-point is = Contains-from_any same_point-eq (centre_of n a) points (and_parts is_coarse is_at is).1
-
-  -- and what may be split and has one as its centre is centred
-  pub is-centred : IsSplittable n a → Contains points (centre_of n a) → IsTrue (is_centred n points a)
-  is-centred s listed =
-      and_from is_coarse is_at
-      (and_from (nat_le 2 a) (nat_lt (level_of a) (2 * n)) (le-leb 2 a s.low) (lt-ltb (level_of a) (2 * n) s.coarse))
-      (list_any-from_Contains same_points (centre_of n a) points listed)
-    where
-      same : (p q r : Point) → is_same_point p q ≡ true → is_same_point p r ≡ is_same_point q r
-      same p q r e = ap (λ (z : Point). is_same_point z r) (same_point-eq p q e)
-
-      turned : (p q : Point) → is_same_point p q ≡ true → is_same_point q p ≡ true
-      turned p q e = eq-same_point q p (sym (same_point-eq p q e))
-
-      same_points : IsEquivalence is_same_point
-      same_points = record {
-        refl = λ p. eq-same_point p p refl;
-        symm = λ p q. same_tests (is_same_point p q) (is_same_point q p) (turned p q) (turned q p);
-        congr = same;
-      }
 
 -- the triangles for an error and points, depth first, are one list
 pub kept-one : (thousandths : ℕ) (points : List Point) (grid : HeightField) (triangles others : List ℕ) →

@@ -1,102 +1,137 @@
--- How a command that keeps points is carried out: behind its grid it ends at its points, or with its mesh.
-use Rattle.std.proofs.Common.{◌≡◌, ℕ, List, [], Some, None, Result, Ok, Err, refl, sym, ◌∙◌, ap, subst, arith}
+-- How a command that reads points is carried out: behind its grid it ends at its points, or with what it makes of them.
+use Rattle.std.proofs.Common.{◌≡◌, ℕ, ◌≤◌, List, [], Some, None, Result, Ok, Err, refl, sym, subst, arith, ◌+◌, ◌^◌}
 use Rattle.mesh_defs.specs.declared.point.Point.{Point}
 use Rattle.mesh_defs.specs.HeightField.{HeightField}
+use Rattle.roam_edge.specs.Fault.{Rose, next_count, IsInTime}
 use Rattle.roam_edge.specs.Shelf.{NamedFile, bytes_of}
-use Rattle.pgm_grid.specs.declared.fault.PgmFault.{PgmFault}
 use Rattle.run_laws.specs.declared.status.Status.{Status}
 use Rattle.run_laws.specs.declared.status.Status.TheVariants.{Done, ScriptRefused, ReadFault}
-use Rattle.word_laws.specs.Words.{Keeping, fitting_of, Keep, OnGrid}
+use Rattle.run_words.specs.Words.{Keeping, KeptMaking, KeptChecking, fitting_of, Job, Keep, MakeKept, CheckKept, OnGrid}
 use Rattle.run_laws.specs.Walk.{Refusal}
+use Rattle.run_laws.specs.FileStop.{StopsReading}
 use Rattle.run_laws.specs.Fit.{IsKept}
+use Rattle.run_laws.specs.CertFile.{kept_cert_in}
 use Rattle.run_laws.specs.PointFile.{points_in, PointsHaveRead}
 use Rattle.run_laws.specs.ReportText.{line_refusal}
-use Rattle.run_laws.specs.Outcome.{Outcome, plain_outcome, text_outcome, fit_acts, IsKeepOutcome, IsGridOutcome}
-use Rattle.run_laws.specs.Outcome.{IsCommandOutcome}
+use Rattle.run_laws.specs.Outcome.{text_outcome, plain_outcome, fit_acts, IsKeepOutcome, IsKeptMakeOutcome}
+use Rattle.run_laws.specs.Outcome.{IsKeptCheckOutcome, IsJobOutcome}
 use Rattle.run_laws.specs.Promise.{HasEnded}
-use Rattle.run_laws.specs.Moment.{Moment}
-use Rattle.run_laws.specs.Leaving.{Runs, HasOpened, HasFailed, ReadsGrid, EndsWith, TellsLast}
+use Rattle.run_laws.specs.Moment.{Moment, OnlyReads}
+use Rattle.run_laws.specs.Leaving.{Runs, HasOpened, ReadsGrid, KeepsPoints, EndsWith, TellsLast}
 use Rattle.run_laws.proofs.ActLemmas.{stands-nothing}
-use Rattle.run_laws.proofs.GridLemmas.{file-fault}
-use Rattle.run_laws.proofs.RunLemmas.{read-failed, opens-then, fails-then, acts-run, text-runs}
+use Rattle.run_laws.proofs.GridLemmas.{next-one, file-fault}
+use Rattle.run_laws.proofs.RunLemmas.{read-failed, opens-one, fails-then, whole-runs, second-refused}
 
--- a read of the points failed
-pub points-fault : (before middle now : Moment) (name : List ℕ) (k : Keeping) (grid : HeightField)
-    → ReadsGrid before middle name grid → HasFailed middle now 1 k.points (PointsHaveRead grid.n)
-    → Runs before now (Some (OnGrid name (Keep k))) ReadFault None
-points-fault before middle now name k grid read one =
-    let failed = fails-then before middle now 1 1 k.points (PointsHaveRead grid.n) read.opened one in
-    read-failed before now name (Keep k) 2 k.points (PointsHaveRead grid.n) failed (omega arith) (omega arith)
-    (record {
-      file = 1;
-      opened = failed.opens;
-      before_script = λ scripted. stands-nothing before.sinks;
-      at_file = λ files told.
-          let at = failed.stops files told in
-          file-fault _ _ now.shelf (OnGrid name (Keep k)) files 1 k.points [] _ at refl
-          (grid, read.is_grid files told, (at.has_read, refl)) (stands-nothing before.sinks);
-    })
+abbrev refused_points : Refusal → Result (List Point) Refusal
+refused_points refusal = Err refusal
 
-module _ (before middle last now : Moment) (name : List ℕ) (k : Keeping) (grid : HeightField) (status : Status)
-    (read : ReadsGrid before middle name grid) (behind : HasOpened middle last 1) where
-  both-opened : HasOpened before last 2
-  both-opened = opens-then before middle last 1 1 read.opened behind
+-- a fit that keeps points reads them so, and so do making a certificate of such a mesh, and checking it by one
+pub keep-keeps : (name : List ℕ) (k : Keeping) → KeepsPoints name k.points (Keep k)
+keep-keeps name k = record {
+  second = refl;
+  two = omega arith;
+  allowed = refl;
+  no_engine = refl;
+  has_read = λ grid files read is. (is, refl);
+  refused = λ grid files refusal is. subst (λ a. IsKeepOutcome k grid a
+      (text_outcome (line_refusal refusal) ScriptRefused 2)) (sym is) refl;
+}
 
-  -- what the points come to is what the command does
-  keep-outcome : (answer : Result (List Point) Refusal) (end : Outcome) → IsKeepOutcome k grid answer end
-      → ((files : List NamedFile) → middle.shelf.files ≡ Some files
-      → points_in grid.n (bytes_of files k.points) ≡ answer)
-      → (files : List NamedFile) → before.shelf.files ≡ Some files → IsCommandOutcome (OnGrid name (Keep k)) files end
-  keep-outcome answer end is found files told =
-      subst (λ (r : Result HeightField PgmFault). IsGridOutcome (Keep k) r files end)
-      (sym (read.is_grid files told))
-      (subst (λ (a : Result (List Point) Refusal). IsKeepOutcome k grid a end)
-      (sym (found files (read.opened.only.files ∙ told))) is)
+pub make-keeps : (name : List ℕ) (m : KeptMaking) → KeepsPoints name m.points (MakeKept m)
+make-keeps name m = record {
+  second = refl;
+  two = omega arith;
+  allowed = refl;
+  no_engine = refl;
+  has_read = λ grid files read is. (is, refl);
+  refused = λ grid files refusal is. subst (λ a. IsKeptMakeOutcome m grid a
+      (text_outcome (line_refusal refusal) ScriptRefused 2)) (sym is) refl;
+}
 
-  -- the mesh and its line ended the command
-  pub kept-runs : (points : List Point) (triangles : List ℕ) → HasEnded last.shelf
-      → ((files : List NamedFile) → middle.shelf.files ≡ Some files
-      → points_in grid.n (bytes_of files k.points) ≡ Ok points)
-      → IsKept k.thousandths points grid triangles
-      → EndsWith last now (fit_acts (fitting_of k) grid triangles) Done status
-      → Runs before now (Some (OnGrid name (Keep k))) status None
-  kept-runs points triangles ended found kept ends =
-      acts-run before last now name (Keep k) 2 both-opened (fit_acts (fitting_of k) grid triangles) Done
-      (keep-outcome (Ok points) (plain_outcome (fit_acts (fitting_of k) grid triangles) Done 2)
-      (triangles, kept, refl) found)
-      (λ text_alone. cc) status ends (omega arith) (omega arith) refl refl refl
+pub check-keeps : (name : List ℕ) (c : KeptChecking) → KeepsPoints name c.points (CheckKept c)
+check-keeps name c = record {
+  second = refl;
+  two = omega arith;
+  allowed = refl;
+  no_engine = refl;
+  has_read = λ grid files read is. (is, refl);
+  refused = λ grid files refusal is. subst (λ a. IsKeptCheckOutcome c grid a
+      (kept_cert_in grid.n (bytes_of files c.certificate)) (bytes_of files c.mesh)
+      (text_outcome (line_refusal refusal) ScriptRefused 2)) (sym is) refl;
+}
+
+-- the points were read behind the grid
+pub points-opened : (before now : Moment) → before.shelf.opens ≤ 2 ^ 63 + 1 → OnlyReads before now
+    → now.shelf.opens ≡ next_count before.shelf.opens → now.shelf_faults ≡ before.shelf_faults
+    → IsInTime before.shelf_late before.shelf_faults now.shelf_late → HasOpened before now 1
+points-opened before now low only opens faults in_time =
+    opens-one before now (omega (arith, low)) only opens faults in_time
+
+-- the points that were read, in the words of the grid
+pub points-told : (n : ℕ) (grid : HeightField) (middle : Moment) (name : List ℕ) (answer : Result (List Point) Refusal)
+    → n ≡ grid.n
+    → ((files : List NamedFile) → middle.shelf.files ≡ Some files → points_in n (bytes_of files name) ≡ answer)
+    → (files : List NamedFile) → middle.shelf.files ≡ Some files → points_in grid.n (bytes_of files name) ≡ answer
+points-told n grid middle name answer n_is found files told =
+    subst (λ (k : ℕ). points_in k (bytes_of files name) ≡ answer) n_is (found files told)
+
+module _ (before middle : Moment) (name points : List ℕ) (job : Job) (grid : HeightField) (n : ℕ)
+    (keeps : KeepsPoints name points job) (n_is : n ≡ grid.n) (read : ReadsGrid before middle name grid) where
+  -- a read of the points failed
+  pub points-fault : (now : Moment) → middle.shelf.opens ≤ 2 ^ 63 + 1 → OnlyReads middle now
+      → now.shelf.opens ≡ next_count middle.shelf.opens → Rose middle.shelf_faults now.shelf_faults
+      → IsInTime middle.shelf_late middle.shelf_faults now.shelf_late
+      → ((files : List NamedFile) → middle.shelf.files ≡ Some files →
+      StopsReading (PointsHaveRead n) (bytes_of files points) now.shelf.rest now.shelf.ended)
+      → Runs before now (Some (OnGrid name job)) ReadFault None
+  points-fault now low only opens rose in_time stops =
+      let failed = fails-then before middle now 1 1 points (PointsHaveRead grid.n) read.opened
       (record {
-        done = λ e. both-opened.opens;
-        script_refused = λ e. cc;
-        grid_refused = λ e. cc;
-        usage = λ e. cc;
-        read_fault = λ e. cc;
-        write_fault = λ e. cc;
-        rejected = λ e. cc;
-        least = omega (arith, both-opened.opens);
-        most = omega (arith, both-opened.opens);
-      })
-      (λ e. ended)
-
-  -- the refusal of a line of its points did
-  pub points-refused-runs : (refusal : Refusal) (text : List ℕ) → text ≡ line_refusal refusal
-      → ((files : List NamedFile) → middle.shelf.files ≡ Some files
-      → points_in grid.n (bytes_of files k.points) ≡ Err refusal)
-      → TellsLast last now text ScriptRefused status → Runs before now (Some (OnGrid name (Keep k))) status None
-  points-refused-runs refusal text is found tells =
-      text-runs before last now name (Keep k) 2 both-opened text ScriptRefused
-      (keep-outcome (Err refusal) (text_outcome text ScriptRefused 2)
-      (ap (λ (t : List ℕ). text_outcome t ScriptRefused 2) is) found)
-      status tells (omega arith) (omega arith) refl refl refl
+        only = only;
+        opens = next-one _ _ (omega (arith, low)) opens;
+        failed = rose;
+        in_time = in_time;
+        stops = λ files told. subst (λ (m : ℕ). StopsReading (PointsHaveRead m) (bytes_of files points)
+            now.shelf.rest now.shelf.ended) n_is (stops files told);
+      }) in
+      read-failed before now name job 2 points (PointsHaveRead grid.n) failed (omega arith) keeps.two
       (record {
-        done = λ e. cc;
-        script_refused = λ e. both-opened.opens;
-        grid_refused = λ e. cc;
-        usage = λ e. cc;
-        read_fault = λ e. cc;
-        write_fault = λ e. cc;
-        rejected = λ e. cc;
-        least = omega (arith, both-opened.opens);
-        most = omega (arith, both-opened.opens);
+        file = 1;
+        opened = failed.opens;
+        before_script = λ scripted. stands-nothing before.sinks;
+        at_file = λ files told.
+            let at = failed.stops files told in
+            file-fault _ _ now.shelf (OnGrid name job) files 1 points [] _ at keeps.second
+            (grid, read.is_grid files told, keeps.has_read grid files at.read at.has_read)
+            (stands-nothing before.sinks);
       })
-      (λ e. cc)
+
+  -- the refusal of a line of its points ended the command
+  pub points-refused-runs : (last now : Moment) (status : Status) (refusal : Refusal) (text : List ℕ)
+      → text ≡ line_refusal refusal → HasOpened middle last 1
+      → ((files : List NamedFile) → middle.shelf.files ≡ Some files →
+      points_in n (bytes_of files points) ≡ Err refusal)
+      → TellsLast last now text ScriptRefused status → Runs before now (Some (OnGrid name job)) status None
+  points-refused-runs last now status refusal text is behind found tells =
+      second-refused before middle last now name job grid 1 status read behind text refl keeps.two keeps.allowed
+      keeps.no_engine
+      (λ files told. subst (λ (t : List ℕ). IsJobOutcome job grid files (text_outcome t ScriptRefused 2)) (sym is)
+      (keeps.refused grid files refusal
+      (points-told n grid middle points (refused_points refusal) n_is found files told)))
+      tells
+
+-- the mesh and its line ended a fit that keeps points
+pub kept-runs : (before middle last now : Moment) (name : List ℕ) (k : Keeping) (grid : HeightField) (status : Status)
+    → ReadsGrid before middle name grid → HasOpened middle last 1
+    → (points : List Point) (triangles : List ℕ) → HasEnded last.shelf
+    → ((files : List NamedFile) → middle.shelf.files ≡ Some files
+    → points_in grid.n (bytes_of files k.points) ≡ Ok points)
+    → IsKept k.thousandths points grid triangles
+    → EndsWith last now (fit_acts (fitting_of k) grid triangles) Done status
+    → Runs before now (Some (OnGrid name (Keep k))) status None
+kept-runs before middle last now name k grid status read behind points triangles ended found kept ends =
+    whole-runs before middle last now name (Keep k) grid 1 status read behind
+    (fit_acts (fitting_of k) grid triangles) refl ended refl (λ text_alone. cc)
+    (λ files told. subst (λ (a : Result (List Point) Refusal). IsKeepOutcome k grid a
+    (plain_outcome (fit_acts (fitting_of k) grid triangles) Done 2)) (sym (found files told)) (triangles, kept, refl))
+    ends

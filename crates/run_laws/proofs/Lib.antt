@@ -12,6 +12,7 @@ pub mod VertexLemmas
 pub mod KeepLemmas
 pub mod PointFileLemmas
 pub mod FitCertifyLemmas
+pub mod KeptCertifyLemmas
 pub mod OutcomeLemmas
 pub mod MadeLemmas
 pub mod HeadlineLemmas

@@ -1,11 +1,12 @@
 -- A certificate that is made is read back from its text, and a check of its mesh accepts it; the same of fitted meshes.
 use Rattle.std.proofs.Common.{◌≡◌, ◌≢◌, ℕ, ◌+◌, ◌-◌, ◌*◌, ◌/◌, ◌<◌, ◌≤◌, Bool, true, false, List, [], ◌∷◌, ◌++◌}
 use Rattle.std.proofs.Common.{Option, Some, None, Result, Ok, Err, refl, sym, ◌∙◌, ap, subst, arith, append_assoc, ◌^◌}
-use Rattle.std.proofs.Common.{pow_mono, mul-le-mul_left}
+use Rattle.std.proofs.Common.{pow_mono, mul-le-mul_left, All, length}
 use Rattle.std.specs.Prelude.{unsigned_abs}
 use Rattle.std.specs.List.{AllByRecursion, flat_map}
-use Rattle.std.proofs.lemmas.List.Elements.{recursion_from_All, All-from_recursion}
+use Rattle.std.proofs.lemmas.List.Elements.{recursion_from_All, All-from_recursion, All-contains}
 use Rattle.std.proofs.lemmas.Option.{none-some}
+use Rattle.mesh_defs.specs.declared.point.Point.{Point}
 use Rattle.mesh_defs.specs.HeightField.{HeightField, IsHeightField}
 use Rattle.mesh_defs.specs.BoundingBox.{CameraAt}
 use Rattle.mesh_defs.specs.Triangle.{IsSplittable}
@@ -13,32 +14,44 @@ use Rattle.mesh_defs.specs.Priority.{worst_of}
 use Rattle.mesh_defs.specs.State.{State, priority_in, text_in, start_state, with_camera}
 use Rattle.certificate_laws.specs.declared.reason.Reason.{Reason}
 use Rattle.certificate_laws.specs.Certificate.{AreReasons, IsSound}
-use Rattle.page_laws.specs.Lines.{IsOneLine, lines_from}
+use Rattle.bintree_laws.specs.Corners.{IsInSquare}
+use Rattle.cert_text.specs.Lines.{IsOneLine, lines_from}
 use Rattle.cert_text.specs.Certificate.{Certificate}
 use Rattle.cert_text.specs.CertReader.{ReadSoFar, read_so_far, nothing_read, cert_line_in}
 use Rattle.cert_text.specs.CertText.{cert_text, cert_lines}
 use Rattle.cert_text.specs.Laws.{IsCertificateOf, lines_read, WrittenLinesAreRead, WrittenLinesAreEnded}
 use Rattle.cert_text.specs.Laws.{WrittenLinesAreLines}
-use Rattle.least_laws.proofs.FlagLemmas.{end-high}
-use Rattle.fit_certificate_laws.specs.declared.reason.Off.{Off}
-use Rattle.fit_certificate_laws.specs.Certificate.{FitCertificate, LeadsTo, IsFitSound}
-use Rattle.fit_certificate_laws.proofs.SoundLemmas.{sound-low, sound-order}
-use Rattle.fit_cert_text.specs.FitCertReader.{fit_line_in}
-use Rattle.fit_cert_text.specs.FitCertReader as fit
-use Rattle.fit_cert_text.specs.FitCertText.{fit_cert_text, fit_cert_lines}
-use Rattle.fit_cert_text.specs.Laws as written
+use Rattle.mesh_laws.proofs.FlagLemmas.{end-high}
+use Rattle.certificate_laws.specs.declared.fit_reason.Off.{Off}
+use Rattle.certificate_laws.specs.FitCertificate.{FitCertificate, LeadsTo, IsFitSound}
+use Rattle.certificate_laws.specs.declared.limits.TheConstants.{MOST_REASONS}
+use Rattle.certificate_laws.specs.Keeping.{KeptCertificate, IsNeed, IsKeptSound}
+use Rattle.certificate_laws.proofs.FitSoundLemmas.{sound-low, sound-order}
+use Rattle.cert_text.specs.FitCertReader.{fit_line_in}
+use Rattle.cert_text.specs.FitCertReader as fit
+use Rattle.cert_text.specs.FitCertText.{fit_cert_text, fit_cert_lines}
+use Rattle.cert_text.specs.FitLaws as written
+use Rattle.cert_text.specs.KeptCert.{kept_line_in, kept_cert_text, kept_cert_lines}
+use Rattle.cert_text.specs.KeptCert as kept
+use Rattle.cert_text.specs.KeptLaws.{IsPointOf, IsKeptCertificateOf, WrittenKeptLinesAreRead}
+use Rattle.cert_text.specs.KeptLaws.{WrittenKeptLinesAreEnded, WrittenKeptLinesAreLines}
+use Rattle.roam_script.specs.PointText.{most_points}
 use Rattle.roam_edge.specs.Shelf.{NamedFile, bytes_of}
 use Rattle.run_laws.specs.Walk.{lines_of}
-use Rattle.word_laws.specs.Words.{Making, Checking, Target, AtError, InBudget, FitMaking, FitChecking}
-use Rattle.run_laws.specs.CertFile.{lines_behind, said_behind, cert_of, cert_in, fit_cert_of, fit_cert_in}
-use Rattle.run_laws.specs.Certify.{makes_at, IsMade, IsFaultless, IsFitMade}
-use Rattle.run_laws.specs.Fit.{goal_of, IsFitted, fit_text}
-use Rattle.run_laws.specs.Promise.{IsAcceptedCheck, IsAcceptedFitCheck}
+use Rattle.run_words.specs.Words.{Making, Checking, Target, AtError, InBudget, FitMaking, FitChecking, KeptMaking}
+use Rattle.run_words.specs.Words.{KeptChecking, greatest_error}
+use Rattle.run_laws.specs.CertFile.{lines_behind, cert_of, cert_in, fit_cert_of, fit_cert_in, kept_cert_of, kept_cert_in}
+use Rattle.run_laws.specs.PointFile.{points_in}
+use Rattle.run_laws.specs.Certify.{makes_at, IsMade, IsFaultless, IsFitMade, IsKeptMade}
+use Rattle.run_laws.specs.Fit.{tolerance_of, goal_of, IsFitted, IsKept, fit_text}
+use Rattle.run_laws.specs.Promise.{IsAcceptedCheck, IsAcceptedFitCheck, IsAcceptedKeptCheck}
 use Rattle.run_laws.proofs.LineLemmas.{lines_of-ends}
 use Rattle.run_laws.proofs.OutcomeLemmas.{IsWithinReach}
-use Rattle.run_laws.proofs.CertFileLemmas.{file-said, cert-format, fit-format}
+use Rattle.run_laws.proofs.CertFileLemmas.{IsFormat, file-said, cert-format, fit-format, kept-format}
 use Rattle.run_laws.proofs.FitLemmas.{IsTargetOfWords, fitted-one}
 use Rattle.run_laws.proofs.FitCertifyLemmas.{sound-fits}
+use Rattle.run_laws.proofs.KeepLemmas.{kept-one}
+use Rattle.run_laws.proofs.KeptCertifyLemmas.{sound-keeps}
 
 -- lines that are ended are cut into these lines again
 lines_of-lines : (lines : List (List ℕ)) → AllByRecursion IsOneLine lines →
@@ -91,30 +104,45 @@ reasons-may n worst priority before [] are = tt
 reasons-may n worst priority before (r ∷ reasons) are =
     (are.0.splittable, reasons-may n worst priority (before ++ r ∷ []) reasons are.1)
 
+-- a text of ended lines, each of which may stand at its place, is what these come to
+text-back : {S C : Type 0} (step : S → List ℕ → Option S) (start : S) (finish : S → Result C ℕ)
+    (file : List ℕ → Result C ℕ) → IsFormat step start finish file → (bytes : List ℕ) (lines : List (List ℕ)) (all : S)
+    → bytes ≡ flat_map (λ line. line ++ 10 ∷ []) lines → All IsOneLine lines → lines_from step start lines ≡ Some all
+    → file bytes ≡ finish all
+text-back step start finish file format bytes lines all ended whole read =
+    file-said step start finish file format bytes (Ok all)
+    (ap (λ (l : List ℕ). lines_behind step 1 start (lines_of l)) ended
+    ∙ (ap (λ (l : List (List ℕ)). lines_behind step 1 start l)
+    (lines_of-lines lines (recursion_from_All IsOneLine lines whole))
+    ∙ read-said step 1 start all lines read))
+
 -- a certificate of a fitted mesh is read back from its text
 pub fit-back : written.WrittenFitLinesAreRead → written.WrittenFitLinesAreEnded → written.WrittenFitLinesAreLines
     → (n : ℕ) (cert : FitCertificate) → written.IsFitCertificateOf n cert →
     fit_cert_in n (fit_cert_text cert) ≡ Ok cert
 fit-back read ended whole n cert is =
-    let all : fit.FitReadSoFar = fit.fit_read_so_far (Some cert.tolerance) true cert.needed cert.beyond in
-    let step : fit.FitReadSoFar → List ℕ → Option fit.FitReadSoFar = fit_line_in n in
-    file-said step fit.nothing_fit_read fit_cert_of (fit_cert_in n) (fit-format n) (fit_cert_text cert) (Ok all)
-    (ap (λ (l : List ℕ). lines_behind step 1 fit.nothing_fit_read (lines_of l)) (ended cert)
-    ∙ (ap (λ (l : List (List ℕ)). lines_behind step 1 fit.nothing_fit_read l)
-    (lines_of-lines (fit_cert_lines cert) (recursion_from_All IsOneLine (fit_cert_lines cert) (whole n cert is)))
-    ∙ read-said step 1 fit.nothing_fit_read all (fit_cert_lines cert) (read n cert is)))
+    text-back (fit_line_in n) fit.nothing_fit_read fit_cert_of (fit_cert_in n) (fit-format n)
+    (fit_cert_text cert) (fit_cert_lines cert)
+    (fit.fit_read_so_far (Some cert.tolerance) true cert.needed cert.beyond) (ended cert) (whole n cert is)
+    (read n cert is)
+
+-- and so is one of a mesh that keeps points
+pub kept-back : WrittenKeptLinesAreRead → WrittenKeptLinesAreEnded → WrittenKeptLinesAreLines
+    → (n : ℕ) (cert : KeptCertificate) → IsKeptCertificateOf n cert → kept_cert_in n (kept_cert_text cert) ≡ Ok cert
+kept-back read ended whole n cert is =
+    text-back (kept_line_in n) kept.nothing_kept_read kept_cert_of (kept_cert_in n) (kept-format n)
+    (kept_cert_text cert) (kept_cert_lines cert)
+    (kept.kept_read_so_far cert.needs
+    (fit.fit_read_so_far (Some cert.rest.tolerance) true cert.rest.needed cert.rest.beyond))
+    (ended cert) (whole n cert is) (read n cert is)
 
 module _ (read : WrittenLinesAreRead) (ended : WrittenLinesAreEnded) (whole : WrittenLinesAreLines) where
   -- a certificate of the grid is read back from its text
   pub cert-back : (n : ℕ) (cert : Certificate) → IsCertificateOf n cert → cert_in n (cert_text cert) ≡ Ok cert
   cert-back n cert is =
-      let all : ReadSoFar = read_so_far (Some cert.camera) cert.leaves cert.reasons in
-      file-said (cert_line_in n) nothing_read cert_of (cert_in n) (cert-format n) (cert_text cert) (Ok all)
-      (ap (λ (l : List ℕ). said_behind n 1 nothing_read (lines_of l)) (ended cert)
-      ∙ (ap (λ (l : List (List ℕ)). said_behind n 1 nothing_read l)
-      (lines_of-lines (cert_lines cert) (recursion_from_All IsOneLine (cert_lines cert) (whole n cert is)))
-      ∙ read-said (cert_line_in n) 1 nothing_read all (cert_lines cert)
-      (lines-one n nothing_read (cert_lines cert) ∙ read n cert is)))
+      text-back (cert_line_in n) nothing_read cert_of (cert_in n) (cert-format n) (cert_text cert) (cert_lines cert)
+      (read_so_far (Some cert.camera) cert.leaves cert.reasons) (ended cert) (whole n cert is)
+      (lines-one n nothing_read (cert_lines cert) ∙ read n cert is)
 
   module _ (m : Making) (grid : HeightField) (cert : Certificate) (range : (1 ≤ grid.n) × (grid.n ≤ 11))
       (near : IsWithinReach m) (made : IsMade m grid cert) where
@@ -242,5 +270,72 @@ module _ (read : written.WrittenFitLinesAreRead) (ended : written.WrittenFitLine
         ap (fit_cert_in grid.n) text ∙ fit-back read ended whole grid.n cert made-fit_certificate,
         subst (λ (t : Target). IsFitSound grid.n grid.heights (goal_of grid.n t) cert made.triangles) (sym target)
             made.sound,
+        mesh ∙ ap (λ (l : List ℕ). fit_text c.spacing grid l) same,
+      )
+
+-- and of a mesh that keeps points
+
+module _ (read : WrittenKeptLinesAreRead) (ended : WrittenKeptLinesAreEnded) (whole : WrittenKeptLinesAreLines)
+    (m : KeptMaking) (grid : HeightField) (points : List Point) (cert : KeptCertificate) (valid : IsHeightField grid)
+    (high : m.thousandths ≤ greatest_error) (inside : All (IsInSquare (2 ^ grid.n)) points)
+    (most : length points ≤ most_points grid.n) (made : IsKeptMade m points grid cert) where
+  -- a needed point is one of the grid
+  need-point : (p : Point) → IsNeed grid.n points p → IsPointOf grid.n p
+  need-point p need =
+      let in_square = All-contains (IsInSquare (2 ^ grid.n)) points p inside need.kept in
+      record { column = in_square.x; row = in_square.y }
+
+  -- what is made is a certificate of the grid
+  made-kept_certificate : IsKeptCertificateOf grid.n cert
+  made-kept_certificate =
+      let n : ℕ = grid.n in
+      let sound = made.sound in
+      let few = made.few in
+      let end = end-high n valid.n_high in
+      let leads = sound.fit.leads in
+      let side : 2 ^ n ≤ 2 ^ 11 = pow_mono valid.n_high in
+      let units : m.thousandths * 2 ^ n ≤ m.thousandths * 2 ^ 11 = mul-le-mul_left m.thousandths side in
+      let square : (2 ^ n + 1) * (2 ^ n + 1) ≤ (2 ^ n + 1) * (2 ^ 11 + 1) =
+      mul-le-mul_left (2 ^ n + 1) (omega (arith, side)) in
+      let own : cert.rest.tolerance ≡ m.thousandths * 2 ^ n / 1000 = sound.own in
+      record {
+        few = let needs = made.few_needs in omega (arith, needs, most, square, side);
+        needs = All-from_recursion (IsPointOf n) cert.needs (points-of cert.needs
+            (recursion_from_All (IsNeed n points) cert.needs leads.needs));
+        rest = record {
+          few = record {
+            in_grid = (valid.n_low, valid.n_high);
+            few_needed = omega arith;
+            few_beyond = subst (λ (l : List Off). length l ≤ MOST_REASONS) (sym sound.behind) (omega arith);
+          };
+          tolerance = omega (arith, own, units, high);
+          needed = All-from_recursion (written.IsOffOf n) cert.rest.needed
+              (leads-of n grid.heights cert.rest.tolerance leads.start cert.rest.needed sound.has leads.needed);
+          beyond = subst (λ (l : List Off). All (written.IsOffOf n) l) (sym sound.behind)
+              (All-from_recursion (written.IsOffOf n) [] tt);
+        };
+      }
+    where
+      points-of : (needs : List Point) → AllByRecursion (IsNeed grid.n points) needs →
+          AllByRecursion (IsPointOf grid.n) needs
+      points-of [] are = tt
+      points-of (p ∷ needs) are = (need-point p are.0, points-of needs are.1)
+
+  -- and a check of its text and of the text of the mesh that is fitted and keeps the points, for the same error and
+  -- points, is accepted
+  pub kept_made-accepted : (c : KeptChecking) (files : List NamedFile) (triangles : List ℕ) →
+      c.thousandths ≡ m.thousandths → IsKept m.thousandths points grid triangles →
+      points_in grid.n (bytes_of files c.points) ≡ Ok points → bytes_of files c.certificate ≡ kept_cert_text cert
+      → bytes_of files c.mesh ≡ fit_text c.spacing grid triangles → IsAcceptedKeptCheck c grid files
+  kept_made-accepted c files triangles error fitted found text mesh =
+      let same : triangles ≡ made.triangles = kept-one m.thousandths points grid triangles made.triangles fitted
+      (sound-keeps m.thousandths points grid cert made.triangles made.sound) in (
+        points,
+        cert,
+        made.triangles,
+        found,
+        ap (kept_cert_in grid.n) text ∙ kept-back read ended whole grid.n cert made-kept_certificate,
+        subst (λ (k : ℕ). IsKeptSound grid.n grid.heights points (tolerance_of grid.n k) cert made.triangles)
+            (sym error) made.sound,
         mesh ∙ ap (λ (l : List ℕ). fit_text c.spacing grid l) same,
       )

@@ -13,10 +13,10 @@ use Rattle.mesh_defs.specs.MeshText.{has_corner, vertices_of}
 use Rattle.mesh_defs.proofs.ListLemmas.{IsIn, Contains-in, some-count, Any-in, list_any-in}
 use Rattle.mesh_defs.proofs.TestLemmas.{same_tests}
 use Rattle.bintree_laws.proofs.LevelLemmas.{level-le}
-use Rattle.closure_laws.proofs.SetListLemmas.{All-in}
+use Rattle.mesh_laws.proofs.SetListLemmas.{All-in}
 use Rattle.obj_write.specs.Numbers.{number_at, numbers_of}
-use Rattle.strip_laws.specs.Strip.{strip_of}
-use Rattle.strip_laws.proofs.OrderLemmas.{leaf-strip_of, once-leaf}
+use Rattle.mesh_laws.specs.Strip.{strip_of}
+use Rattle.mesh_laws.proofs.StripOrderLemmas.{leaf-strip_of, once-leaf}
 
 -- each leaf stands in the strip
 leaf-listed : (n a : ℕ) (has : ℕ → Bool) → IsIn a (leaves_of n has) → IsIn a (strip_of n has)

@@ -23,23 +23,26 @@ use Rattle.cert_text.specs.Certificate.{Certificate}
 use Rattle.roam_gen.specs.Generated.{made_grid, made_lines}
 use Rattle.run_laws.specs.declared.status.Status.TheVariants.{Done, Usage, GridRefused}
 use Rattle.run_laws.specs.Walk.{Refusal, Walk, start_walk}
-use Rattle.word_laws.specs.Words.{Show, as_meshes, as_strips, as_least, as_measures, as_sums, is_of_engine, Scripted}
-use Rattle.word_laws.specs.Words.{Making, Target, AtError, InBudget, Job, Frames, Facts, Make, Check, Fit, Keep}
-use Rattle.word_laws.specs.Words.{MakeFit, CheckFit, fit_make_command, fit_check_command, Command, OnGrid, Generated}
-use Rattle.word_laws.specs.Words.{greatest_level, greatest_seed, number_word, try_command, within, least_budget}
-use Rattle.word_laws.specs.Words.{greatest_budget, is_coordinate, budget_word, spacing_word, tolerance_word, is_prefix}
-use Rattle.word_laws.specs.Words.{in_reach, coordinate_word, camera_word, frames_command, least_command, meshes_command}
-use Rattle.word_laws.specs.Words.{make_command, check_command, greatest_error, error_word, target_word, fit_command}
-use Rattle.word_laws.specs.Words.{fit_words, keep_command, keep_words, command_of}
-use Rattle.fit_certificate_laws.specs.Certificate.{FitCertificate}
-use Rattle.run_laws.specs.CertFile.{cert_in, fit_cert_in}
+use Rattle.run_words.specs.Words.{Show, as_meshes, as_strips, as_least, as_measures, as_sums, is_of_engine, Scripted}
+use Rattle.run_words.specs.Words.{Making, Target, AtError, InBudget, Job, Frames, Facts, Make, Check, Fit, Keep}
+use Rattle.run_words.specs.Words.{MakeFit, CheckFit, MakeKept, CheckKept, fit_make_command, fit_check_command, Command}
+use Rattle.run_words.specs.Words.{OnGrid, Generated, kept_error_word, kept_make_command, kept_check_command, ten_command}
+use Rattle.run_words.specs.Words.{greatest_level, greatest_seed, number_word, try_command, within, least_budget}
+use Rattle.run_words.specs.Words.{greatest_budget, is_coordinate, budget_word, spacing_word, tolerance_word, is_prefix}
+use Rattle.run_words.specs.Words.{in_reach, coordinate_word, camera_word, frames_command, least_command, meshes_command}
+use Rattle.run_words.specs.Words.{make_command, check_command, greatest_error, error_word, target_word, fit_command}
+use Rattle.run_words.specs.Words.{fit_words, keep_command, keep_words, command_of}
+use Rattle.certificate_laws.specs.FitCertificate.{FitCertificate}
+use Rattle.certificate_laws.specs.Keeping.{KeptCertificate}
+use Rattle.run_laws.specs.CertFile.{cert_in, fit_cert_in, kept_cert_in}
 use Rattle.run_laws.specs.PointFile.{points_in}
 use Rattle.run_laws.specs.Picture.{Picture, ArePictures, IsCertified}
 use Rattle.run_laws.specs.ReportText.{info_line, grid_refusal}
 use Rattle.run_laws.specs.Outcome.{Outcome, plain_outcome, text_outcome, stop_status, engine_end, engine_for}
 use Rattle.run_laws.specs.Outcome.{frames_outcome, script_walk, made_budget, made_spacing, made_walk}
 use Rattle.run_laws.specs.Outcome.{MakesNoCertificate, IsFramesOutcome, IsCheckOutcome, IsFitCheckOutcome, IsJobOutcome}
-use Rattle.run_laws.specs.Outcome.{IsKeepOutcome, IsGridOutcome, IsOutcome}
+use Rattle.run_laws.specs.Outcome.{IsKeepOutcome, IsKeptMakeOutcome, IsKeptCertOutcome, IsKeptCheckOutcome}
+use Rattle.run_laws.specs.Outcome.{IsGridOutcome, IsOutcome}
 use Rattle.run_laws.specs.Promise.{IsAcceptedJob, IsAccepted}
 use Rattle.run_laws.specs.Laws.{FramesExist, RunsAreUnique, LevelsAreInRange, AreStates, BudgetsAreTwo}
 use Rattle.run_laws.proofs.PictureLemmas.{FramesAreUnique, SetsAreLists, ArePictures-unique, pictures_of, no-members}
@@ -49,6 +52,8 @@ use Rattle.run_laws.proofs.FitLemmas.{IsTargetOfWords, fit-unique, fit-exists}
 use Rattle.run_laws.proofs.KeepLemmas.{keep-unique, keep-exists, keep-done, keep-plain}
 use Rattle.run_laws.proofs.FitCertifyLemmas.{fit_make-text, fit_check-text, fit_check-unique, fit_check-exists}
 use Rattle.run_laws.proofs.FitCertifyLemmas.{fit_check-done, fit_make-exists}
+use Rattle.run_laws.proofs.KeptCertifyLemmas.{kept_make-text, kept_make-exists, kept_make-done, kept_check-text}
+use Rattle.run_laws.proofs.KeptCertifyLemmas.{kept_check-unique, kept_check-exists, kept_check-done}
 use Rattle.run_laws.proofs.WalkLemmas.{walk_of-states, made-states, along-stop}
 
 -- what is accepted ends with Done
@@ -72,6 +77,15 @@ job-done (MakeFit m) grid files end good is = status-of end _ is.2
 job-done (CheckFit c) grid files end good is =
     let P : Result FitCertificate ℕ → Type 0 = λ r. IsFitCheckOutcome c grid r (bytes_of files c.mesh) end in
     fit_check-done c grid good.0 good.1 (bytes_of files c.mesh) end good.3 good.4 (subst P good.2 is)
+job-done (MakeKept m) grid files end good is =
+    let P : Result (List Point) Refusal → Type 0 = λ r. IsKeptMakeOutcome m grid r end in
+    kept_make-done m grid good.0 end (subst P good.1 is)
+job-done (CheckKept c) grid files end (points, cert, triangles, found, read, sound, same) is =
+    let mesh : List ℕ = bytes_of files c.mesh in
+    let answer : Result KeptCertificate ℕ = kept_cert_in grid.n (bytes_of files c.certificate) in
+    let P : Result (List Point) Refusal → Type 0 = λ r. IsKeptCheckOutcome c grid r answer mesh end in
+    let Q : Result KeptCertificate ℕ → Type 0 = λ r. IsKeptCertOutcome c points grid r mesh end in
+    kept_check-done c points grid cert triangles mesh end sound same (subst Q read (subst P found is))
 
 said-done : TextsAreRead → (said : Option Command) (files : List NamedFile) (end : Outcome) →
     IsAccepted said files → IsOutcome said files end → end.status ≡ Done
@@ -116,6 +130,10 @@ job-unique one lists runs (Keep k) (Ok grid) files end other free f g =
 job-unique one lists runs (MakeFit m) (Ok grid) files end other free f g = absurd free
 job-unique one lists runs (CheckFit c) (Ok grid) files end other free f g =
     fit_check-unique c grid (fit_cert_in grid.n (bytes_of files c.certificate)) (bytes_of files c.mesh) end other f g
+job-unique one lists runs (MakeKept m) (Ok grid) files end other free f g = absurd free
+job-unique one lists runs (CheckKept c) (Ok grid) files end other free f g =
+    kept_check-unique c grid (points_in grid.n (bytes_of files c.points))
+    (kept_cert_in grid.n (bytes_of files c.certificate)) (bytes_of files c.mesh) end other f g
 job-unique one lists runs (Frames s) (Err fault) files end other free f g = f ∙ sym g
 job-unique one lists runs Facts (Err fault) files end other free f g = f ∙ sym g
 job-unique one lists runs (Make m) (Err fault) files end other free f g = f ∙ sym g
@@ -124,6 +142,8 @@ job-unique one lists runs (Fit job) (Err fault) files end other free f g = f ∙
 job-unique one lists runs (Keep k) (Err fault) files end other free f g = f ∙ sym g
 job-unique one lists runs (MakeFit m) (Err fault) files end other free f g = f ∙ sym g
 job-unique one lists runs (CheckFit c) (Err fault) files end other free f g = f ∙ sym g
+job-unique one lists runs (MakeKept m) (Err fault) files end other free f g = f ∙ sym g
+job-unique one lists runs (CheckKept c) (Err fault) files end other free f g = f ∙ sym g
 
 words-unique : FramesAreUnique → SetsAreLists → RunsAreUnique →
     (command : Option Command) (files : List NamedFile) (end other : Outcome)
@@ -165,6 +185,13 @@ job-engine one lists runs (MakeFit m) (Ok grid) files end other f g = engine-of 
 job-engine one lists runs (MakeFit m) (Err fault) files end other f g = engine-of end other (f ∙ sym g)
 job-engine one lists runs (CheckFit c) r files end other f g =
     engine-of end other (job-unique one lists runs (CheckFit c) r files end other tt f g)
+job-engine one lists runs (MakeKept m) (Ok grid) files end other f g =
+    let answer : Result (List Point) Refusal = points_in grid.n (bytes_of files m.points) in
+    engine-of end _ (kept_make-text m grid answer end f).3
+    ∙ sym (engine-of other _ (kept_make-text m grid answer other g).3)
+job-engine one lists runs (MakeKept m) (Err fault) files end other f g = engine-of end other (f ∙ sym g)
+job-engine one lists runs (CheckKept c) r files end other f g =
+    engine-of end other (job-unique one lists runs (CheckKept c) r files end other tt f g)
 
 words-engine : FramesAreUnique → SetsAreLists → RunsAreUnique →
     (command : Option Command) (files : List NamedFile) (end other : Outcome)
@@ -248,6 +275,8 @@ HasBudget (Fit f) = IsTargetOfWords f.target
 HasBudget (Keep k) = Unit {0}
 HasBudget (MakeFit m) = IsTargetOfWords m.target
 HasBudget (CheckFit c) = Unit {0}
+HasBudget (MakeKept m) = m.thousandths ≤ greatest_error
+HasBudget (CheckKept c) = Unit {0}
 
 abbrev CommandHasBudget : Command → Type 0
 CommandHasBudget (OnGrid name job) = HasBudget job
@@ -407,9 +436,26 @@ keep_command-budget i j (Some thousandths) (Some spacing) k command is =
 keep_words-budget : (i j k l m o p : List ℕ) (command : Command) → keep_words i j k l m o p ≡ Some command →
     CommandHasBudget command
 keep_words-budget i j k l m o p command is =
-    keep_command-budget i j (error_word l) (spacing_word m) p command
-    (met (is_prefix j && (bytes_eq k (codes "error") && bytes_eq o (codes "keep")))
-    (keep_command i j (error_word l) (spacing_word m) p) command is)
+    let error : Option ℕ = kept_error_word k l o in
+    keep_command-budget i j error (spacing_word m) p command
+    (met (is_prefix j) (keep_command i j error (spacing_word m) p) command is)
+
+kept_make_command-budget : (i : List ℕ) (thousandths spacing : Option ℕ) (k : List ℕ) (command : Command) →
+    ((number : ℕ) → thousandths ≡ Some number → number ≤ greatest_error)
+    → kept_make_command i thousandths spacing k ≡ Some command → CommandHasBudget command
+kept_make_command-budget i None spacing k command high is = absurd (none-some command is)
+kept_make_command-budget i (Some thousandths) None k command high is = absurd (none-some command is)
+kept_make_command-budget i (Some thousandths) (Some spacing) k command high is =
+    let P : Option Command → Type 0 = λ c. IfSome c CommandHasBudget in
+    subst P is (high thousandths refl)
+
+kept_check_command-budget : (i j k : List ℕ) (thousandths spacing : Option ℕ) (l : List ℕ) (command : Command) →
+    kept_check_command i j k thousandths spacing l ≡ Some command → CommandHasBudget command
+kept_check_command-budget i j k None spacing l command is = absurd (none-some command is)
+kept_check_command-budget i j k (Some thousandths) None l command is = absurd (none-some command is)
+kept_check_command-budget i j k (Some thousandths) (Some spacing) l command is =
+    let P : Option Command → Type 0 = λ c. IfSome c CommandHasBudget in
+    subst P is tt
 
 fit_make_command-budget : (i : List ℕ) (target : Option Target) (spacing : Option ℕ) (command : Command) →
     ((t : Target) → target ≡ Some t → IsTargetOfWords t)
@@ -466,7 +512,11 @@ words-budget (word ∷ (i ∷ (j ∷ (k ∷ (l ∷ (m ∷ (o ∷ (p ∷ []))))))
     let checks : Bool = bytes_eq word (codes "certify") && bytes_eq i (codes "check-fit") in
     let checked : Option Command = fit_check_command j k l target (spacing_word p) in
     let kept : Option Command = keep_words i j k l m o p in
-    let behind : Option Command = if bytes_eq word (codes "fit") then kept else None in
+    let makes : Bool = bytes_eq word (codes "certify") && bytes_eq i (codes "make-fit") in
+    let error : Option ℕ = kept_error_word k l o in
+    let made : Option Command = kept_make_command j error (spacing_word m) p in
+    let last : Option Command = if makes then made else None in
+    let behind : Option Command = if bytes_eq word (codes "fit") then kept else last in
     elim (either (bytes_eq word (codes "certify") && bytes_eq i (codes "make"))
     (make_command j place (budget_word o) (spacing_word p))
     (if checks then checked else behind) command is) [
@@ -476,10 +526,21 @@ words-budget (word ∷ (i ∷ (j ∷ (k ∷ (l ∷ (m ∷ (o ∷ (p ∷ []))))))
           (λ number found. within-range least_budget greatest_budget number (number_in 19 o) found) f
       | inr f ↦ elim (either checks checked behind command f) [
         | inl q ↦ fit_check_command-budget j k l target (spacing_word p) command q
-        | inr q ↦ keep_words-budget i j k l m o p command (met (bytes_eq word (codes "fit")) kept command q)
+        | inr q ↦ elim (either (bytes_eq word (codes "fit")) kept last command q) [
+          | inl r ↦ keep_words-budget i j k l m o p command r
+          | inr r ↦ kept_make_command-budget j error (spacing_word m) p command
+              (λ number found. (within-range 0 greatest_error number (thousandths_in l)
+              (met (bytes_eq k (codes "error") && bytes_eq o (codes "keep")) (error_word l) number found)).1)
+              (met makes made command r)
+        ]
       ]
     ]
-words-budget (word ∷ (i ∷ (j ∷ (k ∷ (l ∷ (m ∷ (o ∷ (p ∷ (more ∷ words))))))))) command is =
+words-budget (word ∷ (i ∷ (j ∷ (k ∷ (l ∷ (m ∷ (o ∷ (p ∷ (q ∷ []))))))))) command is = absurd (none-some command is)
+words-budget (word ∷ (i ∷ (j ∷ (k ∷ (l ∷ (m ∷ (o ∷ (p ∷ (q ∷ (r ∷ [])))))))))) command is =
+    let checked : Option Command = kept_check_command j k l (kept_error_word m o q) (spacing_word p) r in
+    kept_check_command-budget j k l (kept_error_word m o q) (spacing_word p) r command
+    (met (bytes_eq word (codes "certify") && bytes_eq i (codes "check-fit")) checked command is)
+words-budget (word ∷ (i ∷ (j ∷ (k ∷ (l ∷ (m ∷ (o ∷ (p ∷ (q ∷ (r ∷ (more ∷ words))))))))))) command is =
     absurd (none-some command is)
 
 -- the budget of a job of words is at least 2
@@ -555,6 +616,11 @@ job-exists two frames made (Keep k) (Ok grid) files low range =
 job-exists two frames made (MakeFit m) (Ok grid) files low range = fit_make-exists m grid files low
 job-exists two frames made (CheckFit c) (Ok grid) files low range =
     fit_check-exists c grid (fit_cert_in grid.n (bytes_of files c.certificate)) (bytes_of files c.mesh)
+job-exists two frames made (MakeKept m) (Ok grid) files low range =
+    kept_make-exists m grid (points_in grid.n (bytes_of files m.points))
+job-exists two frames made (CheckKept c) (Ok grid) files low range =
+    kept_check-exists c grid (points_in grid.n (bytes_of files c.points))
+    (kept_cert_in grid.n (bytes_of files c.certificate)) (bytes_of files c.mesh)
 job-exists two frames made (Frames s) (Err fault) files low range =
     (text_outcome (grid_refusal fault) GridRefused 1, refl)
 job-exists two frames made Facts (Err fault) files low range = (text_outcome (grid_refusal fault) GridRefused 1, refl)
@@ -568,6 +634,10 @@ job-exists two frames made (Keep k) (Err fault) files low range =
 job-exists two frames made (MakeFit m) (Err fault) files low range =
     (text_outcome (grid_refusal fault) GridRefused 1, refl)
 job-exists two frames made (CheckFit c) (Err fault) files low range =
+    (text_outcome (grid_refusal fault) GridRefused 1, refl)
+job-exists two frames made (MakeKept m) (Err fault) files low range =
+    (text_outcome (grid_refusal fault) GridRefused 1, refl)
+job-exists two frames made (CheckKept c) (Err fault) files low range =
     (text_outcome (grid_refusal fault) GridRefused 1, refl)
 
 words-exist : BudgetsAreTwo → FramesExist → CertificatesExist → LevelsAreInRange →
@@ -644,12 +714,20 @@ job-certified two one (MakeFit m) (Ok grid) files end low some is =
 job-certified two one (CheckFit c) (Ok grid) files end low some is =
     text-certified end
     (fit_check-text c grid (fit_cert_in grid.n (bytes_of files c.certificate)) (bytes_of files c.mesh) end is)
+job-certified two one (MakeKept m) (Ok grid) files end low some is =
+    text-certified end (kept_make-text m grid (points_in grid.n (bytes_of files m.points)) end is)
+job-certified two one (CheckKept c) (Ok grid) files end low some is =
+    text-certified end
+    (kept_check-text c grid (points_in grid.n (bytes_of files c.points))
+    (kept_cert_in grid.n (bytes_of files c.certificate)) (bytes_of files c.mesh) end is)
 job-certified two one (Make m) (Err fault) files end low some is = text-certified end (refused-text fault end is)
 job-certified two one (Check c) (Err fault) files end low some is = text-certified end (refused-text fault end is)
 job-certified two one (Fit f) (Err fault) files end low some is = text-certified end (refused-text fault end is)
 job-certified two one (Keep k) (Err fault) files end low some is = text-certified end (refused-text fault end is)
 job-certified two one (MakeFit m) (Err fault) files end low some is = text-certified end (refused-text fault end is)
 job-certified two one (CheckFit c) (Err fault) files end low some is = text-certified end (refused-text fault end is)
+job-certified two one (MakeKept m) (Err fault) files end low some is = text-certified end (refused-text fault end is)
+job-certified two one (CheckKept c) (Err fault) files end low some is = text-certified end (refused-text fault end is)
 
 words-certified : BudgetsAreTwo → MeshesAreCertified →
     (command : Option Command) (files : List NamedFile) (end : Outcome) →

@@ -12,13 +12,13 @@ use Rattle.mesh_defs.specs.State.{State, priority_in}
 use Rattle.mesh_defs.specs.View.{View}
 use Rattle.bintree_addr.specs.declared.blocked.Blocked.{Blocked}
 use Rattle.mesh_defs.specs.Falling.{IsFalling}
-use Rattle.closure_laws.specs.Frame.{IsFrame}
-use Rattle.frame_steps.specs.Steps.{IsFrameRun}
-use Rattle.closure_laws.proofs.ClosureLemmas.{nothing_closed, IsLeastClosed-unique, IsLeastClosed-same}
-use Rattle.closure_laws.proofs.SetListLemmas.{list_of, ascending-list_of, among-list_of}
-use Rattle.least_laws.specs.Least.{is_worse, IsLeastMesh}
-use Rattle.least_laws.proofs.LeastLemmas.{least_found, least_list-mesh}
-use Rattle.word_laws.specs.Words.{Criterion, OfBudget, OfTolerance, TriangleOrder, Output, Show, is_of_engine}
+use Rattle.mesh_laws.specs.Frame.{IsFrame}
+use Rattle.mesh_laws.specs.Steps.{IsFrameRun}
+use Rattle.mesh_laws.proofs.ClosureLemmas.{nothing_closed, IsLeastClosed-unique, IsLeastClosed-same}
+use Rattle.mesh_laws.proofs.SetListLemmas.{list_of, ascending-list_of, among-list_of}
+use Rattle.mesh_laws.specs.Least.{is_worse, IsLeastMesh}
+use Rattle.mesh_laws.proofs.LeastLemmas.{least_found, least_list-mesh}
+use Rattle.run_words.specs.Words.{Criterion, OfBudget, OfTolerance, TriangleOrder, Output, Show, is_of_engine}
 use Rattle.run_laws.specs.Picture.{Picture, IsLeastFrame, IsFrameFor, IsChangeFor, IsPicture, ArePictures, last_members}
 use Rattle.run_laws.specs.Picture.{IsCertified}
 use Rattle.run_laws.specs.Laws.{FramesExist, RunsAreUnique, SetsStayClosed, AreStates}

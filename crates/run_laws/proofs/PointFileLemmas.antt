@@ -2,14 +2,16 @@
 -- whole file is.
 use Rattle.std.proofs.Common.{◌≡◌, ◌≢◌, ℕ, ◌+◌, ◌<◌, List, [], ◌∷◌, ◌++◌, take, drop, length, Option}
 use Rattle.std.proofs.Common.{None, Some, Result, Ok, Err, refl, sym, ◌∙◌, ap, subst, inl, inr, arith}
-use Rattle.std.proofs.Common.{append_assoc, append-nil, length-append, All, ◌^◌}
+use Rattle.std.proofs.Common.{append_assoc, append-nil, length-append, All, ◌^◌, ◌≤◌, ◌*◌, ⊎_elim}
+use Rattle.std.proofs.lemmas.Bool.{cases_lt}
 use Rattle.std.proofs.lemmas.List.Elements.{All-from_recursion, All-nil, All-cons, All-append}
 use Rattle.mesh_defs.specs.declared.point.Point.{Point}
 use Rattle.bintree_laws.specs.Corners.{IsInSquare}
 use Rattle.roam_edge.specs.Shelf.{NamedFile, bytes_of}
 use Rattle.roam_script.specs.declared.limits.TheConstants.{MOST_LINE_BYTES}
 use Rattle.roam_script.specs.declared.script_fault.ScriptFault.{ScriptFault}
-use Rattle.roam_script.specs.PointText.{most_points, point_in, PointsAreInGrid}
+use Rattle.roam_script.specs.declared.script_fault.ScriptFault.TheVariants.{TooManyLines}
+use Rattle.roam_script.specs.PointText.{most_points, point_in, PointsAreInGrid, LatePointsAreTooMany}
 use Rattle.run_laws.specs.Walk.{Refusal, lines_of}
 use Rattle.run_laws.specs.PointFile.{with_point, points_behind, points_in, PointPlace, HavePointsCome, PointsHaveRead}
 use Rattle.run_laws.proofs.LineLemmas.{NoEnd, no_end, no_end-append, lines_of-ends, lines_of-last, lines_of-begins}
@@ -97,6 +99,45 @@ pub points-in_grid : PointsAreInGrid → (n : ℕ) (bytes : List ℕ) (points : 
 points-in_grid law n bytes points is =
     behind-in_grid law n 1 [] points (lines_of bytes) (All-nil (λ p. IsInSquare (2 ^ n) p))
     (sym (points-lines n bytes) ∙ is)
+
+-- and there are no more than the grid has
+
+-- there are no more points than lines, and no more lines than there may be
+behind-few : LatePointsAreTooMany → (n number : ℕ) (points last : List Point) (lines : List (List ℕ)) →
+    length points + 1 ≤ number → number ≤ most_points n + 1 → points_behind n number points lines ≡ Ok last →
+    length last ≤ most_points n
+behind-few law n number points last [] few most is =
+    let same = ap (λ (l : List Point). length l) (same-points points last is) in
+    omega (arith, few, most, same)
+behind-few law n number points last (x ∷ lines) few most is =
+    go (point_in n number x) refl
+    (λ at. behind-few law n (number + 1) (with_point points at) last lines) is
+  where
+    more : (at : Option Point) → length (with_point points at) + 1 ≤ number + 1
+    more None = omega (arith, few)
+    more (Some at) = let e = length-append points (at ∷ []) in omega (arith, few, e)
+
+    fits : (answer : Option Point) → point_in n number x ≡ Ok answer → number ≤ most_points n
+    fits answer read = ⊎_elim
+        (λ late. absurd (differ (sym ((law n number x).1 late) ∙ read)))
+        (λ in_time. in_time)
+        (cases_lt (most_points n) number)
+      where
+        differ : (let late : Result (Option Point) ScriptFault = Err TooManyLines in late) ≡ Ok answer → ⊥
+        differ e = cc
+
+    go : (answer : Result (Option Point) ScriptFault) → point_in n number x ≡ answer →
+        ((at : Option Point) → length (with_point points at) + 1 ≤ number + 1 → number + 1 ≤ most_points n + 1 →
+        points_behind n (number + 1) (with_point points at) lines ≡ Ok last → length last ≤ most_points n)
+        → points_next n number points lines answer ≡ Ok last → length last ≤ most_points n
+    go (Err why) read rest e = absurd (no-refusal (refusal_at number why) last e)
+    go (Ok at) read rest e = rest at (more at) (let fit = fits at read in omega (arith, fit)) e
+
+-- a file has no more points than the grid
+pub points-few : LatePointsAreTooMany → (n : ℕ) (bytes : List ℕ) (points : List Point) → points_in n bytes ≡ Ok points →
+    length points ≤ most_points n
+points-few law n bytes points is =
+    behind-few law n 1 [] points (lines_of bytes) (omega arith) (omega arith) (sym (points-lines n bytes) ∙ is)
 
 -- the place that was reached
 

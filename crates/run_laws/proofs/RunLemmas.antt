@@ -7,9 +7,9 @@ use Rattle.roam_edge.specs.Fault.{Rose, next_count, IsInTime}
 use Rattle.roam_edge.specs.Shelf.{NamedFile, bytes_of}
 use Rattle.run_laws.specs.declared.status.Status.{Status}
 use Rattle.run_laws.specs.declared.status.Status.TheVariants.{Done, NoMemory, Usage, GridRefused, ReadFault, WriteFault}
-use Rattle.run_laws.specs.declared.status.Status.TheVariants.{Rejected}
-use Rattle.word_laws.specs.Words.{Show, Scripted, Job, Command, OnGrid, is_check, is_of_engine, Frames, Facts, Make}
-use Rattle.word_laws.specs.Words.{Check, Fit, Keep, MakeFit, CheckFit, names_of, file_count}
+use Rattle.run_laws.specs.declared.status.Status.TheVariants.{ScriptRefused, Rejected}
+use Rattle.run_words.specs.Words.{Show, Scripted, Job, Command, OnGrid, is_check, is_of_engine, Frames, Facts, Make}
+use Rattle.run_words.specs.Words.{Check, Fit, Keep, MakeFit, CheckFit, MakeKept, CheckKept, names_of, file_count}
 use Rattle.mesh_defs.specs.HeightField.{HeightField}
 use Rattle.pgm_grid.specs.declared.fault.PgmFault.{PgmFault}
 use Rattle.pgm_grid.specs.Progress.{grid_of}
@@ -59,6 +59,8 @@ none-unended name (Fit f) status is = refl
 none-unended name (Keep k) status is = refl
 none-unended name (MakeFit m) status is = refl
 none-unended name (CheckFit c) status is = refl
+none-unended name (MakeKept m) status is = refl
+none-unended name (CheckKept c) status is = refl
 
 -- a command on a grid names a file
 names-some : (name : List ℕ) (job : Job) → nat_lt 0 (length (names_of (OnGrid name job))) ≡ true
@@ -70,6 +72,8 @@ names-some name (Fit f) = refl
 names-some name (Keep k) = refl
 names-some name (MakeFit m) = refl
 names-some name (CheckFit c) = refl
+names-some name (MakeKept m) = refl
+names-some name (CheckKept c) = refl
 
 in-time-then : (late middle last : Bool) (faults : ℕ) → IsInTime late faults middle → last ≡ middle →
     IsInTime late faults last
@@ -88,6 +92,8 @@ most-named name (Fit f) = omega arith
 most-named name (Keep k) = omega arith
 most-named name (MakeFit m) = omega arith
 most-named name (CheckFit c) = omega arith
+most-named name (MakeKept m) = omega arith
+most-named name (CheckKept c) = omega arith
 
 -- reading calls no sink of meshes
 reads-no-mesh : (before now : Moment) → OnlyReads before now → SameMeshes before now
@@ -566,7 +572,7 @@ command-not-usage before now command status left runs is =
 -- A command that reads further files behind its grid, as a check does.
 
 -- a file was opened, and no read of it failed
-pub opens-one : (before now : Moment) → before.shelf.opens ≤ 2 ^ 63 + 2 → OnlyReads before now
+pub opens-one : (before now : Moment) → before.shelf.opens ≤ 2 ^ 63 + 3 → OnlyReads before now
     → now.shelf.opens ≡ next_count before.shelf.opens → now.shelf_faults ≡ before.shelf_faults
     → IsInTime before.shelf_late before.shelf_faults now.shelf_late → HasOpened before now 1
 opens-one before now low only opens faults in_time =
@@ -613,34 +619,34 @@ tells-as {before = before} {now = now} {text = text} {meant = meant} {status = s
     (subst (λ (t : List ℕ). TellsLast before now t meant status) same tells)
 
 module _ (before middle last now : Moment) (name : List ℕ) (job : Job) (grid : HeightField) (more : ℕ)
-    (text : List ℕ) (status : Status)
-    (read : ReadsGrid before middle name grid) (behind : HasOpened middle last more)
-    (three : file_count (Some (OnGrid name job)) ≡ 3) where
+    (status : Status) (read : ReadsGrid before middle name grid) (behind : HasOpened middle last more) where
   abbrev job-command : Option Command
   job-command = Some (OnGrid name job)
 
   all-opened : HasOpened before last (1 + more)
   all-opened = opens-then before middle last 1 more read.opened behind
 
-  job-ends : (meant : Status)
+  job-ends : (meant : Status) (acts : List Act)
       → ((files : List NamedFile) → middle.shelf.files ≡ Some files →
-      IsJobOutcome job grid files (text_outcome text meant (1 + more)))
+      IsJobOutcome job grid files (plain_outcome acts meant (1 + more)))
       → (files : List NamedFile) → before.shelf.files ≡ Some files
-      → IsCommandOutcome (OnGrid name job) files (text_outcome text meant (1 + more))
-  job-ends meant outcome files told =
-      subst (λ (r : Result HeightField PgmFault). IsGridOutcome job r files (text_outcome text meant (1 + more)))
+      → IsCommandOutcome (OnGrid name job) files (plain_outcome acts meant (1 + more))
+  job-ends meant acts outcome files told =
+      subst (λ (r : Result HeightField PgmFault). IsGridOutcome job r files (plain_outcome acts meant (1 + more)))
       (sym (read.is_grid files told)) (outcome files (read.opened.only.files ∙ told))
 
-  -- a check ended with the line that a mesh is certified, and read its three files
-  pub certified-runs : more ≡ 2 → HasEnded last.shelf → leaves_engine job-command Done ≡ false
+  -- a command that read all its files ended with the acts of its job
+  pub whole-runs : (acts : List Act) → 1 + more ≡ file_count job-command → HasEnded last.shelf
+      → leaves_engine job-command Done ≡ false
+      → (IsTrue (is_of_text job-command) → meshes_of acts ≡ [])
       → ((files : List NamedFile) → middle.shelf.files ≡ Some files →
-      IsJobOutcome job grid files (text_outcome text Done (1 + more)))
-      → TellsLast last now text Done status → Runs before now job-command status None
-  certified-runs two ended left outcome tells =
-      text-runs before last now name job (1 + more) all-opened text Done (job-ends Done outcome) status tells
-      (omega arith) (omega (arith, two, three)) refl refl left
+      IsJobOutcome job grid files (plain_outcome acts Done (1 + more)))
+      → EndsWith last now acts Done status → Runs before now job-command status None
+  whole-runs acts whole ended left no_mesh outcome ends =
+      acts-run before last now name job (1 + more) all-opened acts Done (job-ends Done acts outcome) no_mesh status ends
+      (omega arith) (omega (arith, whole)) refl refl left
       (record {
-        done = λ e. omega (arith, all-opened.opens, two, three);
+        done = λ e. omega (arith, all-opened.opens, whole);
         script_refused = λ e. cc;
         grid_refused = λ e. cc;
         usage = λ e. cc;
@@ -648,20 +654,29 @@ module _ (before middle last now : Moment) (name : List ℕ) (job : Job) (grid :
         write_fault = λ e. cc;
         rejected = λ e. cc;
         least = omega (arith, all-opened.opens);
-        most = omega (arith, all-opened.opens, two, three);
+        most = omega (arith, all-opened.opens, whole);
       })
       (λ e. ended)
 
+  -- a check ended with the line that a mesh is certified
+  pub certified-runs : (text : List ℕ) → 1 + more ≡ file_count job-command → HasEnded last.shelf
+      → leaves_engine job-command Done ≡ false
+      → ((files : List NamedFile) → middle.shelf.files ≡ Some files →
+      IsJobOutcome job grid files (text_outcome text Done (1 + more)))
+      → TellsLast last now text Done status → Runs before now job-command status None
+  certified-runs text whole ended left outcome tells =
+      whole-runs (ReportText text ∷ []) whole ended left (λ text_alone. refl) outcome tells
+
   -- a check ended with the line that it rejects its certificate or its mesh
-  pub rejected-runs : 1 ≤ more → more ≤ 2 → IsTrue (is_check (OnGrid name job)) →
-      leaves_engine job-command Rejected ≡ false
+  pub rejected-runs : (text : List ℕ) → 1 ≤ more → 1 + more ≤ file_count job-command
+      → IsTrue (is_check (OnGrid name job)) → leaves_engine job-command Rejected ≡ false
       → ((files : List NamedFile) → middle.shelf.files ≡ Some files →
       IsJobOutcome job grid files (text_outcome text Rejected (1 + more)))
       → TellsLast last now text Rejected status → Runs before now job-command status None
-  rejected-runs some most check left outcome tells =
+  rejected-runs text some most check left outcome tells =
       text-runs before last now name job (1 + more) all-opened text Rejected
-      (job-ends Rejected outcome) status tells
-      (omega arith) (omega (arith, most, three)) refl check left
+      (job-ends Rejected (ReportText text ∷ []) outcome) status tells
+      (omega arith) most refl check left
       (record {
         done = λ e. cc;
         script_refused = λ e. cc;
@@ -671,6 +686,29 @@ module _ (before middle last now : Moment) (name : List ℕ) (job : Job) (grid :
         write_fault = λ e. cc;
         rejected = λ e. omega (arith, all-opened.opens, some);
         least = omega (arith, all-opened.opens);
-        most = omega (arith, all-opened.opens, most, three);
+        most = omega (arith, all-opened.opens, most);
+      })
+      (λ e. cc)
+
+  -- a command ended with the line that its second file is refused
+  pub second-refused : (text : List ℕ) → more ≡ 1 → 2 ≤ file_count job-command
+      → IsTrue (may_end job-command ScriptRefused) → leaves_engine job-command ScriptRefused ≡ false
+      → ((files : List NamedFile) → middle.shelf.files ≡ Some files →
+      IsJobOutcome job grid files (text_outcome text ScriptRefused (1 + more)))
+      → TellsLast last now text ScriptRefused status → Runs before now job-command status None
+  second-refused text one two allowed left outcome tells =
+      text-runs before last now name job (1 + more) all-opened text ScriptRefused
+      (job-ends ScriptRefused (ReportText text ∷ []) outcome) status tells
+      (omega arith) (omega (arith, one, two)) refl allowed left
+      (record {
+        done = λ e. cc;
+        script_refused = λ e. omega (arith, all-opened.opens, one);
+        grid_refused = λ e. cc;
+        usage = λ e. cc;
+        read_fault = λ e. cc;
+        write_fault = λ e. cc;
+        rejected = λ e. cc;
+        least = omega (arith, all-opened.opens);
+        most = omega (arith, all-opened.opens, one, two);
       })
       (λ e. cc)

@@ -7,7 +7,7 @@ use Rattle.roam_edge.specs.Shelf.{NamedFile}
 use Rattle.run_laws.specs.declared.status.Status.{Status}
 use Rattle.run_laws.specs.declared.status.Status.TheVariants.{Done, NoMemory, Usage, GridRefused, ScriptRefused}
 use Rattle.run_laws.specs.declared.status.Status.TheVariants.{ReadFault, WriteFault, Rejected}
-use Rattle.word_laws.specs.Words.{Command, command_of}
+use Rattle.run_words.specs.Words.{Command, command_of}
 use Rattle.run_laws.specs.Act.{Act, ReportText, IsCutShort}
 use Rattle.run_laws.specs.Cause.{StatusHasCause}
 use Rattle.run_laws.specs.Outcome.{EngineEnd, Outcome}

@@ -10,7 +10,7 @@ use Rattle.roam_script.specs.declared.script_fault.ScriptFault.{ScriptFault}
 use Rattle.roam_script.specs.LineText.{line_in}
 use Rattle.run_laws.specs.Walk.{Walk, limits_of, shown_by, after_line, refused_walk, after_text, walk_lines, walk_of}
 use Rattle.run_laws.specs.Walk.{lines_of, HasBegun}
-use Rattle.word_laws.specs.Words.{Show, Scripted}
+use Rattle.run_words.specs.Words.{Show, Scripted}
 use Rattle.run_laws.specs.Picture.{Picture, IsPicture, ArePictures, last_members}
 use Rattle.run_laws.specs.Act.{Act, ReportText, Told, Stands, IsCutShort}
 use Rattle.run_laws.specs.ReportText.{line_refusal}

@@ -8,13 +8,13 @@ use Rattle.mesh_defs.specs.Triangle.{corners_of, IsEdge}
 use Rattle.mesh_defs.specs.ClosedSet.{IsClosed, leaves_of}
 use Rattle.mesh_defs.proofs.PointLemmas.{same_point-eq, eq-same_point}
 use Rattle.mesh_defs.proofs.ListLemmas.{IsIn, Contains-in, count-cons, count-yes, count-some}
-use Rattle.strip_laws.specs.declared.edge.Edge.{Edge}
-use Rattle.strip_laws.specs.declared.edge.Edge.TheVariants.{LeftLeg, Base, RightLeg}
-use Rattle.strip_laws.specs.Strip.{strip_of}
-use Rattle.strip_laws.specs.Turn.{edge_from, edge_to, HasEdgeBack, next, last, IsLeftTurn, IsRightTurn, HasTurns, none}
-use Rattle.strip_laws.specs.Turn.{left, right}
-use Rattle.strip_laws.proofs.OrderLemmas.{leaf-strip_of, strip-once}
-use Rattle.strip_laws.proofs.ExclusiveLemmas.{not_both}
+use Rattle.mesh_laws.specs.declared.edge.Edge.{Edge}
+use Rattle.mesh_laws.specs.declared.edge.Edge.TheVariants.{LeftLeg, Base, RightLeg}
+use Rattle.mesh_laws.specs.Strip.{strip_of}
+use Rattle.mesh_laws.specs.Turn.{edge_from, edge_to, HasEdgeBack, next, last, IsLeftTurn, IsRightTurn, HasTurns, none}
+use Rattle.mesh_laws.specs.Turn.{left, right}
+use Rattle.mesh_laws.proofs.StripOrderLemmas.{leaf-strip_of, strip-once}
+use Rattle.mesh_laws.proofs.ExclusiveLemmas.{not_both}
 use Rattle.mesh_defs.specs.MeshText.{is_same_point}
 use Rattle.run_laws.specs.Turns.{is_edge, has_edge_back, turns_left_from, turns_right_from, is_left_turn, is_right_turn}
 use Rattle.run_laws.specs.Turns.{turns_by, left_turns, right_turns}

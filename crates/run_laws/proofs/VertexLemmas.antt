@@ -17,12 +17,12 @@ use Rattle.bintree_laws.specs.Corners.{HasEvenBase, IsInSquare}
 use Rattle.bintree_laws.proofs.CornerLemmas.{corners_of-2, corners_of-3, corners_of-left, corners_of-right}
 use Rattle.bintree_laws.proofs.LatticeLemmas.{HasEvenBase-corners_of}
 use Rattle.bintree_laws.proofs.WeightLemmas.{IsMean}
-use Rattle.tiling_laws.specs.Ancestors.{ancestors_of}
-use Rattle.tiling_laws.proofs.ConverseLemmas.{IsClosed-ancestors_of, AreLeaves-ancestors_of}
-use Rattle.tiling_laws.proofs.DescentLemmas.{IsDown, IsDown-left, IsDown-right, IsDown-2, IsDown-3, IsSplittable-down}
-use Rattle.deviation_laws.proofs.DescentLemmas.{IsOneCorner, IsMean-left, IsMean-right, finest-corner}
-use Rattle.vertex_laws.specs.Vertex.{is_mesh_vertex, centre_of, IsSquareCorner}
-use Rattle.vertex_laws.proofs.VertexLemmas.{centre-member, square-vertex}
+use Rattle.mesh_laws.specs.Ancestors.{ancestors_of}
+use Rattle.mesh_laws.proofs.ConverseLemmas.{IsClosed-ancestors_of, AreLeaves-ancestors_of}
+use Rattle.mesh_laws.proofs.DescentLemmas.{IsDown, IsDown-left, IsDown-right, IsDown-2, IsDown-3, IsSplittable-down}
+use Rattle.fit_laws.proofs.DescentLemmas.{IsOneCorner, IsMean-left, IsMean-right, finest-corner}
+use Rattle.mesh_laws.specs.Vertex.{is_mesh_vertex, centre_of, IsSquareCorner}
+use Rattle.mesh_laws.proofs.VertexLemmas.{centre-member, square-vertex}
 
 -- lists
 

@@ -12,7 +12,7 @@ use Rattle.run_laws.specs.Walk.{walk_lines, walk_of, lines_of, AreWhole}
 use Rattle.roam_gen.specs.Generated.{camera_line, edit_line, frame_lines, made_lines}
 use Rattle.run_laws.specs.Laws.{AreStates, KeepsStates, BudgetsAreTwo}
 use Rattle.mesh_defs.specs.State.{State}
-use Rattle.word_laws.specs.Words.{Show}
+use Rattle.run_words.specs.Words.{Show}
 use Rattle.run_laws.specs.Picture.{Picture, ArePictures, last_members}
 
 -- a fold goes on

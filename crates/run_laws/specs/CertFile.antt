@@ -1,17 +1,20 @@
 -- How far the bytes of a certificate's file lead: its lines in order, up to its end or to the first that is refused.
 -- The same of certificates of meshes and of fitted meshes, which differ in what a line is. This project's own.
 -- Words: lines_behind, lines_in, file_in, FilePlace, HaveCome, said_behind, said_in, cert_of, cert_in, CertPlace,
--- HasCertCome, CertHasRead, fit_cert_of, fit_cert_in, FitCertPlace, HasFitCertCome, FitCertHasRead, TakesLines,
--- EndsLines.
+-- HasCertCome, CertHasRead, fit_cert_of, fit_cert_in, FitCertPlace, HasFitCertCome, FitCertHasRead, kept_cert_of,
+-- kept_cert_in, KeptCertPlace, HasKeptCertCome, KeptCertHasRead, TakesLines, EndsLines.
 use Rattle.std.specs.Prelude.{◌≡◌, ◌≢◌, ℕ, ◌+◌, ◌≤◌, if◌then◌else◌, List, [], ◌∷◌, ◌++◌, length, All, Option, Some}
 use Rattle.std.specs.Prelude.{None, Result, Ok, Err, OnOk, IfOk}
 use Rattle.roam_script.specs.declared.limits.TheConstants.{MOST_LINE_BYTES}
 use Rattle.cert_text.specs.Certificate.{Certificate}
 use Rattle.cert_text.specs.CertReader.{ReadSoFar, nothing_read, cert_line_in}
-use Rattle.fit_certificate_laws.specs.Certificate.{FitCertificate}
-use Rattle.fit_cert_text.specs.FitCertReader.{fit_line_in}
-use Rattle.fit_cert_text.specs.FitCertReader as fit
-use Rattle.fit_cert_text.specs.Laws.{fit_line_count}
+use Rattle.certificate_laws.specs.FitCertificate.{FitCertificate}
+use Rattle.certificate_laws.specs.Keeping.{KeptCertificate}
+use Rattle.cert_text.specs.FitCertReader.{fit_line_in}
+use Rattle.cert_text.specs.FitCertReader as fit
+use Rattle.cert_text.specs.KeptCert.{kept_line_in}
+use Rattle.cert_text.specs.KeptCert as kept
+use Rattle.cert_text.specs.FitLaws.{fit_line_count}
 use Rattle.run_laws.specs.Walk.{lines_of, AreWhole}
 
 -- What is read behind these lines, of which the first has this number, where `step` tells what is read behind one line
@@ -101,6 +104,27 @@ HasFitCertCome n read here = HaveCome (fit_line_in n) fit.nothing_fit_read read 
 -- so much of a certificate of a fitted mesh was read, and no line of it was refused
 abbrev pub FitCertHasRead : ℕ → List ℕ → Type 0
 FitCertHasRead n read = (here : FitCertPlace) × HasFitCertCome n read here
+
+-- the certificate of a fitted mesh that keeps points of what was read: its points, and the certificate behind them
+abbrev pub kept_cert_of : kept.KeptReadSoFar → Result KeptCertificate ℕ
+kept_cert_of said = elim (fit_cert_of said.rest) as (λ _. Result KeptCertificate ℕ) [
+  | Err line ↦ Err (length said.needs + line)
+  | Ok cert ↦ Ok (record { needs = said.needs; rest = cert })
+]
+
+-- The same of a mesh that keeps points.
+unfoldable pub kept_cert_in : ℕ → List ℕ → Result KeptCertificate ℕ
+kept_cert_in n bytes = file_in (kept_line_in n) kept.nothing_kept_read kept_cert_of bytes
+
+abbrev pub KeptCertPlace : Type 0
+KeptCertPlace = FilePlace kept.KeptReadSoFar
+
+abbrev pub HasKeptCertCome : ℕ → List ℕ → KeptCertPlace → Type 0
+HasKeptCertCome n read here = HaveCome (kept_line_in n) kept.nothing_kept_read read here
+
+-- so much of such a certificate was read, and no line of it was refused
+abbrev pub KeptCertHasRead : ℕ → List ℕ → Type 0
+KeptCertHasRead n read = (here : KeptCertPlace) × HasKeptCertCome n read here
 
 -- what taking bytes does, by its answer: a place was reached, or a line is refused, whatever follows; `bad` is the
 -- answer that tells the number of such a line

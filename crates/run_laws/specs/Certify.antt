@@ -1,19 +1,22 @@
 -- Certificates as a run makes and checks them: over a grid as it was read, at a budget, a spacing and a camera, without
 -- planes.
 -- This project's own.
--- Words: makes_at, checks_at, IsMade, IsFaultless, IsFitMade, IsFitFaultless, IsFirstDifference.
+-- Words: makes_at, checks_at, IsMade, IsFaultless, IsFitMade, IsFitFaultless, IsKeptMade, IsKeptFaultless,
+-- IsFirstDifference.
 use Rattle.std.specs.Prelude.{◌≡◌, ◌≢◌, ℕ, ◌+◌, ◌*◌, ◌^◌, ◌<◌, ◌≤◌, List, length, take, slice_get}
+use Rattle.mesh_defs.specs.declared.point.Point.{Point}
 use Rattle.mesh_defs.specs.HeightField.{HeightField}
 use Rattle.mesh_defs.specs.BoundingBox.{CameraAt}
 use Rattle.mesh_defs.specs.BestMesh.{IsBestMesh}
 use Rattle.mesh_defs.specs.State.{State, start_state, with_camera, priority_in}
 use Rattle.certificate_laws.specs.Certificate.{IsSound}
 use Rattle.cert_text.specs.Certificate.{Certificate}
-use Rattle.fit_certificate_laws.specs.Certificate.{FitCertificate}
-use Rattle.fit_certificate_laws.specs.Certificate as fits
-use Rattle.fit_certificate_laws.specs.Making.{HasNoneBehind}
-use Rattle.word_laws.specs.Words.{Making, Checking, FitMaking, FitChecking}
-use Rattle.run_laws.specs.Fit.{goal_of}
+use Rattle.certificate_laws.specs.FitCertificate.{FitCertificate}
+use Rattle.certificate_laws.specs.FitCertificate as fits
+use Rattle.certificate_laws.specs.Keeping.{KeptCertificate, IsKeptSound}
+use Rattle.certificate_laws.specs.Making.{HasNoneBehind}
+use Rattle.run_words.specs.Words.{Making, Checking, FitMaking, FitChecking, KeptMaking, KeptChecking}
+use Rattle.run_laws.specs.Fit.{tolerance_of, goal_of}
 
 -- what a certificate is made for: the grid seen from the camera, before any line of a script
 abbrev pub makes_at : Making → HeightField → State
@@ -46,6 +49,19 @@ pub record IsFitMade (m : FitMaking) (grid : HeightField) (cert : FitCertificate
 -- no part of it fails: it is a sound one of these triangles
 abbrev pub IsFitFaultless : FitChecking → HeightField → FitCertificate → List ℕ → Type 0
 IsFitFaultless c grid cert triangles = fits.IsFitSound grid.n grid.heights (goal_of grid.n c.target) cert triangles
+
+-- A certificate of a fitted mesh that keeps points that may be made: a sound one for the error of the words and these
+-- points, which needs no more points than there are, and with no more reasons than triangles that may be split.
+pub record IsKeptMade (m : KeptMaking) (points : List Point) (grid : HeightField) (cert : KeptCertificate) : Type 0 where
+  pub triangles : List ℕ
+  pub sound : IsKeptSound grid.n grid.heights points (tolerance_of grid.n m.thousandths) cert triangles
+  pub few_needs : length cert.needs ≤ length points
+  pub few : length cert.rest.needed + 2 ≤ 2 ^ (2 * grid.n + 1)
+
+-- no part of it fails, for these points
+abbrev pub IsKeptFaultless : KeptChecking → List Point → HeightField → KeptCertificate → List ℕ → Type 0
+IsKeptFaultless c points grid cert triangles =
+    IsKeptSound grid.n grid.heights points (tolerance_of grid.n c.thousandths) cert triangles
 
 -- Two texts are the same up to this place, counted from 0, and there they differ, or only one goes on.
 pub record IsFirstDifference (these those : List ℕ) (at : ℕ) : Type 0 where

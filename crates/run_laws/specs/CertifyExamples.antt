@@ -1,14 +1,16 @@
 -- What small texts of certificates are read as, and what some words are, worked by hand from the format.
--- Words: origin, wanted, base_certificate, off_middle, halves_certificate, and an example a word.
+-- Words: origin, wanted, base_certificate, off_middle, halves_certificate, middle_certificate, and an example a word.
 use Rattle.std.specs.Prelude.{◌≡◌, ℕ, List, [], ◌∷◌, ◌++◌, replicate, Some, None, Result, Ok, Err, codes, pos, neg_ℤ}
 use Rattle.mesh_defs.specs.BoundingBox.{CameraAt}
 use Rattle.certificate_laws.specs.declared.reason.Reason.{Reason}
 use Rattle.certificate_laws.specs.declared.reason.Kind.TheVariants.{Want, Mate}
 use Rattle.cert_text.specs.Certificate.{Certificate}
-use Rattle.fit_certificate_laws.specs.declared.reason.Off.{Off}
-use Rattle.fit_certificate_laws.specs.Certificate.{FitCertificate}
-use Rattle.word_laws.specs.Words.{Make, Check, AtError, InBudget, MakeFit, CheckFit, OnGrid, command_of}
-use Rattle.run_laws.specs.CertFile.{cert_in, fit_cert_in}
+use Rattle.certificate_laws.specs.declared.fit_reason.Off.{Off}
+use Rattle.certificate_laws.specs.FitCertificate.{FitCertificate}
+use Rattle.certificate_laws.specs.Keeping.{KeptCertificate}
+use Rattle.run_words.specs.Words.{Make, Check, AtError, InBudget, MakeFit, CheckFit, MakeKept, CheckKept, OnGrid}
+use Rattle.run_words.specs.Words.{command_of}
+use Rattle.run_laws.specs.CertFile.{cert_in, fit_cert_in, kept_cert_in}
 
 abbrev pub origin : CameraAt
 origin = record { x = pos 0; y = pos 0; z = pos 0 }
@@ -90,6 +92,31 @@ FitCertificatesAreRefused =
     × (fit_cert_in 1 (codes "tolerance 20\nmesh\noff 8 1 1\n") ≡ Err 3)
     × (fit_cert_in 1 (codes "tolerance 20\nmesh\noff 2 3 1\n") ≡ Err 3)
 
+-- the two base triangles for a tolerance of 20, split at the middle that is kept
+abbrev pub middle_certificate : Result KeptCertificate ℕ
+middle_certificate = Ok (record {
+  needs = (record { x = 1; y = 1 }) ∷ [];
+  rest = record { tolerance = 20; needed = []; beyond = [] };
+})
+
+-- with a point, and with blanks and TABs; and without one
+abbrev pub KeptCertificatesAreRead : Type 0
+KeptCertificatesAreRead =
+    (kept_cert_in 1 (codes "need 1 1\ntolerance 20\nmesh\n") ≡ middle_certificate)
+    × (kept_cert_in 1 (codes " need\t1  1 \r\ntolerance 20\r\nmesh") ≡ middle_certificate)
+    × (kept_cert_in 1 (codes "tolerance 20\nmesh\n")
+    ≡ Ok (record { needs = []; rest = record { tolerance = 20; needed = []; beyond = [] } }))
+
+-- no line at all, a point alone, one behind the tolerance, one past the grid, and one without its row; a certificate
+-- without points refuses one
+abbrev pub KeptCertificatesAreRefused : Type 0
+KeptCertificatesAreRefused =
+    (kept_cert_in 1 [] ≡ Err 1) × (kept_cert_in 1 (codes "need 1 1\n") ≡ Err 2)
+    × (kept_cert_in 1 (codes "tolerance 20\nneed 1 1\nmesh\n") ≡ Err 2)
+    × (kept_cert_in 1 (codes "need 3 1\ntolerance 20\nmesh\n") ≡ Err 1)
+    × (kept_cert_in 1 (codes "need 1\ntolerance 20\nmesh\n") ≡ Err 1)
+    × (fit_cert_in 1 (codes "need 1 1\ntolerance 20\nmesh\n") ≡ Err 1)
+
 -- an error with a point, a budget, and words that are none
 abbrev pub WordsOfCertifyFit : Type 0
 WordsOfCertifyFit =
@@ -110,3 +137,25 @@ WordsOfCertifyFit =
     ∷ (codes "g" ∷ (codes "m" ∷ (codes "c" ∷ (codes "error" ∷ (codes "65536" ∷ (codes "1" ∷ [])))))))) ≡ None)
     × (command_of (codes "certify"
     ∷ (codes "check-fit" ∷ (codes "g" ∷ (codes "m" ∷ (codes "c" ∷ (codes "2" ∷ (codes "1" ∷ []))))))) ≡ None)
+
+-- a certificate of a mesh that keeps points is made and checked for an error alone, and `keep` names one file
+abbrev pub WordsOfCertifyKept : Type 0
+WordsOfCertifyKept =
+    (command_of (codes "certify" ∷ (codes "make-fit"
+    ∷ (codes "g" ∷ (codes "error" ∷ (codes "2.5" ∷ (codes "1" ∷ (codes "keep" ∷ (codes "p" ∷ []))))))))
+    ≡ Some (OnGrid (codes "g") (MakeKept (record { thousandths = 2500; spacing = 1; points = codes "p" }))))
+    × (command_of (codes "certify" ∷ (codes "check-fit" ∷ (codes "g" ∷ (codes "m" ∷ (codes "c"
+    ∷ (codes "error" ∷ (codes "2.5" ∷ (codes "1" ∷ (codes "keep" ∷ (codes "p" ∷ []))))))))))
+    ≡ Some (OnGrid (codes "g") (CheckKept (record {
+      mesh = codes "m";
+      certificate = codes "c";
+      thousandths = 2500;
+      spacing = 1;
+      points = codes "p";
+    }))))
+    × (command_of (codes "certify" ∷ (codes "make-fit"
+    ∷ (codes "g" ∷ (codes "budget" ∷ (codes "2" ∷ (codes "1" ∷ (codes "keep" ∷ (codes "p" ∷ [])))))))) ≡ None)
+    × (command_of (codes "certify" ∷ (codes "check-fit" ∷ (codes "g" ∷ (codes "m" ∷ (codes "c"
+    ∷ (codes "error" ∷ (codes "2.5" ∷ (codes "1" ∷ (codes "keep" ∷ []))))))))) ≡ None)
+    × (command_of (codes "certify" ∷ (codes "check-fit" ∷ (codes "g" ∷ (codes "m" ∷ (codes "c"
+    ∷ (codes "error" ∷ (codes "2.5" ∷ (codes "1" ∷ (codes "hold" ∷ (codes "p" ∷ [])))))))))) ≡ None)

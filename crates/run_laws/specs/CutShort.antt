@@ -14,7 +14,7 @@ use Rattle.obj_write.specs.Written.{mesh_with, Grows}
 use Rattle.run_laws.specs.Walk.{Refusal}
 use Rattle.run_laws.specs.declared.status.Status.{Status}
 use Rattle.run_laws.specs.declared.status.Status.TheVariants.{WriteFault}
-use Rattle.word_laws.specs.Words.{Meshes, Measures, Sums, Show, Scripted, Frames, prefix_of}
+use Rattle.run_words.specs.Words.{Meshes, Measures, Sums, Show, Scripted, Frames, prefix_of}
 use Rattle.run_laws.specs.Act.{Act, WholeMesh, ReportText, Told, IsCutShort, meshes_of, report_of}
 use Rattle.run_laws.specs.Picture.{Picture, shown_triangles, ArePictures}
 use Rattle.run_laws.specs.Outcome.{shown_acts, stop_acts, script_walk}

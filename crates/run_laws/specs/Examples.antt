@@ -10,7 +10,7 @@ use Rattle.roam_script.specs.declared.script_fault.ScriptFault.TheVariants.{Line
 use Rattle.roam_script.specs.declared.script_fault.ScriptFault.TheVariants.{BadNumber, OutOfRange, TooManyLines}
 use Rattle.roam_script.specs.declared.script_fault.ScriptFault.TheVariants.{TooManyFrames, TooManyPlanes}
 use Rattle.roam_script.specs.LineText.{line_in}
-use Rattle.deviation_laws.specs.PlaneHeight.{deviation_of, thickest_of}
+use Rattle.fit_laws.specs.PlaneHeight.{deviation_of, thickest_of}
 use Rattle.run_laws.specs.Turns.{left_turns, right_turns}
 use Rattle.run_laws.specs.Walk.{Refusal, Walk, start_walk, walk_of}
 

@@ -1,25 +1,24 @@
 -- A mesh that is fitted to a height field, whatever it is seen from: the fewest triangles for an error, or the least
 -- error for a budget. This project's own form.
--- Words: tolerance_of, goal_of, IsFitFor, IsFitted, IsFewestFor, IsClosestFor, IsBestFit, is_centred, IsKeptFor,
--- IsKept, IsFewestKeeping, fit_text.
-use Rattle.std.specs.Prelude.{◌≡◌, ℕ, ◌*◌, ◌^◌, ◌/◌, ◌≤◌, Bool, ◌&&◌, IsTrue, nat_le, nat_lt, List, [], length, All}
-use Rattle.std.specs.List.{list_any}
+-- Words: tolerance_of, goal_of, IsFitFor, IsFitted, IsFewestFor, IsClosestFor, IsBestFit, IsKeptFor, IsKept,
+-- IsFewestKeeping, fit_text.
+use Rattle.std.specs.Prelude.{◌≡◌, ℕ, ◌*◌, ◌^◌, ◌/◌, ◌≤◌, IsTrue, List, [], length, All}
 use Rattle.mesh_defs.specs.declared.point.Point.{Point}
-use Rattle.mesh_defs.specs.Triangle.{level_of}
 use Rattle.mesh_defs.specs.HeightField.{HeightField}
 use Rattle.mesh_defs.specs.Tiling.{IsConforming}
 use Rattle.mesh_defs.specs.ClosedSet.{leaves_of}
-use Rattle.mesh_defs.specs.MeshText.{is_same_point, mesh_text}
-use Rattle.tiling_laws.specs.Ancestors.{ancestors_of}
-use Rattle.deviation_laws.specs.PlaneHeight.{deviation_of}
-use Rattle.least_laws.specs.Least.{IsLeastMesh}
+use Rattle.mesh_defs.specs.MeshText.{mesh_text}
+use Rattle.mesh_laws.specs.Ancestors.{ancestors_of}
+use Rattle.fit_laws.specs.PlaneHeight.{deviation_of}
+use Rattle.mesh_laws.specs.Least.{IsLeastMesh}
 use Rattle.fit_laws.specs.Error.{error_of}
 use Rattle.fit_laws.specs.Budget.{IsBudgetMesh}
-use Rattle.vertex_laws.specs.Vertex.{is_mesh_vertex, centre_of}
-use Rattle.required_laws.specs.Required.{IsLeastMeshWith}
-use Rattle.fit_certificate_laws.specs.declared.reason.Target.{Target as Goal}
-use Rattle.fit_certificate_laws.specs.declared.reason.Target.TheVariants as goal
-use Rattle.word_laws.specs.Words.{Target, AtError, InBudget}
+use Rattle.mesh_laws.specs.Vertex.{is_mesh_vertex}
+use Rattle.fit_laws.specs.Required.{IsLeastMeshWith}
+use Rattle.certificate_laws.specs.declared.fit_reason.Target.{Target as Goal}
+use Rattle.certificate_laws.specs.declared.fit_reason.Target.TheVariants as goal
+use Rattle.certificate_laws.specs.Keeping.{is_centred}
+use Rattle.run_words.specs.Words.{Target, AtError, InBudget}
 
 -- The tolerance of so many thousandths of a unit of height, in units of 2 ^ -n: errors are whole in these, so rounding
 -- down loses none.
@@ -65,11 +64,6 @@ pub record IsClosestFor (budget : ℕ) (grid : HeightField) (triangles : List �
 abbrev pub IsBestFit : Target → HeightField → List ℕ → Type 0
 IsBestFit (AtError thousandths) grid triangles = IsFewestFor thousandths grid triangles
 IsBestFit (InBudget budget) grid triangles = IsClosestFor budget grid triangles
-
--- the triangle may be split, and its centre, the midpoint of its base, is one of these points
-abbrev pub is_centred : ℕ → List Point → ℕ → Bool
-is_centred n points a = (nat_le 2 a && nat_lt (level_of a) (2 * n))
-    && list_any (is_same_point (centre_of n a)) points
 
 -- the list is a least mesh for the error of those in which all these triangles are split, so that it has the points
 abbrev pub IsKeptFor : ℕ → List Point → HeightField → List ℕ → Type 0

@@ -4,7 +4,7 @@ use Rattle.std.specs.Prelude.{◌≡◌, ℕ, ◌*◌, ◌^◌, ◌≤◌, List,
 use Rattle.mesh_defs.specs.State.{State}
 use Rattle.roam_edge.specs.Shelf.{NamedFile}
 use Rattle.run_laws.specs.declared.status.Status.TheVariants.{Done}
-use Rattle.word_laws.specs.Words.{Generated, command_of}
+use Rattle.run_words.specs.Words.{Generated, command_of}
 use Rattle.run_laws.specs.Act.{ReportText}
 use Rattle.run_laws.specs.Outcome.{Outcome, IsOutcome}
 

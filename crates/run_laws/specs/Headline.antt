@@ -2,7 +2,7 @@
 -- mesh of a tolerance. A mesh that is fitted is a best one for its error or its budget, and for the points that it
 -- keeps.
 -- Words: IsGoodMesh, IsGoodStrip, IsGoodOrder, IsGoodFrame, AreGoodFrames, IsRunOf, KeepsGoodMeshes,
--- IsCertifiedMesh, IsCertifiedFit, IsOneMeshOf, KeepsOneMesh, KeepsFitMesh, KeepsKeptMesh.
+-- IsCertifiedMesh, IsCertifiedAs, IsCertifiedFit, IsCertifiedKept, IsOneMeshOf, KeepsOneMesh, KeepsFitMesh, KeepsKeptMesh.
 use Rattle.std.specs.Prelude.{◌≡◌, ⊤, ℕ, ◌+◌, ◌≤◌, Bool, true, IsTrue, List, [], ◌∷◌, ◌++◌, length, count_by, nat_eq}
 use Rattle.std.specs.Prelude.{All, Contains, Option, Some}
 use Rattle.mesh_defs.specs.declared.point.Point.{Point}
@@ -18,12 +18,13 @@ use Rattle.roam_edge.specs.Shelf.{NamedFile, bytes_of}
 use Rattle.pgm_grid.specs.PgmText.{IsFileText}
 use Rattle.run_laws.specs.declared.status.Status.{Status}
 use Rattle.run_laws.specs.declared.status.Status.TheVariants.{Done}
-use Rattle.tiling_laws.specs.Ancestors.{AreLeaves}
-use Rattle.strip_laws.specs.Strip.{strip_of, IsRing}
-use Rattle.least_laws.specs.Least.{IsLeastMesh}
-use Rattle.deviation_laws.specs.PlaneHeight.{deviation_of}
-use Rattle.word_laws.specs.Words.{Criterion, OfBudget, OfTolerance, TriangleOrder, DepthFirst, AlongStrip, Show}
-use Rattle.word_laws.specs.Words.{Scripted, Checking, Fitting, Keeping, FitChecking, Job, OnGrid, prefix_of, command_of}
+use Rattle.mesh_laws.specs.Ancestors.{AreLeaves}
+use Rattle.mesh_laws.specs.Strip.{strip_of, IsRing}
+use Rattle.mesh_laws.specs.Least.{IsLeastMesh}
+use Rattle.fit_laws.specs.PlaneHeight.{deviation_of}
+use Rattle.run_words.specs.Words.{Criterion, OfBudget, OfTolerance, TriangleOrder, DepthFirst, AlongStrip, Show}
+use Rattle.run_words.specs.Words.{Scripted, Checking, Fitting, Keeping, FitChecking, KeptChecking, Job, OnGrid}
+use Rattle.run_words.specs.Words.{prefix_of, command_of}
 use Rattle.run_laws.specs.ReportText.{certified_line, fit_line, certified_fit_line}
 use Rattle.run_laws.specs.Certify.{checks_at}
 use Rattle.run_laws.specs.Fit.{IsFitFor, IsBestFit, IsKeptFor, IsFewestKeeping, fit_text}
@@ -101,15 +102,26 @@ pub record IsCertifiedMesh (c : Checking) (grid : HeightField) (mesh line : List
   pub told : line ≡ certified_line camera (length triangles)
       (worst_of (priority_in (checks_at c grid camera)) triangles)
 
--- A fitted mesh was certified by this line of the report: its bytes are the text of a list that is a best one for the
--- error or the budget of the words, whoever made it, and the line tells the number of triangles and how far the surface
--- is from them.
-pub record IsCertifiedFit (c : FitChecking) (grid : HeightField) (mesh line : List ℕ) : Type 0 where
+-- A fitted mesh was certified by this line of the report: its bytes are the text of a list that is a best one, whoever
+-- made it, and the line tells the number of triangles and how far the surface is from them.
+pub record IsCertifiedAs (spacing : ℕ) (grid : HeightField) (is_best is_fit : List ℕ → Type 0)
+    (mesh line : List ℕ) : Type 0 where
   pub triangles : List ℕ
-  pub text : mesh ≡ fit_text c.spacing grid triangles
-  pub best : IsBestFit c.target grid triangles
-  pub fit : IsFitFor c.target grid triangles
+  pub text : mesh ≡ fit_text spacing grid triangles
+  pub best : is_best triangles
+  pub fit : is_fit triangles
   pub told : line ≡ certified_fit_line grid.n (length triangles) (deviation_of grid.n grid.heights triangles)
+
+-- so of the words: a best one for their error or their budget
+abbrev pub IsCertifiedFit : FitChecking → HeightField → List ℕ → List ℕ → Type 0
+IsCertifiedFit c grid mesh line =
+    IsCertifiedAs c.spacing grid (IsBestFit c.target grid) (IsFitFor c.target grid) mesh line
+
+-- and of words that keep these points: the fewest triangles for their error that have the points as vertices
+abbrev pub IsCertifiedKept : KeptChecking → List Point → HeightField → List ℕ → List ℕ → Type 0
+IsCertifiedKept c points grid mesh line =
+    IsCertifiedAs c.spacing grid (IsFewestKeeping c.thousandths points grid) (IsKeptFor c.thousandths points grid) mesh
+    line
 
 -- The mesh has the number 1 and this prefix, and its bytes are the text of a list that is a best one.
 pub record IsOneMeshOf (begin : List ℕ) (spacing : ℕ) (grid : HeightField) (is_best is_fit : List ℕ → Type 0)

@@ -1,8 +1,9 @@
 -- Laws of walks, pictures and outcomes.
 -- Words: WalksGoOn, PicturesGoOn, FramesExistFrom, FramesExist, RunsAreUnique, SetsStayClosed, LevelsAreInRange,
 -- BudgetsAreTwo, AreStates, KeepsStates, OutcomesAreUnique, OutcomesExist, AcceptedIsDone, EnginesAreUnique,
--- PicturesAreCertified, HeadlineFollows, CertifiedFollows, FitCertifiedFollows, TolerancesAreExact, FitsAreBest,
--- FittedFollows, KeptAreBest, KeptFollows, MadeIsAccepted, FitMadeIsAccepted, FitIsReadBack, TurnsAreCounted.
+-- PicturesAreCertified, HeadlineFollows, CertifiedFollows, FitCertifiedFollows, KeptCertifiedFollows,
+-- TolerancesAreExact, FitsAreBest, FittedFollows, KeptAreBest, KeptFollows, MadeIsAccepted, FitMadeIsAccepted,
+-- KeptMadeIsAccepted, FitIsReadBack, KeptIsReadBack, TurnsAreCounted.
 use Rattle.std.specs.Prelude.{◌≡◌, ⊤, ℕ, ◌*◌, ◌^◌, ◌≤◌, ◌↔◌, Bool, IsTrue, IsSome, is_some, List, [], ◌∷◌, ◌++◌, All}
 use Rattle.std.specs.Prelude.{Option, Some, Ok}
 use Rattle.mesh_defs.specs.declared.point.Point.{Point}
@@ -12,10 +13,10 @@ use Rattle.mesh_defs.specs.State.{State, priority_in, text_in}
 use Rattle.mesh_defs.specs.ClosedSet.{IsClosed, among}
 use Rattle.mesh_defs.specs.GridSet.{IsGridSet}
 use Rattle.mesh_defs.specs.declared.level.TheConstants.{GREATEST_LEVEL}
-use Rattle.closure_laws.specs.Frame.{IsFrame}
-use Rattle.frame_steps.specs.Steps.{IsFrameRun}
-use Rattle.strip_laws.specs.Strip.{strip_of}
-use Rattle.strip_laws.specs.Turn.{HasTurns}
+use Rattle.mesh_laws.specs.Frame.{IsFrame}
+use Rattle.mesh_laws.specs.Steps.{IsFrameRun}
+use Rattle.mesh_laws.specs.Strip.{strip_of}
+use Rattle.mesh_laws.specs.Turn.{HasTurns}
 use Rattle.pgm_grid.specs.Progress.{grid_of}
 use Rattle.bintree_addr.specs.declared.blocked.Blocked.{Blocked}
 use Rattle.roam_edge.specs.MeshSink.{WrittenMesh}
@@ -29,23 +30,27 @@ use Rattle.run_laws.specs.Walk.{Walk, walk_of, AreWhole}
 use Rattle.obj_write.specs.Written.{Grows}
 use Rattle.cert_text.specs.Certificate.{Certificate}
 use Rattle.cert_text.specs.CertText.{cert_text}
-use Rattle.fit_certificate_laws.specs.Certificate.{FitCertificate}
-use Rattle.fit_cert_text.specs.FitCertText.{fit_cert_text}
-use Rattle.fit_cert_text.specs.Laws.{IsFitCertificateOf}
-use Rattle.run_laws.specs.CertFile.{fit_cert_in}
-use Rattle.word_laws.specs.Words.{Show, Scripted, Making, Checking, Target, Fitting, Keeping, FitChecking, Frames}
-use Rattle.word_laws.specs.Words.{Make, Check, FitMaking, Fit, Keep, MakeFit, CheckFit, OnGrid, prefix_of, command_of}
-use Rattle.run_laws.specs.Certify.{makes_at, IsMade, IsFitMade}
+use Rattle.certificate_laws.specs.FitCertificate.{FitCertificate}
+use Rattle.cert_text.specs.FitCertText.{fit_cert_text}
+use Rattle.cert_text.specs.FitLaws.{IsFitCertificateOf}
+use Rattle.cert_text.specs.KeptCert.{kept_cert_text}
+use Rattle.cert_text.specs.KeptLaws.{IsKeptCertificateOf}
+use Rattle.certificate_laws.specs.Keeping.{KeptCertificate}
+use Rattle.run_laws.specs.CertFile.{fit_cert_in, kept_cert_in}
+use Rattle.run_words.specs.Words.{Show, Scripted, Making, Checking, Target, Fitting, Keeping, FitChecking, Frames}
+use Rattle.run_words.specs.Words.{Make, Check, FitMaking, Fit, Keep, MakeFit, CheckFit, KeptMaking, KeptChecking}
+use Rattle.run_words.specs.Words.{MakeKept, CheckKept, OnGrid, prefix_of, command_of}
+use Rattle.run_laws.specs.Certify.{makes_at, IsMade, IsFitMade, IsKeptMade}
 use Rattle.run_laws.specs.Act.{Told}
 use Rattle.run_laws.specs.Picture.{Picture, ArePictures, IsCertified, last_members}
 use Rattle.run_laws.specs.Turns.{left_turns, right_turns}
 use Rattle.run_laws.specs.Outcome.{Outcome, IsOutcome, MakesNoCertificate}
 use Rattle.run_laws.specs.Promise.{Seen, EndsRight, LeavesAtReadFault, LeavesAtNoMemory, IsAcceptedCheck}
-use Rattle.run_laws.specs.Promise.{IsAcceptedFitCheck, IsAccepted}
+use Rattle.run_laws.specs.Promise.{IsAcceptedFitCheck, IsAcceptedKeptCheck, IsAccepted}
 use Rattle.run_laws.specs.Headline.{IsRunOf, KeepsGoodMeshes, IsCertifiedMesh, IsCertifiedFit, KeepsFitMesh}
-use Rattle.run_laws.specs.Headline.{KeepsKeptMesh}
+use Rattle.run_laws.specs.Headline.{IsCertifiedKept, KeepsKeptMesh}
 use Rattle.run_laws.specs.PointFile.{points_in}
-use Rattle.run_laws.specs.Fit.{tolerance_of, IsFitFor, IsFitted, IsBestFit, IsKeptFor, IsFewestKeeping, fit_text}
+use Rattle.run_laws.specs.Fit.{tolerance_of, IsFitFor, IsFitted, IsBestFit, IsKeptFor, IsKept, IsFewestKeeping, fit_text}
 
 -- a walk over whole lines goes on with what follows them
 abbrev pub WalksGoOn : Type 0
@@ -164,10 +169,24 @@ FitCertifiedFollows =
     → IsRunOf words files (CheckFit c) grid → EndsRight before now old new words files status → status ≡ Done
     → (line : List ℕ) × Grows before.report now.report line × IsCertifiedFit c grid (bytes_of files c.mesh) line
 
+-- the same of one that keeps points, whose file is then a text of points
+abbrev pub KeptCertifiedFollows : Type 0
+KeptCertifiedFollows =
+    (words : List (List ℕ)) (files : List NamedFile) (c : KeptChecking) (grid : HeightField) (before now : Told)
+    (old new : Seen) (status : Status)
+    → IsRunOf words files (CheckKept c) grid → EndsRight before now old new words files status → status ≡ Done
+    → (points : List Point) × (points_in grid.n (bytes_of files c.points) ≡ Ok points) × (line : List ℕ)
+    × Grows before.report now.report line × IsCertifiedKept c points grid (bytes_of files c.mesh) line
+
 -- the text of a certificate of a fitted mesh, of no more than a reader takes, is read back as it
 abbrev pub FitIsReadBack : Type 0
 FitIsReadBack =
     (n : ℕ) (cert : FitCertificate) → IsFitCertificateOf n cert → fit_cert_in n (fit_cert_text cert) ≡ Ok cert
+
+-- so is that of one with points
+abbrev pub KeptIsReadBack : Type 0
+KeptIsReadBack =
+    (n : ℕ) (cert : KeptCertificate) → IsKeptCertificateOf n cert → kept_cert_in n (kept_cert_text cert) ≡ Ok cert
 
 -- an error is within the tolerance exactly where it is at most so many thousandths
 abbrev pub TolerancesAreExact : Type 0
@@ -229,3 +248,14 @@ FitMadeIsAccepted =
     c.target ≡ m.target → IsFitted m.target grid triangles
     → bytes_of files c.certificate ≡ fit_cert_text cert → bytes_of files c.mesh ≡ fit_text c.spacing grid triangles →
     IsAcceptedFitCheck c grid files
+
+-- What `certify make-fit` writes for a grid and points `certify check-fit` accepts over them, for the same error, with
+-- the mesh that `fit` writes for it and the points, at any spacing, and with any file of these points.
+abbrev pub KeptMadeIsAccepted : Type 0
+KeptMadeIsAccepted =
+    (words : List (List ℕ)) (name : List ℕ) (m : KeptMaking) (grid : HeightField) (points : List Point)
+    (cert : KeptCertificate) (c : KeptChecking) (files : List NamedFile) (triangles : List ℕ)
+    → command_of words ≡ Some (OnGrid name (MakeKept m)) → IsHeightField grid → IsKeptMade m points grid cert →
+    c.thousandths ≡ m.thousandths → IsKept m.thousandths points grid triangles
+    → points_in grid.n (bytes_of files c.points) ≡ Ok points → bytes_of files c.certificate ≡ kept_cert_text cert
+    → bytes_of files c.mesh ≡ fit_text c.spacing grid triangles → IsAcceptedKeptCheck c grid files

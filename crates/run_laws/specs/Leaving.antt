@@ -1,19 +1,28 @@
 -- How a command is carried out: how it ends, what its engine tells then, and what reading its files and telling its end
 -- come to.
--- Words: CommandEnds, Runs, HasOpened, HasFailed, MeshHasRead, ReadsGrid, EndsWith, TellsLast, LeavesByScript.
-use Rattle.std.specs.Prelude.{◌≡◌, ◌≢◌, ◌⊎◌, ℕ, ◌+◌, IsTrue, List, [], ◌∷◌, Option, Some, Ok}
+-- Words: CommandEnds, Runs, HasOpened, HasFailed, MeshHasRead, ReadsGrid, KeepsPoints, ReadsPoints, EndsWith,
+-- TellsLast, LeavesByScript.
+use Rattle.std.specs.Prelude.{◌≡◌, ◌≢◌, ◌⊎◌, ℕ, ◌+◌, ◌^◌, ◌≤◌, false, IsTrue, All, List, [], ◌∷◌, length, slice_get}
+use Rattle.std.specs.Prelude.{Option, Some, Ok, Err}
+use Rattle.mesh_defs.specs.declared.point.Point.{Point}
 use Rattle.mesh_defs.specs.HeightField.{HeightField}
+use Rattle.bintree_laws.specs.Corners.{IsInSquare}
 use Rattle.roam_edge.specs.Fault.{Rose, IsInTime, next_count}
 use Rattle.roam_edge.specs.Shelf.{NamedFile, bytes_of}
 use Rattle.roam_edge.specs.Told.{IsPrefix}
 use Rattle.pgm_grid.specs.Progress.{grid_of}
 use Rattle.run_laws.specs.declared.status.Status.{Status}
-use Rattle.run_laws.specs.declared.status.Status.TheVariants.{Done, NoMemory, ReadFault, WriteFault}
-use Rattle.word_laws.specs.Words.{Command}
+use Rattle.roam_script.specs.PointText.{most_points}
+use Rattle.run_laws.specs.declared.status.Status.TheVariants.{Done, NoMemory, ScriptRefused, ReadFault, WriteFault}
+use Rattle.run_words.specs.Words.{Command, Job, OnGrid, names_of, file_count}
+use Rattle.run_laws.specs.Walk.{Refusal}
+use Rattle.run_laws.specs.PointFile.{points_in, PointsHaveRead}
+use Rattle.run_laws.specs.ReportText.{line_refusal}
 use Rattle.run_laws.specs.Act.{Act, ReportText, Told, meshes_of}
 use Rattle.run_laws.specs.Cause.{StatusHasCause, StatusWritesHaveCause}
-use Rattle.run_laws.specs.Outcome.{Outcome, EngineEnd, IsCommandOutcome, plain_outcome}
-use Rattle.run_laws.specs.Promise.{Seen, EndsAs, HasEnded, HasReadHeader, is_complete, may_end}
+use Rattle.run_laws.specs.Outcome.{Outcome, EngineEnd, IsJobOutcome, IsCommandOutcome, plain_outcome, text_outcome}
+use Rattle.run_laws.specs.Promise.{Seen, EndsAs, HasEnded, JobHasRead, HasReadHeader, is_complete, may_end}
+use Rattle.run_laws.specs.Promise.{leaves_engine}
 use Rattle.run_laws.specs.FileStop.{StopsReading}
 use Rattle.run_laws.specs.Maker.{DoesAs}
 use Rattle.run_laws.specs.Moment.{Moment, OnlyReads, SameMeshes}
@@ -65,6 +74,27 @@ pub record ReadsGrid (before now : Moment) (name : List ℕ) (grid : HeightField
   pub header : (files : List NamedFile) → before.shelf.files ≡ Some files
       → HasReadHeader (bytes_of files name) now.shelf.rest
   pub is_grid : (files : List NamedFile) → before.shelf.files ≡ Some files → grid_of (bytes_of files name) ≡ Ok grid
+
+-- The job on the grid of this name reads the points of that name behind it, and ends at a line of them that is refused.
+pub record KeepsPoints (name points : List ℕ) (job : Job) : Type 0 where
+  pub second : slice_get (names_of (OnGrid name job)) 1 ≡ Some points
+  pub two : 2 ≤ file_count (Some (OnGrid name job))
+  pub allowed : IsTrue (may_end (Some (OnGrid name job)) ScriptRefused)
+  pub no_engine : leaves_engine (Some (OnGrid name job)) ScriptRefused ≡ false
+  pub has_read : (grid : HeightField) (files : List NamedFile) (read : List ℕ) → PointsHaveRead grid.n read
+      → JobHasRead job grid files 0 read []
+  pub refused : (grid : HeightField) (files : List NamedFile) (refusal : Refusal)
+      → points_in grid.n (bytes_of files points) ≡ Err refusal
+      → IsJobOutcome job grid files (text_outcome (line_refusal refusal) ScriptRefused 2)
+
+-- the points of this name were read to their end behind the grid, where they are these, where the shelf tells its files
+pub record ReadsPoints (before now : Moment) (name : List ℕ) (grid : HeightField) (points : List Point) : Type 0 where
+  pub opened : HasOpened before now 1
+  pub ended : HasEnded now.shelf
+  pub are_points : (files : List NamedFile) → before.shelf.files ≡ Some files
+      → points_in grid.n (bytes_of files name) ≡ Ok points
+  pub inside : All (IsInSquare (2 ^ grid.n)) points
+  pub few : length points ≤ most_points grid.n
 
 -- The last acts of a run were done, which ends with this status unless they were cut short.
 pub record EndsWith (before now : Moment) (acts : List Act) (meant status : Status) : Type 0 where

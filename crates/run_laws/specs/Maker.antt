@@ -7,7 +7,7 @@ use Rattle.roam_script.specs.declared.script_fault.ScriptFault.{ScriptFault}
 use Rattle.run_laws.specs.declared.status.Status.{Status}
 use Rattle.run_laws.specs.declared.status.Status.TheVariants as ends
 use Rattle.run_laws.specs.Walk.{Refusal, Walk, walk_of, after_line}
-use Rattle.word_laws.specs.Words.{Show}
+use Rattle.run_words.specs.Words.{Show}
 use Rattle.run_laws.specs.Act.{Told, Stands, IsCutShort}
 use Rattle.run_laws.specs.Picture.{Picture, IsPicture, last_members}
 use Rattle.run_laws.specs.Outcome.{Outcome, picture_acts, sum_acts, engine_for, IsFramesOutcome}

@@ -1,8 +1,9 @@
 -- The outcome of a run: what its words and the files that they name determine. This project's own.
 -- Words: EngineEnd, Outcome, plain_outcome, text_outcome, picture_acts, shown_acts, sum_acts, stop_acts, stop_status,
 -- engine_end, engine_for, frames_outcome, IsFramesOutcome, script_walk, made_budget, made_spacing, made_walk, fit_acts,
--- IsKeepOutcome, IsCompared, IsVerdictOutcome, IsCheckOutcome, IsFitVerdictOutcome, IsFitCheckOutcome, IsJobOutcome,
--- IsGridOutcome, IsCommandOutcome, IsOutcome, MakesNoCertificate.
+-- IsKeepOutcome, IsCompared, IsVerdictOutcome, IsCheckOutcome, IsFitVerdictOutcome, IsFitCheckOutcome,
+-- IsKeptMakeOutcome, IsKeptCertOutcome, IsKeptCheckOutcome, IsJobOutcome, IsGridOutcome, IsCommandOutcome, IsOutcome,
+-- MakesNoCertificate.
 use Rattle.std.specs.Prelude.{◌≡◌, ⊤, ℕ, ◌+◌, ◌⊎◌, if◌then◌else◌, List, [], ◌∷◌, ◌++◌, length, sum_by, Option, Some}
 use Rattle.std.specs.Prelude.{None, Result, Ok, Err}
 use Rattle.mesh_defs.specs.declared.point.Point.{Point}
@@ -17,21 +18,24 @@ use Rattle.certificate_laws.specs.declared.reason.Verdict.TheVariants as verdict
 use Rattle.certificate_laws.specs.Certificate.{IsVerdict}
 use Rattle.cert_text.specs.Certificate.{Certificate}
 use Rattle.cert_text.specs.CertText.{cert_text}
-use Rattle.fit_certificate_laws.specs.declared.reason.Verdict as fit_verdict
-use Rattle.fit_certificate_laws.specs.declared.reason.Verdict.TheVariants as fitted
-use Rattle.fit_certificate_laws.specs.Certificate.{FitCertificate, IsVerdictOf}
-use Rattle.fit_cert_text.specs.FitCertText.{fit_cert_text}
+use Rattle.certificate_laws.specs.declared.fit_reason.FitVerdict as fit_verdict
+use Rattle.certificate_laws.specs.declared.fit_reason.FitVerdict.TheVariants as fitted
+use Rattle.certificate_laws.specs.FitCertificate.{FitCertificate, IsVerdictOf}
+use Rattle.certificate_laws.specs.Keeping.{KeptCertificate, IsKeptVerdictOf}
+use Rattle.cert_text.specs.FitCertText.{fit_cert_text}
+use Rattle.cert_text.specs.KeptCert.{kept_cert_text}
 use Rattle.roam_gen.specs.Generated.{made_grid, made_lines}
 use Rattle.run_laws.specs.declared.status.Status.{Status}
 use Rattle.run_laws.specs.declared.status.Status.TheVariants.{Done, Usage, GridRefused, ScriptRefused, Rejected}
 use Rattle.run_laws.specs.Walk.{Refusal, Walk, start_walk, walk_along, walk_of}
-use Rattle.word_laws.specs.Words.{Meshes, Measures, Sums, Show, as_sums, is_of_engine, Scripted, Checking}
-use Rattle.word_laws.specs.Words.{Fitting, Keeping, fitting_of, Job, Frames, Facts, Make, Check, Fit, Keep}
-use Rattle.word_laws.specs.Words.{FitChecking, MakeFit, CheckFit, Command, OnGrid, Generated}
-use Rattle.run_laws.specs.CertFile.{cert_in, fit_cert_in}
+use Rattle.run_words.specs.Words.{Meshes, Measures, Sums, Show, as_sums, is_of_engine, Scripted, Checking}
+use Rattle.run_words.specs.Words.{Fitting, Keeping, fitting_of, Job, Frames, Facts, Make, Check, Fit, Keep}
+use Rattle.run_words.specs.Words.{FitChecking, MakeFit, CheckFit, KeptMaking, KeptChecking, MakeKept, CheckKept}
+use Rattle.run_words.specs.Words.{Command, OnGrid, Generated}
+use Rattle.run_laws.specs.CertFile.{cert_in, fit_cert_in, kept_cert_in}
 use Rattle.run_laws.specs.PointFile.{points_in}
-use Rattle.run_laws.specs.Certify.{checks_at, IsMade, IsFitMade, IsFirstDifference}
-use Rattle.run_laws.specs.Fit.{goal_of, IsFitted, IsKept, fit_text}
+use Rattle.run_laws.specs.Certify.{checks_at, IsMade, IsFitMade, IsKeptMade, IsFirstDifference}
+use Rattle.run_laws.specs.Fit.{tolerance_of, goal_of, IsFitted, IsKept, fit_text}
 use Rattle.run_laws.specs.Act.{Act, WholeMesh, ReportText}
 use Rattle.run_laws.specs.Picture.{Picture, shown_triangles, ArePictures, last_members}
 use Rattle.run_laws.specs.ReportText.{mesh_line, measure_line, fit_line, try_line, info_line, grid_refusal}
@@ -152,17 +156,17 @@ IsKeepOutcome k grid (Ok points) end = (triangles : List ℕ) × IsKept k.thousa
     × (end ≡ plain_outcome (fit_acts (fitting_of k) grid triangles) Done 2)
 IsKeepOutcome k grid (Err refusal) end = end ≡ text_outcome (line_refusal refusal) ScriptRefused 2
 
--- The file of a mesh is compared with the text of the triangles of a certificate: they are the same, or there is a
--- first place at which they differ.
-abbrev pub IsCompared : List ℕ → List ℕ → List ℕ → Outcome → Type 0
-IsCompared mesh text line end =
-    ((mesh ≡ text) × (end ≡ text_outcome line Done 3))
-    ⊎ ((at : ℕ) × IsFirstDifference mesh text at × (end ≡ text_outcome (rejection (MeshDiffers at)) Rejected 3))
+-- The file of a mesh, the last of so many that are opened, is compared with the text of the triangles of a certificate:
+-- they are the same, or there is a first place at which they differ.
+abbrev pub IsCompared : ℕ → List ℕ → List ℕ → List ℕ → Outcome → Type 0
+IsCompared files mesh text line end =
+    ((mesh ≡ text) × (end ≡ text_outcome line Done files))
+    ⊎ ((at : ℕ) × IsFirstDifference mesh text at × (end ≡ text_outcome (rejection (MeshDiffers at)) Rejected files))
 
 -- what the verdict on a certificate leads to: only behind one without a fault the file of the mesh is opened
 abbrev pub IsVerdictOutcome : State → Certificate → List ℕ → Verdict → Outcome → Type 0
 IsVerdictOutcome state cert mesh (verdict.Certified triangles worst) end =
-    IsCompared mesh (text_in state cert.leaves) (certified_line cert.camera triangles worst) end
+    IsCompared 3 mesh (text_in state cert.leaves) (certified_line cert.camera triangles worst) end
 IsVerdictOutcome state cert mesh (verdict.Rejected why) end = end ≡ text_outcome (rejection why) Rejected 2
 
 -- what a check does with a certificate and the bytes of a mesh, or with the number of the line that is refused
@@ -173,21 +177,46 @@ IsCheckOutcome c grid (Ok cert) mesh end =
     × IsVerdictOutcome state cert mesh is end
 IsCheckOutcome c grid (Err line) mesh end = end ≡ text_outcome (rejection (BadLine line)) Rejected 2
 
--- what the verdict on a certificate of a fitted mesh leads to, of which these are the triangles: only behind one
--- without a fault the file of the mesh is opened
-abbrev pub IsFitVerdictOutcome : FitChecking → HeightField → List ℕ → List ℕ → fit_verdict.Verdict → Outcome → Type 0
-IsFitVerdictOutcome c grid triangles mesh (fitted.Certified count deviation) end =
-    IsCompared mesh (fit_text c.spacing grid triangles) (certified_fit_line grid.n count deviation) end
-IsFitVerdictOutcome c grid triangles mesh (fitted.Rejected why) end = end ≡ text_outcome (fit_rejection why) Rejected 2
+-- what the verdict on a certificate of a fitted mesh leads to, the last of so many files that are opened by then, of
+-- which these are the triangles: only behind one without a fault the file of the mesh is opened
+abbrev pub IsFitVerdictOutcome : (files spacing : ℕ) → HeightField → (triangles mesh : List ℕ) → fit_verdict.FitVerdict
+    → Outcome → Type 0
+IsFitVerdictOutcome files spacing grid triangles mesh (fitted.Certified count deviation) end =
+    IsCompared (files + 1) mesh (fit_text spacing grid triangles) (certified_fit_line grid.n count deviation) end
+IsFitVerdictOutcome files spacing grid triangles mesh (fitted.Rejected why) end =
+    end ≡ text_outcome (fit_rejection why) Rejected files
 
 -- what a check of a fitted mesh does with a certificate and the bytes of a mesh, or with the number of the line that is
 -- refused
 abbrev pub IsFitCheckOutcome : FitChecking → HeightField → Result FitCertificate ℕ → List ℕ → Outcome → Type 0
 IsFitCheckOutcome c grid (Ok cert) mesh end =
-    (is : fit_verdict.Verdict) × (triangles : List ℕ)
+    (is : fit_verdict.FitVerdict) × (triangles : List ℕ)
     × IsVerdictOf grid.n grid.heights (goal_of grid.n c.target) cert is triangles
-    × IsFitVerdictOutcome c grid triangles mesh is end
+    × IsFitVerdictOutcome 2 c.spacing grid triangles mesh is end
 IsFitCheckOutcome c grid (Err line) mesh end = end ≡ text_outcome (rejection (BadLine line)) Rejected 2
+
+-- what making a certificate does with the points that the mesh keeps, or with the first line of their file that is
+-- refused
+abbrev pub IsKeptMakeOutcome : KeptMaking → HeightField → Result (List Point) Refusal → Outcome → Type 0
+IsKeptMakeOutcome m grid (Ok points) end =
+    (cert : KeptCertificate) × IsKeptMade m points grid cert × (end ≡ text_outcome (kept_cert_text cert) Done 2)
+IsKeptMakeOutcome m grid (Err refusal) end = end ≡ text_outcome (line_refusal refusal) ScriptRefused 2
+
+-- what a check does with these points, a certificate and the bytes of a mesh, or with the number of the line of the
+-- certificate that is refused
+abbrev pub IsKeptCertOutcome : KeptChecking → List Point → HeightField → Result KeptCertificate ℕ → List ℕ → Outcome
+    → Type 0
+IsKeptCertOutcome c points grid (Ok cert) mesh end =
+    (is : fit_verdict.FitVerdict) × (triangles : List ℕ)
+    × IsKeptVerdictOf grid.n grid.heights points (tolerance_of grid.n c.thousandths) cert is triangles
+    × IsFitVerdictOutcome 3 c.spacing grid triangles mesh is end
+IsKeptCertOutcome c points grid (Err line) mesh end = end ≡ text_outcome (rejection (BadLine line)) Rejected 3
+
+-- what it does with the points, or with the first line of their file that is refused
+abbrev pub IsKeptCheckOutcome : KeptChecking → HeightField → Result (List Point) Refusal → Result KeptCertificate ℕ
+    → List ℕ → Outcome → Type 0
+IsKeptCheckOutcome c grid (Ok points) answer mesh end = IsKeptCertOutcome c points grid answer mesh end
+IsKeptCheckOutcome c grid (Err refusal) answer mesh end = end ≡ text_outcome (line_refusal refusal) ScriptRefused 2
 
 -- What a job does with an accepted grid. A certificate that is made is any that may be.
 abbrev pub IsJobOutcome : Job → HeightField → List NamedFile → Outcome → Type 0
@@ -204,6 +233,10 @@ IsJobOutcome (MakeFit m) grid files end =
     (cert : FitCertificate) × IsFitMade m grid cert × (end ≡ text_outcome (fit_cert_text cert) Done 1)
 IsJobOutcome (CheckFit c) grid files end =
     IsFitCheckOutcome c grid (fit_cert_in grid.n (bytes_of files c.certificate)) (bytes_of files c.mesh) end
+IsJobOutcome (MakeKept m) grid files end = IsKeptMakeOutcome m grid (points_in grid.n (bytes_of files m.points)) end
+IsJobOutcome (CheckKept c) grid files end =
+    IsKeptCheckOutcome c grid (points_in grid.n (bytes_of files c.points))
+    (kept_cert_in grid.n (bytes_of files c.certificate)) (bytes_of files c.mesh) end
 
 -- what a job does with the bytes of a grid, once they were read or refused
 abbrev pub IsGridOutcome : Job → Result HeightField PgmFault → List NamedFile → Outcome → Type 0
@@ -232,4 +265,6 @@ MakesNoCertificate (Some (OnGrid grid (Fit f))) = ⊤
 MakesNoCertificate (Some (OnGrid grid (Keep k))) = ⊤
 MakesNoCertificate (Some (OnGrid grid (MakeFit m))) = ⊥
 MakesNoCertificate (Some (OnGrid grid (CheckFit c))) = ⊤
+MakesNoCertificate (Some (OnGrid grid (MakeKept m))) = ⊥
+MakesNoCertificate (Some (OnGrid grid (CheckKept c))) = ⊤
 MakesNoCertificate (Some (Generated n seed)) = ⊤

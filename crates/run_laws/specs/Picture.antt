@@ -12,11 +12,11 @@ use Rattle.mesh_defs.specs.MeshText.{triangle_mark, is_same_mark}
 use Rattle.mesh_defs.specs.State.{State, priority_in}
 use Rattle.bintree_addr.specs.declared.blocked.Blocked.{Blocked}
 use Rattle.mesh_defs.specs.GridSet.{IsAscending}
-use Rattle.closure_laws.specs.Frame.{IsFrame}
-use Rattle.frame_steps.specs.Steps.{IsFrameRun}
-use Rattle.strip_laws.specs.Strip.{strip_of}
-use Rattle.least_laws.specs.Least.{is_worse}
-use Rattle.word_laws.specs.Words.{Criterion, OfBudget, OfTolerance, DepthFirst, AlongStrip, Show}
+use Rattle.mesh_laws.specs.Frame.{IsFrame}
+use Rattle.mesh_laws.specs.Steps.{IsFrameRun}
+use Rattle.mesh_laws.specs.Strip.{strip_of}
+use Rattle.mesh_laws.specs.Least.{is_worse}
+use Rattle.run_words.specs.Words.{Criterion, OfBudget, OfTolerance, DepthFirst, AlongStrip, Show}
 
 -- what it shows; the triangles that are split, in ascending order; the greatest priority among the leaves; the
 -- triangle that blocks, with its need, if there is one; and how many splits and merges led there

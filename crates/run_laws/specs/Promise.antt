@@ -1,8 +1,9 @@
 -- What a run of `roam` promises, by its status.
 -- Words: Seen, seen, shelf_tells, AreFiles, is_complete, ends_script, EndsAs, EndsRight, HasEnded, may_end,
--- OpensForStatus, IsUndecided, ScriptHasRead, CheckHasRead, FitCheckHasRead, JobHasRead, HasRead, FileReadFault,
--- CommandReadFault, LeavesAtReadFault, most_open, HasReadHeader, CheckHasCome, FitCheckHasCome, CommandNoMemory,
--- LeavesAtNoMemory, IsAcceptedCheck, IsAcceptedFitCheck, IsAcceptedJob, IsAccepted, is_of_text, leaves_engine.
+-- OpensForStatus, IsUndecided, ScriptHasRead, CheckHasRead, FitCheckHasRead, KeptCheckHasRead, JobHasRead, HasRead,
+-- FileReadFault, CommandReadFault, LeavesAtReadFault, most_open, HasReadHeader, CheckHasCome, FitCheckHasCome,
+-- KeptMakeHasCome, KeptCheckHasCome, CommandNoMemory, LeavesAtNoMemory, IsAcceptedCheck, IsAcceptedFitCheck,
+-- IsAcceptedKeptCheck, IsAcceptedJob, IsAccepted, is_of_text, leaves_engine.
 use Rattle.std.specs.Prelude.{◌≡◌, ◌≢◌, ⊤, ℕ, zero, suc, ◌+◌, ◌<◌, ◌≤◌, Bool, true, false, ◌&&◌, ◌||◌, nat_lt, IsTrue}
 use Rattle.std.specs.Prelude.{List, [], ◌++◌, length, Option, Some, None, Ok, Err, slice_get}
 use Rattle.mesh_defs.specs.declared.point.Point.{Point}
@@ -10,23 +11,24 @@ use Rattle.mesh_defs.specs.HeightField.{HeightField, IsHeightField}
 use Rattle.roam_edge.specs.Shelf.{NamedFile, bytes_of}
 use Rattle.roam_edge.specs.Told.{IsPrefix}
 use Rattle.roam_edge.specs.declared.shelf.Shelf as reading
-use Rattle.pgm_header.specs.declared.accepted.Header.{Header}
+use Rattle.pgm_grid.specs.declared.accepted_header.Header.{Header}
 use Rattle.pgm_grid.specs.declared.fault.PgmFault.{PgmFault}
 use Rattle.pgm_grid.specs.PgmText.{IsFileText, HasHeader}
 use Rattle.pgm_grid.specs.Progress.{grid_of}
 use Rattle.mesh_defs.specs.State.{text_in}
 use Rattle.cert_text.specs.Certificate.{Certificate}
-use Rattle.fit_certificate_laws.specs.Certificate.{FitCertificate}
+use Rattle.certificate_laws.specs.FitCertificate.{FitCertificate}
+use Rattle.certificate_laws.specs.Keeping.{KeptCertificate}
 use Rattle.run_laws.specs.declared.status.Status.{Status}
 use Rattle.run_laws.specs.declared.status.Status.TheVariants.{Done, NoMemory, Usage, GridRefused, ScriptRefused}
 use Rattle.run_laws.specs.declared.status.Status.TheVariants.{ReadFault, WriteFault, Rejected}
 use Rattle.run_laws.specs.Walk.{AreWhole, HasBegun}
-use Rattle.word_laws.specs.Words.{Scripted, Checking, Job, Frames, Facts, Make, Check, Fit, Keep, FitChecking, MakeFit}
-use Rattle.word_laws.specs.Words.{CheckFit, Command, OnGrid, Generated, names_of, file_count, has_script, has_points}
-use Rattle.word_laws.specs.Words.{is_check, is_of_engine, command_of}
-use Rattle.run_laws.specs.CertFile.{cert_in, CertHasRead, fit_cert_in, FitCertHasRead}
+use Rattle.run_words.specs.Words.{Scripted, Checking, Job, Frames, Facts, Make, Check, Fit, Keep, FitChecking, MakeFit}
+use Rattle.run_words.specs.Words.{CheckFit, KeptMaking, KeptChecking, MakeKept, CheckKept, Command, OnGrid, Generated, names_of}
+use Rattle.run_words.specs.Words.{file_count, has_script, has_points, is_check, is_of_engine, command_of}
+use Rattle.run_laws.specs.CertFile.{cert_in, CertHasRead, fit_cert_in, FitCertHasRead, kept_cert_in, KeptCertHasRead}
 use Rattle.run_laws.specs.PointFile.{points_in, PointsHaveRead}
-use Rattle.run_laws.specs.Certify.{checks_at, IsFaultless, IsFitFaultless}
+use Rattle.run_laws.specs.Certify.{checks_at, IsFaultless, IsFitFaultless, IsKeptFaultless}
 use Rattle.run_laws.specs.Fit.{fit_text}
 use Rattle.run_laws.specs.Picture.{Picture, ArePictures}
 use Rattle.run_laws.specs.Act.{Act, Told, Stands, IsCutShort}
@@ -107,12 +109,12 @@ may_end (Some command) Rejected = is_check command
 may_end (Some command) _ = true
 
 -- How often a file was opened, an opening that failed included, where the words name so many: each once where the run
--- was done or a line of its script or its points refused, the grid alone where that is refused, none for words that
--- are no command, and else at most each once. At least one was opened where a read failed, and where a write failed if
--- the words name any; at least two where a check rejects.
+-- was done, the grid and behind it the script or the points where a line of these is refused, the grid alone where that
+-- is refused, none for words that are no command, and else at most each once. At least one was opened where a read
+-- failed, and where a write failed if the words name any; at least two where a check rejects.
 pub record OpensForStatus (before now files : ℕ) (status : Status) : Type 0 where
   pub done : status ≡ Done → now ≡ before + files
-  pub script_refused : status ≡ ScriptRefused → now ≡ before + files
+  pub script_refused : status ≡ ScriptRefused → now ≡ before + 2
   pub grid_refused : status ≡ GridRefused → now ≡ before + 1
   pub usage : status ≡ Usage → now ≡ before
   pub read_fault : status ≡ ReadFault → before + 1 ≤ now
@@ -153,6 +155,17 @@ FitCheckHasRead c grid files (suc k) read =
     (cert : FitCertificate) × (triangles : List ℕ) × (fit_cert_in grid.n (bytes_of files c.certificate) ≡ Ok cert)
     × IsFitFaultless c grid cert triangles × IsPrefix read (fit_text c.spacing grid triangles)
 
+-- and of a check of a mesh that keeps points, which are read before the certificate
+abbrev pub KeptCheckHasRead : KeptChecking → HeightField → List NamedFile → ℕ → List ℕ → Type 0
+KeptCheckHasRead c grid files zero read = PointsHaveRead grid.n read
+KeptCheckHasRead c grid files (suc zero) read =
+    ((points : List Point) × (points_in grid.n (bytes_of files c.points) ≡ Ok points)) × KeptCertHasRead grid.n read
+KeptCheckHasRead c grid files (suc (suc k)) read =
+    (points : List Point) × (cert : KeptCertificate) × (triangles : List ℕ)
+    × (points_in grid.n (bytes_of files c.points) ≡ Ok points)
+    × (kept_cert_in grid.n (bytes_of files c.certificate) ≡ Ok cert)
+    × IsKeptFaultless c points grid cert triangles × IsPrefix read (fit_text c.spacing grid triangles)
+
 -- so much of the job's file at this place, counted from 0, was read, and these acts were done
 abbrev pub JobHasRead : Job → HeightField → List NamedFile → ℕ → List ℕ → List Act → Type 0
 JobHasRead (Frames s) grid files k read acts = ScriptHasRead s grid read acts
@@ -163,6 +176,8 @@ JobHasRead (Fit f) grid files k read acts = ⊥
 JobHasRead (Keep p) grid files k read acts = PointsHaveRead grid.n read × (acts ≡ [])
 JobHasRead (MakeFit m) grid files k read acts = ⊥
 JobHasRead (CheckFit c) grid files k read acts = FitCheckHasRead c grid files k read × (acts ≡ [])
+JobHasRead (MakeKept m) grid files k read acts = PointsHaveRead grid.n read × (acts ≡ [])
+JobHasRead (CheckKept c) grid files k read acts = KeptCheckHasRead c grid files k read × (acts ≡ [])
 
 -- Of the command's file at this place, counted from 0, these bytes were read, and no refusal was met; these
 -- acts are what the run has done by then.
@@ -201,8 +216,8 @@ pub record LeavesAtReadFault (before now : Told) (old new : Seen) (words : List 
   pub is_command : command_of words ≡ Some command
   pub leaves : CommandReadFault before now old new command
 
--- how many files are open at most when memory runs out: the grid alone, but for a check, which takes memory for its
--- certificate and its mesh too
+-- how many files are open at most when memory runs out: the grid alone, but for a certificate of a mesh that keeps
+-- points, which takes memory behind the points, and for a check, which takes memory for its certificate and its mesh too
 abbrev pub most_open : Command → ℕ
 most_open (OnGrid name (Frames s)) = 1
 most_open (OnGrid name Facts) = 1
@@ -212,6 +227,8 @@ most_open (OnGrid name (Fit f)) = 1
 most_open (OnGrid name (Keep k)) = 1
 most_open (OnGrid name (MakeFit m)) = 1
 most_open (OnGrid name (CheckFit c)) = 3
+most_open (OnGrid name (MakeKept m)) = 2
+most_open (OnGrid name (CheckKept c)) = 4
 most_open (Generated n seed) = 0
 
 -- the bytes have a whole accepted header, which was read
@@ -233,9 +250,24 @@ FitCheckHasCome name c files opened = 2 ≤ opened → (grid : HeightField) × (
     × (fit_cert_in grid.n (bytes_of files c.certificate) ≡ Ok cert)
     × IsFitFaultless c grid cert triangles)
 
--- Memory ran out. Nothing was written, and no script and no points were opened; if the command names a grid, a whole
--- accepted header of it was read; and a check opened a later file only after accepted ones. Where this holds nothing
--- forbids the status.
+-- Where a certificate of a mesh that keeps points is made, the points are opened only once the grid is accepted, and no
+-- memory is taken while they are read.
+abbrev pub KeptMakeHasCome : List ℕ → List ℕ → List NamedFile → ℕ → Type 0
+KeptMakeHasCome name points_name files opened = 2 ≤ opened → (grid : HeightField)
+    × (grid_of (bytes_of files name) ≡ Ok grid)
+    × (points : List Point) × (points_in grid.n (bytes_of files points_name) ≡ Ok points)
+
+-- so of a check by one, which opens the mesh only once the certificate has no fault
+abbrev pub KeptCheckHasCome : List ℕ → KeptChecking → List NamedFile → ℕ → Type 0
+KeptCheckHasCome name c files opened = 2 ≤ opened → (grid : HeightField) × (grid_of (bytes_of files name) ≡ Ok grid)
+    × (points : List Point) × (points_in grid.n (bytes_of files c.points) ≡ Ok points)
+    × (4 ≤ opened → (cert : KeptCertificate) × (triangles : List ℕ)
+    × (kept_cert_in grid.n (bytes_of files c.certificate) ≡ Ok cert)
+    × IsKeptFaultless c points grid cert triangles)
+
+-- Memory ran out. Nothing was written, and no script was opened, nor points that a mesh is fitted to; if the command
+-- names a grid, a whole accepted header of it was read; and what makes or checks a certificate opened a later file only
+-- after accepted ones. Where this holds nothing forbids the status.
 pub record CommandNoMemory (before now : Told) (old new : Seen) (command : Command) : Type 0 where
   pub opened : ℕ
   pub count : new.opens ≡ old.opens + opened
@@ -250,6 +282,12 @@ pub record CommandNoMemory (before now : Told) (old new : Seen) (command : Comma
   pub fit_in_order : (name : List ℕ) (c : FitChecking) (files : List NamedFile) →
       command ≡ OnGrid name (CheckFit c) → old.files ≡ Some files
       → FitCheckHasCome name c files opened
+  pub kept_make_in_order : (name : List ℕ) (m : KeptMaking) (files : List NamedFile) →
+      command ≡ OnGrid name (MakeKept m) → old.files ≡ Some files
+      → KeptMakeHasCome name m.points files opened
+  pub kept_in_order : (name : List ℕ) (c : KeptChecking) (files : List NamedFile) →
+      command ≡ OnGrid name (CheckKept c) → old.files ≡ Some files
+      → KeptCheckHasCome name c files opened
 
 -- so only for words of a command
 pub record LeavesAtNoMemory (before now : Told) (old new : Seen) (words : List (List ℕ)) : Type 0 where
@@ -269,6 +307,14 @@ IsAcceptedFitCheck c grid files =
     (cert : FitCertificate) × (triangles : List ℕ) × (fit_cert_in grid.n (bytes_of files c.certificate) ≡ Ok cert)
     × IsFitFaultless c grid cert triangles × (bytes_of files c.mesh ≡ fit_text c.spacing grid triangles)
 
+-- and of a check of a mesh that keeps points: each line of these too
+abbrev pub IsAcceptedKeptCheck : KeptChecking → HeightField → List NamedFile → Type 0
+IsAcceptedKeptCheck c grid files =
+    (points : List Point) × (cert : KeptCertificate) × (triangles : List ℕ)
+    × (points_in grid.n (bytes_of files c.points) ≡ Ok points)
+    × (kept_cert_in grid.n (bytes_of files c.certificate) ≡ Ok cert)
+    × IsKeptFaultless c points grid cert triangles × (bytes_of files c.mesh ≡ fit_text c.spacing grid triangles)
+
 -- what a job reads is accepted: each line of its script or of its points, or the certificate and the mesh of a check
 abbrev pub IsAcceptedJob : Job → HeightField → List NamedFile → Type 0
 IsAcceptedJob (Frames s) grid files = (script_walk s grid (bytes_of files s.script)).stop ≡ None
@@ -280,6 +326,9 @@ IsAcceptedJob (Keep k) grid files =
     (points : List Point) × (points_in grid.n (bytes_of files k.points) ≡ Ok points)
 IsAcceptedJob (MakeFit m) grid files = ⊤
 IsAcceptedJob (CheckFit c) grid files = IsAcceptedFitCheck c grid files
+IsAcceptedJob (MakeKept m) grid files =
+    (points : List Point) × (points_in grid.n (bytes_of files m.points) ≡ Ok points)
+IsAcceptedJob (CheckKept c) grid files = IsAcceptedKeptCheck c grid files
 
 -- the words are a command, and what it reads is accepted: the file of its grid is a text of one, and what its job reads
 -- is accepted; a generated run reads nothing
@@ -300,6 +349,8 @@ is_of_text (Some (OnGrid name (Fit f))) = false
 is_of_text (Some (OnGrid name (Keep k))) = false
 is_of_text (Some (OnGrid name (MakeFit m))) = true
 is_of_text (Some (OnGrid name (CheckFit c))) = true
+is_of_text (Some (OnGrid name (MakeKept m))) = true
+is_of_text (Some (OnGrid name (CheckKept c))) = true
 is_of_text (Some (Generated n seed)) = true
 
 -- an engine is left where it made the frames, and the script came to its end or to a line that is refused
@@ -312,5 +363,7 @@ leaves_engine (Some (OnGrid name (Fit f))) status = false
 leaves_engine (Some (OnGrid name (Keep k))) status = false
 leaves_engine (Some (OnGrid name (MakeFit m))) status = false
 leaves_engine (Some (OnGrid name (CheckFit c))) status = false
+leaves_engine (Some (OnGrid name (MakeKept m))) status = false
+leaves_engine (Some (OnGrid name (CheckKept c))) status = false
 leaves_engine (Some (Generated n seed)) status = ends_script status
 leaves_engine None status = false

@@ -24,13 +24,13 @@ use Rattle.roam_script.specs.declared.script_fault.ScriptFault.TheVariants.{TooM
 use Rattle.certificate_laws.specs.declared.reason.Reject.{Reject}
 use Rattle.certificate_laws.specs.declared.reason.Reject.TheVariants.{BadLine, NotConforming, OverBudget, BadReason}
 use Rattle.certificate_laws.specs.declared.reason.Reject.TheVariants.{TooFewReasons, MeshDiffers}
-use Rattle.fit_certificate_laws.specs.declared.reason.Reject as fits
-use Rattle.fit_certificate_laws.specs.declared.reason.Reject.TheVariants as fit_reject
+use Rattle.certificate_laws.specs.declared.fit_reason.FitReject as fits
+use Rattle.certificate_laws.specs.declared.fit_reason.FitReject.TheVariants as fit_reject
 use Rattle.roam_num.specs.Places.{exact_decimal}
 use Rattle.cert_text.specs.CertText.{number_text}
 use Rattle.run_laws.specs.Walk.{Refusal}
-use Rattle.word_laws.specs.Words.{Criterion, OfBudget, OfTolerance, TriangleOrder, DepthFirst, AlongStrip}
-use Rattle.deviation_laws.specs.PlaneHeight.{deviation_of, thickest_of}
+use Rattle.run_words.specs.Words.{Criterion, OfBudget, OfTolerance, TriangleOrder, DepthFirst, AlongStrip}
+use Rattle.fit_laws.specs.PlaneHeight.{deviation_of, thickest_of}
 use Rattle.run_laws.specs.Picture.{Picture, triangles_of, strip_triangles, mark_count}
 use Rattle.run_laws.specs.Turns.{left_turns, right_turns}
 
@@ -202,12 +202,12 @@ certified_fit_line n triangles deviation =
     ++ codes " error " ++ exact_decimal deviation n ++ codes "\n"
 
 -- which test of a certificate of a fitted mesh failed first; reasons are counted from 1
-abbrev pub fit_reject_text : fits.Reject → List ℕ
+abbrev pub fit_reject_text : fits.FitReject → List ℕ
 fit_reject_text fit_reject.OtherTolerance = codes "other tolerance"
 fit_reject_text (fit_reject.BadReason index) = codes "bad reason " ++ decimal index
 fit_reject_text fit_reject.OverTolerance = codes "over tolerance"
 fit_reject_text fit_reject.OverBudget = codes "over budget"
 fit_reject_text fit_reject.TooFewReasons = codes "too few reasons"
 
-abbrev pub fit_rejection : fits.Reject → List ℕ
+abbrev pub fit_rejection : fits.FitReject → List ℕ
 fit_rejection why = codes "rejected: " ++ fit_reject_text why ++ codes "\n"

@@ -15,15 +15,15 @@ use Rattle.roam_edge.specs.Fault.{IsInTime}
 use Rattle.obj_write.specs.Written.{Grows}
 use Rattle.run_laws.specs.declared.status.Status.{Status}
 use Rattle.run_laws.specs.declared.status.Status.TheVariants.{Done, NoMemory, Usage, ReadFault, WriteFault}
-use Rattle.word_laws.specs.Words.{Scripted, Checking, Fitting, Keeping, FitChecking, Frames, Check, Fit, Keep}
-use Rattle.word_laws.specs.Words.{CheckFit, Command, command_of, prefix_of, file_count}
+use Rattle.run_words.specs.Words.{Scripted, Checking, Fitting, Keeping, FitChecking, KeptChecking, Frames, Check, Fit}
+use Rattle.run_words.specs.Words.{Keep, CheckFit, CheckKept, Command, command_of, prefix_of, file_count}
 use Rattle.run_laws.specs.Act.{Stands, IsCutShort}
 use Rattle.run_laws.specs.Picture.{IsCertified}
 use Rattle.run_laws.specs.Outcome.{EngineEnd, Outcome, IsOutcome}
 use Rattle.run_laws.specs.Promise.{AreFiles, is_complete, HasEnded, may_end, OpensForStatus, CommandReadFault}
 use Rattle.run_laws.specs.Promise.{CommandNoMemory, is_of_text, leaves_engine}
 use Rattle.run_laws.specs.Headline.{IsRunOf, KeepsGoodMeshes, IsCertifiedMesh, IsCertifiedFit, KeepsFitMesh}
-use Rattle.run_laws.specs.Headline.{KeepsKeptMesh}
+use Rattle.run_laws.specs.Headline.{IsCertifiedKept, KeepsKeptMesh}
 use Rattle.run_laws.specs.PointFile.{points_in}
 use Rattle.run_laws.specs.Moment.{Moment, SameMeshes}
 
@@ -47,8 +47,8 @@ pub record KeepsBestMeshes (before now : Moment) (words : List (List ℕ)) (stat
 
 -- With Done of a check, the report got one line, which says that its mesh is certified; and so it is, whoever made it.
 -- One that `certify check` certifies is optimal, though perhaps not the mesh that `mesh` writes; one that `certify
--- check-fit` certifies has the fewest triangles for its error, or the least error for its budget. (Where the shelf
--- tells its files.)
+-- check-fit` certifies has the fewest triangles for its error, or the least error for its budget; and with `keep` the
+-- fewest for its error of those that have the points as vertices. (Where the shelf tells its files.)
 pub record CertifiesMesh (before now : Moment) (words : List (List ℕ)) (status : Status) : Type 0 where
   pub of_check : (files : List NamedFile) (c : Checking) (grid : HeightField) → before.shelf.files ≡ Some files
       → IsRunOf words files (Check c) grid → status ≡ Done → (line : List ℕ)
@@ -56,6 +56,10 @@ pub record CertifiesMesh (before now : Moment) (words : List (List ℕ)) (status
   pub of_check_fit : (files : List NamedFile) (c : FitChecking) (grid : HeightField) → before.shelf.files ≡ Some files
       → IsRunOf words files (CheckFit c) grid → status ≡ Done → (line : List ℕ)
       × Grows before.sinks.report now.sinks.report line × IsCertifiedFit c grid (bytes_of files c.mesh) line
+  pub of_check_kept : (files : List NamedFile) (c : KeptChecking) (grid : HeightField) → before.shelf.files ≡ Some files
+      → IsRunOf words files (CheckKept c) grid → status ≡ Done → (points : List Point)
+      × (points_in grid.n (bytes_of files c.points) ≡ Ok points) × (line : List ℕ)
+      × Grows before.sinks.report now.sinks.report line × IsCertifiedKept c points grid (bytes_of files c.mesh) line
 
 -- in each frame that an engine makes in an outcome of the words: if a triangle blocks, it is a worst leaf of the mesh,
 -- and a mesh with it split has more triangles than the budget; if none blocks, the worst priority is 0

@@ -5,7 +5,7 @@ use Rattle.mesh_defs.specs.HeightField.{HeightField}
 use Rattle.roam_edge.specs.Shelf.{NamedFile, bytes_of}
 use Rattle.run_laws.specs.declared.status.Status.{Status}
 use Rattle.run_laws.specs.declared.status.Status.TheVariants.{Done, NoMemory, WriteFault}
-use Rattle.word_laws.specs.Words.{Scripted, Frames, Command, command_of}
+use Rattle.run_words.specs.Words.{Scripted, Frames, Command, command_of}
 use Rattle.run_laws.specs.Act.{ReportText}
 use Rattle.run_laws.specs.Cause.{StatusHasCause}
 use Rattle.run_laws.specs.Outcome.{EngineEnd, Outcome, IsOutcome, MakesNoCertificate}

@@ -2,7 +2,7 @@
 -- Words: Place, HasCome, Refuses, Cuts.
 use Rattle.std.specs.Prelude.{◌≡◌, ℕ, List, [], ◌++◌, None, IsSome}
 use Rattle.run_laws.specs.Walk.{Walk, walk_of, AreWhole, HasBegun}
-use Rattle.word_laws.specs.Words.{Show}
+use Rattle.run_words.specs.Words.{Show}
 use Rattle.run_laws.specs.Picture.{Picture, ArePictures}
 use Rattle.run_laws.specs.Act.{Told, Stands, IsCutShort}
 use Rattle.run_laws.specs.Outcome.{Outcome, shown_acts, stop_acts, IsFramesOutcome}

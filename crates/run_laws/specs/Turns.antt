@@ -7,9 +7,9 @@ use Rattle.mesh_defs.specs.declared.point.Point.{Point}
 use Rattle.mesh_defs.specs.declared.point.Corners.{Corners}
 use Rattle.mesh_defs.specs.Triangle.{corners_of}
 use Rattle.mesh_defs.specs.MeshText.{is_same_point}
-use Rattle.strip_laws.specs.declared.edge.Edge.{Edge}
-use Rattle.strip_laws.specs.declared.edge.Edge.TheVariants.{LeftLeg, Base, RightLeg}
-use Rattle.strip_laws.specs.Turn.{edge_from, edge_to, next, last}
+use Rattle.mesh_laws.specs.declared.edge.Edge.{Edge}
+use Rattle.mesh_laws.specs.declared.edge.Edge.TheVariants.{LeftLeg, Base, RightLeg}
+use Rattle.mesh_laws.specs.Turn.{edge_from, edge_to, next, last}
 
 -- from p to q is an edge, counterclockwise
 abbrev pub is_edge : Corners → Point → Point → Bool

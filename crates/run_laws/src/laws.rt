@@ -5,17 +5,19 @@ ghost use Rattle.run_laws.specs.Examples.{BudgetsAreInForce, AreasAreRaised, Way
 ghost use Rattle.run_laws.specs.Examples.{MeshesAreMeasured};
 ghost use Rattle.run_laws.specs.CertifyExamples.{CertificatesAreRead, CertificatesAreRefused, WordsOfCertify};
 ghost use Rattle.run_laws.specs.CertifyExamples.{FitCertificatesAreRead, FitCertificatesAreRefused, WordsOfCertifyFit};
+ghost use Rattle.run_laws.specs.CertifyExamples.{KeptCertificatesAreRead, KeptCertificatesAreRefused};
+ghost use Rattle.run_laws.specs.CertifyExamples.{WordsOfCertifyKept};
 ghost use Rattle.run_laws.specs.Laws.{WalksGoOn, PicturesGoOn, FramesExistFrom, RunsAreUnique, SetsStayClosed};
 ghost use Rattle.run_laws.specs.Laws.{LevelsAreInRange, BudgetsAreTwo, OutcomesAreUnique, OutcomesExist};
 ghost use Rattle.run_laws.specs.Laws.{AcceptedIsDone, EnginesAreUnique, PicturesAreCertified, HeadlineFollows};
-ghost use Rattle.run_laws.specs.Laws.{CertifiedFollows, FitCertifiedFollows, TolerancesAreExact, FitsAreBest};
-ghost use Rattle.run_laws.specs.Laws.{FittedFollows, KeptAreBest, KeptFollows, MadeIsAccepted, FitMadeIsAccepted};
-ghost use Rattle.run_laws.specs.Laws.{FitIsReadBack, TurnsAreCounted};
+ghost use Rattle.run_laws.specs.Laws.{CertifiedFollows, FitCertifiedFollows, KeptCertifiedFollows, TolerancesAreExact};
+ghost use Rattle.run_laws.specs.Laws.{FitsAreBest, FittedFollows, KeptAreBest, KeptFollows, MadeIsAccepted};
+ghost use Rattle.run_laws.specs.Laws.{FitMadeIsAccepted, KeptMadeIsAccepted, FitIsReadBack, KeptIsReadBack};
+ghost use Rattle.run_laws.specs.Laws.{TurnsAreCounted};
 
-use cert_text::text_laws;
-use closure_laws::{frame_laws, member_laws};
-use fit_cert_text::fit_text_laws;
-use frame_steps as steps;
+use cert_text::{fit_text_laws, kept_text_laws, text_laws};
+use mesh_laws as steps;
+use mesh_laws::{frame_laws, member_laws};
 use pgm_grid::grids_and_texts;
 use plain_mesh::falling_laws;
 use roam_script::{line_laws, point_laws};
@@ -35,7 +37,7 @@ pub fn state_laws()
     ensures levels { LevelsAreInRange }
     ensures budgets { BudgetsAreTwo }
 {
-    steps::frame_laws();
+    steps::frame_run_laws();
     falling_laws();
     grids_and_texts();
     line_laws();
@@ -68,6 +70,7 @@ pub fn fitting_laws()
     ensures best { FitsAreBest }
     ensures fitted { FittedFollows }
     ensures certified { FitCertifiedFollows }
+    ensures certified_kept { KeptCertifiedFollows }
     ensures best_kept { KeptAreBest }
     ensures kept { KeptFollows }
 {
@@ -76,15 +79,19 @@ pub fn fitting_laws()
 }
 
 /// What `certify make` writes for a grid `certify check` accepts, with the mesh that it is of, and what
-/// `certify make-fit` writes `certify check-fit`, with the mesh that `fit` writes; and the text of a certificate of a
-/// fitted mesh is read back as it.
+/// `certify make-fit` writes `certify check-fit`, with the mesh that `fit` writes, with points or without; and the text
+/// of a certificate of a fitted mesh is read back as it.
 pub fn certify_laws()
     ensures accepted { MadeIsAccepted }
     ensures fit_accepted { FitMadeIsAccepted }
+    ensures kept_accepted { KeptMadeIsAccepted }
     ensures fit_read_back { FitIsReadBack }
+    ensures kept_read_back { KeptIsReadBack }
 {
     text_laws();
     fit_text_laws();
+    kept_text_laws();
+    point_laws();
 }
 
 /// How many turns a strip takes to either side is what the tests of turns count.
@@ -111,6 +118,9 @@ pub fn certify_examples()
     ensures fit_read { FitCertificatesAreRead }
     ensures fit_refused { FitCertificatesAreRefused }
     ensures fit_words { WordsOfCertifyFit }
+    ensures kept_read { KeptCertificatesAreRead }
+    ensures kept_refused { KeptCertificatesAreRefused }
+    ensures kept_words { WordsOfCertifyKept }
 {}
 
 /// What small meshes are measured to be, worked by hand: the turns of strips, deviations and thicknesses.

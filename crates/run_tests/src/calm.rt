@@ -1,7 +1,7 @@
 //! A run over objects that never fail, but for the room of the report.
 
 ghost use Rattle.std.specs.Prelude.{◌≡◌, ◌≢◌, ◌-◌, ◌^◌, ◌<◌, ◌≤◌, ◌⊎◌, ◌↔◌, false, map, string_bytes};
-ghost use Rattle.word_laws.specs.Words.{command_of};
+ghost use Rattle.run_words.specs.Words.{command_of};
 ghost use Rattle.run_laws.specs.Promise.{IsAccepted};
 
 use edge_doubles::CountMeshes;

@@ -1,6 +1,6 @@
 //! Certificates of fitted meshes: made, and checked beside a mesh.
 
-use crate::files::{flat_mesh, hill, hill_mesh, wide_corner};
+use crate::files::{flat, flat_mesh, hill, hill_mesh, wide_corner};
 use crate::ran::{Faults, Ran, run_over, run_words};
 use edge_doubles::MemShelf;
 use roam_run::Status;
@@ -112,6 +112,126 @@ fn a_check_of_a_fit_rejects_with_the_first_test_that_fails(rt: HostRuntime) -> R
         let end = (Status::Rejected, line.as_str());
         let is_so = ends_so(rt.alloc(), mesh, certificate, goal, end)?;
         assert!(rt; is_so, "{why:?}");
+    }
+    Ok(())
+}
+
+// Of nine points of height 0: a corner asks for nothing, and the middle of an edge for the two halves too, whose centre is
+// the middle.
+#[test]
+fn a_certificate_needs_the_points_that_are_kept(rt: HostRuntime) -> Result<(), Fail> {
+    let cases: [(&[u8], &str); 5] = [
+        (b"", "tolerance 0\nmesh\n"),
+        (b"0 0\n2 2\n", "tolerance 0\nmesh\n"),
+        (b"1 1\n1 1\n", "need 1 1\ntolerance 0\nmesh\n"),
+        (b"1 0\n1 1\n", "need 1 0\ntolerance 0\nmesh\n"),
+        (b"1 1\n1 0\n", "need 1 1\nneed 1 0\ntolerance 0\nmesh\n"),
+    ];
+    for (points, cert) in cases {
+        let words = ["certify", "make-fit", "g", "error", "0", "1", "keep", "s"];
+        let ran = run_words(rt.alloc(), &words, flat(), points, Faults::none())?;
+        assert_eq!(rt; ran.status, Status::Done, "{points:?}");
+        assert_eq!(rt; ran.report.as_slice(), cert.as_bytes(), "{points:?}");
+        assert_eq!(rt; ran.meshes.len(), 0, "{points:?}");
+    }
+    Ok(())
+}
+
+/// A check of the mesh that `fit` writes of nine points of height 0 for these points, by this certificate, for others.
+fn run_kept(alloc: Global, made: &[u8], certificate: &[u8], points: &[u8]) -> Result<Ran, Fail> {
+    let words = ["fit", "g", "out", "error", "0", "1", "keep", "s"];
+    let fit = run_words(alloc, &words, flat(), made, Faults::none())?;
+    let (_, _, mesh, _) = fit.last().ok_or("no mesh")?;
+    let mut shelf = MemShelf::new(alloc, &[])?;
+    shelf.add("g", flat())?;
+    shelf.add("m", mesh)?;
+    shelf.add("c", certificate)?;
+    shelf.add("p", points)?;
+    let words = [
+        "certify",
+        "check-fit",
+        "g",
+        "m",
+        "c",
+        "error",
+        "0",
+        "1",
+        "keep",
+        "p",
+    ];
+    run_over(alloc, &words, &mut shelf, Faults::none())
+}
+
+// The points are looked at first, then the certificate, and the mesh last.
+#[test]
+fn a_check_of_kept_points_says_the_first_test_that_fails(rt: HostRuntime) -> Result<(), Fail> {
+    let middle: &[u8] = b"need 1 1\ntolerance 0\nmesh\n";
+    let bare: &[u8] = b"tolerance 0\nmesh\n";
+    let late: &[u8] = b"tolerance 0\nneed 1 1\nmesh\n";
+    let behind: &[u8] = b"need 1 1\ntolerance 0\nmesh\noff 4 0 0\n";
+    let far: &[u8] = b"need 1 1\ntolerance 1\nmesh\n";
+    let certified = "certified fit triangles 4 deviation 0 over 2 error 0\n";
+    let cases: [(&[u8], &[u8], &[u8], Status, &str); 9] = [
+        (b"1 1", middle, b"1 1\n", Status::Done, certified),
+        (b"1 1", middle, b"0 0\n\n1 1", Status::Done, certified),
+        (
+            b"1 1",
+            b"",
+            b"3 0",
+            Status::ScriptRefused,
+            "line 1 refused: out of range in field 1\n",
+        ),
+        (
+            b"1 1",
+            late,
+            b"1 1",
+            Status::Rejected,
+            "rejected: bad line 2\n",
+        ),
+        (
+            b"1 1",
+            far,
+            b"1 1",
+            Status::Rejected,
+            "rejected: other tolerance\n",
+        ),
+        (
+            b"1 1",
+            middle,
+            b"1 0",
+            Status::Rejected,
+            "rejected: bad reason 1\n",
+        ),
+        (
+            b"1 1",
+            behind,
+            b"1 1",
+            Status::Rejected,
+            "rejected: bad reason 2\n",
+        ),
+        (
+            b"",
+            bare,
+            b"1 1",
+            Status::Rejected,
+            "rejected: too few reasons\n",
+        ),
+        (
+            b"",
+            middle,
+            b"1 1",
+            Status::Rejected,
+            "rejected: mesh differs at ",
+        ),
+    ];
+    for (made, certificate, points, status, line) in cases {
+        let ran = run_kept(rt.alloc(), made, certificate, points)?;
+        assert_eq!(rt; ran.status, status, "{line:?}");
+        assert!(rt;
+            ran.report.as_slice().starts_with(line.as_bytes()),
+            "{line:?}"
+        );
+        assert!(rt; ran.meshes.is_empty() && ran.engine.is_none(), "{line:?}");
     }
     Ok(())
 }

@@ -1,6 +1,6 @@
--- Words that are no command, and commands of eight words.
+-- Words that are no command, and commands of eight words and of ten.
 use Rattle.std.proofs.Common.{◌≡◌, ℕ, ◌<◌, List, [], ◌∷◌, length, get_or, map, None, refl, arith, ◌≤◌}
-use Rattle.word_laws.specs.Words.{command_of, eight_command}
+use Rattle.run_words.specs.Words.{command_of, eight_command, ten_command}
 
 -- the entries of a list of eight
 pub eight-words : {W : Type 0} (f : W → List ℕ) (ws : List W) (a b c d e h i j : W) → 8 ≤ length ws → length ws < 9 →
@@ -22,23 +22,70 @@ eight-words f (k ∷ (l ∷ (m ∷ (n ∷ (o ∷ (x ∷ (y ∷ (z ∷ []))))))))
 eight-words f (k ∷ (l ∷ (m ∷ (n ∷ (o ∷ (x ∷ (y ∷ (z ∷ (more ∷ rest))))))))) a b c d e h i j low high p q r s t u v w =
     absurd (omega (arith, high))
 
--- nine words are none, and no list of eight has fewer
-pub none-of-nine : {W : Type 0} (f : W → List ℕ) (ws : List W) → 8 < length ws → command_of (map f ws) ≡ None
-none-of-nine f [] many = absurd (omega (arith, many))
-none-of-nine f (k ∷ []) many = absurd (omega (arith, many))
-none-of-nine f (k ∷ (l ∷ [])) many = absurd (omega (arith, many))
-none-of-nine f (k ∷ (l ∷ (m ∷ []))) many = absurd (omega (arith, many))
-none-of-nine f (k ∷ (l ∷ (m ∷ (n ∷ [])))) many = absurd (omega (arith, many))
-none-of-nine f (k ∷ (l ∷ (m ∷ (n ∷ (o ∷ []))))) many = absurd (omega (arith, many))
-none-of-nine f (k ∷ (l ∷ (m ∷ (n ∷ (o ∷ (x ∷ [])))))) many = absurd (omega (arith, many))
-none-of-nine f (k ∷ (l ∷ (m ∷ (n ∷ (o ∷ (x ∷ (y ∷ []))))))) many = absurd (omega (arith, many))
-none-of-nine f (k ∷ (l ∷ (m ∷ (n ∷ (o ∷ (x ∷ (y ∷ (z ∷ [])))))))) many = absurd (omega (arith, many))
-none-of-nine f (k ∷ (l ∷ (m ∷ (n ∷ (o ∷ (x ∷ (y ∷ (z ∷ (more ∷ rest))))))))) many = refl
-
 -- this case is none: eight words or more, and fewer than eight
 pub none-of-eight : {W : Type 0} (f : W → List ℕ) (ws : List W) → 8 ≤ length ws → length ws < 8 →
     command_of (map f ws) ≡ None
 none-of-eight f ws many few = absurd (omega (arith, many, few))
+
+-- the entries of a list of ten
+pub ten-words : {W : Type 0} (f : W → List ℕ) (ws : List W) (a b c d e h i j p q : W) → 10 ≤ length ws
+    → length ws < 11 → a ≡ get_or ws 0 a → b ≡ get_or ws 1 b → c ≡ get_or ws 2 c → d ≡ get_or ws 3 d
+    → e ≡ get_or ws 4 e → h ≡ get_or ws 5 h → i ≡ get_or ws 6 i → j ≡ get_or ws 7 j → p ≡ get_or ws 8 p
+    → q ≡ get_or ws 9 q
+    → command_of (map f ws) ≡ ten_command (f a) (f b) (f c) (f d) (f e) (f h) (f i) (f j) (f p) (f q)
+ten-words f [] a b c d e h i j p q low high a' b' c' d' e' h' i' j' p' q' =
+    absurd (omega (arith, low))
+ten-words f (k ∷ []) a b c d e h i j p q low high a' b' c' d' e' h' i' j' p' q' =
+    absurd (omega (arith, low))
+ten-words f (k ∷ (l ∷ [])) a b c d e h i j p q low high a' b' c' d' e' h' i' j' p' q' =
+    absurd (omega (arith, low))
+ten-words f (k ∷ (l ∷ (m ∷ []))) a b c d e h i j p q low high a' b' c' d' e' h' i' j' p' q' =
+    absurd (omega (arith, low))
+ten-words f (k ∷ (l ∷ (m ∷ (n ∷ [])))) a b c d e h i j p q low high a' b' c' d' e' h' i' j' p' q' =
+    absurd (omega (arith, low))
+ten-words f (k ∷ (l ∷ (m ∷ (n ∷ (o ∷ []))))) a b c d e h i j p q low high a' b' c' d' e' h' i' j' p' q' =
+    absurd (omega (arith, low))
+ten-words f (k ∷ (l ∷ (m ∷ (n ∷ (o ∷ (x ∷ [])))))) a b c d e h i j p q low high a' b' c' d' e' h' i' j' p' q' =
+    absurd (omega (arith, low))
+ten-words f (k ∷ (l ∷ (m ∷ (n ∷ (o ∷ (x ∷ (y ∷ []))))))) a b c d e h i j p q low high a' b' c' d' e' h' i' j' p' q' =
+    absurd (omega (arith, low))
+ten-words f (k ∷ (l ∷ (m ∷ (n ∷ (o ∷ (x ∷ (y ∷ (z ∷ [])))))))) a b c d e h i j p q low high a' b' c' d' e' h' i' j' p' q' =
+    absurd (omega (arith, low))
+ten-words f (k ∷ (l ∷ (m ∷ (n ∷ (o ∷ (x ∷ (y ∷ (z ∷ (u ∷ []))))))))) a b c d e h i j p q low high a' b' c' d' e' h' i' j' p' q' =
+    absurd (omega (arith, low))
+ten-words f (k ∷ (l ∷ (m ∷ (n ∷ (o ∷ (x ∷ (y ∷ (z ∷ (u ∷ (v ∷ [])))))))))) a b c d e h i j p q low high a' b' c' d' e' h' i' j' p' q' =
+    rw (a', b', c', d', e', h', i', j', p', q') refl
+ten-words f (k ∷ (l ∷ (m ∷ (n ∷ (o ∷ (x ∷ (y ∷ (z ∷ (u ∷ (v ∷ (more ∷ rest))))))))))) a b c d e h i j p q low high a' b' c' d' e' h' i' j' p' q' =
+    absurd (omega (arith, high))
+
+-- nine words are none, nor are eleven, and no list of nine or more has fewer
+pub none-of-nine : {W : Type 0} (f : W → List ℕ) (ws : List W) → 9 ≤ length ws → length ws < 10 →
+    command_of (map f ws) ≡ None
+none-of-nine f [] many few = absurd (omega (arith, many))
+none-of-nine f (k ∷ []) many few = absurd (omega (arith, many))
+none-of-nine f (k ∷ (l ∷ [])) many few = absurd (omega (arith, many))
+none-of-nine f (k ∷ (l ∷ (m ∷ []))) many few = absurd (omega (arith, many))
+none-of-nine f (k ∷ (l ∷ (m ∷ (n ∷ [])))) many few = absurd (omega (arith, many))
+none-of-nine f (k ∷ (l ∷ (m ∷ (n ∷ (o ∷ []))))) many few = absurd (omega (arith, many))
+none-of-nine f (k ∷ (l ∷ (m ∷ (n ∷ (o ∷ (x ∷ [])))))) many few = absurd (omega (arith, many))
+none-of-nine f (k ∷ (l ∷ (m ∷ (n ∷ (o ∷ (x ∷ (y ∷ []))))))) many few = absurd (omega (arith, many))
+none-of-nine f (k ∷ (l ∷ (m ∷ (n ∷ (o ∷ (x ∷ (y ∷ (z ∷ [])))))))) many few = absurd (omega (arith, many))
+none-of-nine f (k ∷ (l ∷ (m ∷ (n ∷ (o ∷ (x ∷ (y ∷ (z ∷ (u ∷ []))))))))) many few = refl
+none-of-nine f (k ∷ (l ∷ (m ∷ (n ∷ (o ∷ (x ∷ (y ∷ (z ∷ (u ∷ (more ∷ rest)))))))))) many few = absurd (omega (arith, few))
+
+pub none-of-eleven : {W : Type 0} (f : W → List ℕ) (ws : List W) → 10 < length ws → command_of (map f ws) ≡ None
+none-of-eleven f [] many = absurd (omega (arith, many))
+none-of-eleven f (k ∷ []) many = absurd (omega (arith, many))
+none-of-eleven f (k ∷ (l ∷ [])) many = absurd (omega (arith, many))
+none-of-eleven f (k ∷ (l ∷ (m ∷ []))) many = absurd (omega (arith, many))
+none-of-eleven f (k ∷ (l ∷ (m ∷ (n ∷ [])))) many = absurd (omega (arith, many))
+none-of-eleven f (k ∷ (l ∷ (m ∷ (n ∷ (o ∷ []))))) many = absurd (omega (arith, many))
+none-of-eleven f (k ∷ (l ∷ (m ∷ (n ∷ (o ∷ (x ∷ [])))))) many = absurd (omega (arith, many))
+none-of-eleven f (k ∷ (l ∷ (m ∷ (n ∷ (o ∷ (x ∷ (y ∷ []))))))) many = absurd (omega (arith, many))
+none-of-eleven f (k ∷ (l ∷ (m ∷ (n ∷ (o ∷ (x ∷ (y ∷ (z ∷ [])))))))) many = absurd (omega (arith, many))
+none-of-eleven f (k ∷ (l ∷ (m ∷ (n ∷ (o ∷ (x ∷ (y ∷ (z ∷ (u ∷ []))))))))) many = absurd (omega (arith, many))
+none-of-eleven f (k ∷ (l ∷ (m ∷ (n ∷ (o ∷ (x ∷ (y ∷ (z ∷ (u ∷ (v ∷ [])))))))))) many = absurd (omega (arith, many))
+none-of-eleven f (k ∷ (l ∷ (m ∷ (n ∷ (o ∷ (x ∷ (y ∷ (z ∷ (u ∷ (v ∷ (more ∷ rest))))))))))) many = refl
 
 -- there are too few or too many
 

@@ -2,7 +2,7 @@
 -- Words: making_seen, checking_seen, AreInBounds.
 use Rattle.std.specs.Prelude.{ℕ, ◌≤◌}
 use Rattle.wedgie_tree.specs.declared.wedges.TheConstants.{GREATEST_SPACING}
-use Rattle.word_laws.specs.Words.{Making, Checking, least_budget, greatest_budget}
+use Rattle.run_words.specs.Words.{Making, Checking, least_budget, greatest_budget}
 use Rattle.run_words.specs.declared.certify_words.MakeWords.{MakeWords}
 use Rattle.run_words.specs.declared.certify_words.CheckWords.{CheckWords}
 

@@ -1,17 +1,19 @@
 -- The words of `fit` in the words of a run, and what the code knows of their numbers.
 -- Words: target_seen, IsTarget, fitting_seen, IsFitting, keeping_seen, IsKeeping, fit_making_seen, fit_checking_seen,
--- AreFitBounds.
+-- AreFitBounds, kept_making_seen, kept_checking_seen, AreKeptBounds.
 use Rattle.std.specs.Prelude.{ℕ, ◌≤◌}
 use Rattle.wedgie_tree.specs.declared.wedges.TheConstants.{GREATEST_SPACING}
-use Rattle.word_laws.specs.Words.{Fitting, Keeping, FitMaking, FitChecking, least_budget, greatest_budget}
-use Rattle.word_laws.specs.Words.{greatest_error}
-use Rattle.word_laws.specs.Words as words
+use Rattle.run_words.specs.Words.{Fitting, Keeping, FitMaking, FitChecking, KeptMaking, KeptChecking, least_budget}
+use Rattle.run_words.specs.Words.{greatest_budget, greatest_error}
+use Rattle.run_words.specs.Words as words
 use Rattle.run_words.specs.declared.fit_words.FitWords.{FitWords}
 use Rattle.run_words.specs.declared.fit_words.KeepWords.{KeepWords}
 use Rattle.run_words.specs.declared.fit_words.Target.{Target}
 use Rattle.run_words.specs.declared.fit_words.Target.TheVariants.{AtError, InBudget}
 use Rattle.run_words.specs.declared.certify_words.FitMakeWords.{FitMakeWords}
 use Rattle.run_words.specs.declared.certify_words.FitCheckWords.{FitCheckWords}
+use Rattle.run_words.specs.declared.kept_words.KeptMakeWords.{KeptMakeWords}
+use Rattle.run_words.specs.declared.kept_words.KeptCheckWords.{KeptCheckWords}
 use Rattle.run_words.specs.ShowView.{IsPrefixLength}
 
 -- what a mesh is fitted to
@@ -67,5 +69,25 @@ fit_checking_seen w = record {
 -- the numbers of such words lie within their bounds
 pub record AreFitBounds (target : Target) (spacing : ℕ) : Type 0 where
   pub bound : IsTarget target
+  pub spacing_low : 1 ≤ spacing
+  pub spacing_high : spacing ≤ GREATEST_SPACING
+
+-- what a certificate of a fitted mesh that keeps points is made for
+abbrev pub kept_making_seen : KeptMakeWords → KeptMaking
+kept_making_seen w = record { thousandths = w.thousandths; spacing = w.spacing; points = w.points.now }
+
+-- what such a mesh is checked by
+abbrev pub kept_checking_seen : KeptCheckWords → KeptChecking
+kept_checking_seen w = record {
+  mesh = w.mesh.now;
+  certificate = w.certificate.now;
+  thousandths = w.thousandths;
+  spacing = w.spacing;
+  points = w.points.now;
+}
+
+-- the numbers of such words lie within their bounds
+pub record AreKeptBounds (thousandths spacing : ℕ) : Type 0 where
+  pub bound : thousandths ≤ greatest_error
   pub spacing_low : 1 ≤ spacing
   pub spacing_high : spacing ≤ GREATEST_SPACING

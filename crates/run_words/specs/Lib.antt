@@ -1,3 +1,4 @@
+pub mod Words
 pub mod WordView
 pub mod ShowView
 pub mod CertifyView

@@ -2,7 +2,7 @@
 -- Words: IsPrefixLength, show_seen, IsShowing.
 use Rattle.std.specs.Prelude.{ℕ, ◌<◌, ◌≤◌, List, length}
 use Rattle.roam_edge.specs.declared.mesh_sink.TheConstants.{LONGEST_PREFIX}
-use Rattle.word_laws.specs.Words.{Show, as_meshes, as_strips, as_measures}
+use Rattle.run_words.specs.Words.{Show, as_meshes, as_strips, as_measures}
 use Rattle.run_words.specs.declared.showing.Showing.{Showing}
 use Rattle.run_words.specs.declared.showing.Showing.TheVariants.{Meshes, Strips, Measures}
 

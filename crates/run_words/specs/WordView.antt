@@ -6,14 +6,15 @@ use Rattle.wedgie_tree.specs.declared.wedges.TheConstants.{GREATEST_SPACING}
 use Rattle.run_words.specs.declared.words.FrameWords.{FrameWords}
 use Rattle.run_words.specs.declared.words.Command.{Command}
 use Rattle.run_words.specs.declared.words.Command.TheVariants.{Frames, Info, Try, Make, Check, Fit, Keep, MakeFit}
-use Rattle.run_words.specs.declared.words.Command.TheVariants.{CheckFit}
+use Rattle.run_words.specs.declared.words.Command.TheVariants.{CheckFit, MakeKept, CheckKept}
 use Rattle.run_words.specs.declared.showing.Meshing.{Meshing}
 use Rattle.run_words.specs.declared.showing.Meshing.TheVariants.{ByEngine, ByTolerance}
 use Rattle.run_words.specs.ShowView.{IsPrefixLength, show_seen, IsShowing}
 use Rattle.run_words.specs.CertifyView.{making_seen, checking_seen, AreInBounds}
 use Rattle.run_words.specs.FitView.{fitting_seen, IsFitting, keeping_seen, IsKeeping, fit_making_seen}
-use Rattle.run_words.specs.FitView.{fit_checking_seen, AreFitBounds}
-use Rattle.word_laws.specs.Words as words
+use Rattle.run_words.specs.FitView.{fit_checking_seen, AreFitBounds, kept_making_seen, kept_checking_seen}
+use Rattle.run_words.specs.FitView.{AreKeptBounds}
+use Rattle.run_words.specs.Words as words
 
 -- how frames are shown
 abbrev pub show_for : Meshing → words.Show
@@ -44,6 +45,8 @@ command_seen (Fit w) = words.OnGrid w.grid.now (words.Fit (fitting_seen w))
 command_seen (Keep w) = words.OnGrid w.grid.now (words.Keep (keeping_seen w))
 command_seen (MakeFit w) = words.OnGrid w.grid.now (words.MakeFit (fit_making_seen w))
 command_seen (CheckFit w) = words.OnGrid w.grid.now (words.CheckFit (fit_checking_seen w))
+command_seen (MakeKept w) = words.OnGrid w.grid.now (words.MakeKept (kept_making_seen w))
+command_seen (CheckKept w) = words.OnGrid w.grid.now (words.CheckKept (kept_checking_seen w))
 
 -- budget and spacing lie within their bounds, and the prefix, where there is one, has an accepted length
 pub record IsFrameCommand (command : FrameWords) : Type 0 where
@@ -65,3 +68,5 @@ IsCommandInBounds (Fit w) = IsFitting w
 IsCommandInBounds (Keep w) = IsKeeping w
 IsCommandInBounds (MakeFit w) = AreFitBounds w.target w.spacing
 IsCommandInBounds (CheckFit w) = AreFitBounds w.target w.spacing
+IsCommandInBounds (MakeKept w) = AreKeptBounds w.thousandths w.spacing
+IsCommandInBounds (CheckKept w) = AreKeptBounds w.thousandths w.spacing

@@ -3,12 +3,13 @@
 ghost use Rattle.std.specs.Prelude.{◌≡◌, ◌≤◌, ◌^◌, ◌&&◌, IfSome, length, map, string_bytes, codes, bytes_eq};
 ghost use Rattle.std.specs.Prelude.{unsigned_abs};
 ghost use Rattle.std.specs.Option.{option_map};
-ghost use Rattle.word_laws.specs.Words.{budget_word, spacing_word, coordinate_word, camera_word, make_command};
-ghost use Rattle.word_laws.specs.Words.{check_command, target_word, fit_make_command, fit_check_command, eight_command};
-ghost use Rattle.word_laws.specs.Words.{command_of};
+ghost use Rattle.run_words.specs.Words.{budget_word, spacing_word, coordinate_word, camera_word, make_command};
+ghost use Rattle.run_words.specs.Words.{check_command, target_word, fit_make_command, fit_check_command, eight_command};
+ghost use Rattle.run_words.specs.Words.{ten_command, command_of};
 ghost use Rattle.run_words.specs.WordView.{command_seen, IsCommandInBounds};
 
 use crate::fit_words::{Target, keep_in, target_in};
+use crate::kept_words::{check_kept_in, make_kept_in};
 use crate::words::{Command, GREATEST_BUDGET, LEAST_BUDGET, small_number};
 use roam_num::read_signed;
 use view_priority::Camera;
@@ -126,11 +127,69 @@ fn long_words(words: &[String]) -> Option<Command<'_>>
             number.as_str(),
             spacing.as_str(),
         ),
+        _ => longer_words(words),
+    }
+}
+
+/// The command that 9 words or more are: a check of a mesh that keeps points.
+fn longer_words(words: &[String]) -> Option<Command<'_>>
+    requires many { 9 ≤ length words.now }
+    ensures value { option_map command_seen result ≡ command_of (map string_bytes words.now) }
+    ensures accepted { IfSome result IsCommandInBounds }
+{
+    match words {
+        [
+            first,
+            task,
+            grid,
+            mesh,
+            certificate,
+            goal,
+            number,
+            spacing,
+            keep,
+            points,
+        ] => ten_words(
+            first.as_str(),
+            task.as_str(),
+            grid.as_str(),
+            mesh.as_str(),
+            certificate.as_str(),
+            goal.as_str(),
+            number.as_str(),
+            spacing.as_str(),
+            keep.as_str(),
+            points.as_str(),
+        ),
         _ => None,
     }
 }
 
-/// The command of eight words: `certify make`, `certify check-fit` or `fit`.
+/// The command of ten words: `certify check-fit` that keeps points.
+fn ten_words<'a>(
+    first: &str,
+    task: &str,
+    grid: &'a str,
+    mesh: &'a str,
+    certificate: &'a str,
+    goal: &str,
+    number: &str,
+    spacing: &str,
+    keep: &str,
+    points: &'a str,
+) -> Option<Command<'a>>
+    ensures value { option_map command_seen result ≡ ten_command first.now task.now grid.now mesh.now certificate.now
+        goal.now number.now spacing.now keep.now points.now }
+    ensures accepted { IfSome result IsCommandInBounds }
+{
+    if is_task(first, task, "check-fit") {
+        check_kept_in(grid, mesh, certificate, goal, number, spacing, keep, points)
+    } else {
+        None
+    }
+}
+
+/// The command of eight words: `certify make`, `certify check-fit`, `fit` or `certify make-fit`.
 fn eight_words<'a>(
     first: &str,
     task: &'a str,
@@ -151,6 +210,8 @@ fn eight_words<'a>(
         check_fit_in(grid, i, j, k, number, spacing)
     } else if first == "fit" {
         keep_in(task, grid, i, j, k, number, spacing)
+    } else if is_task(first, task, "make-fit") {
+        make_kept_in(grid, i, j, k, number, spacing)
     } else {
         None
     }

@@ -2,7 +2,7 @@
 
 ghost use Rattle.std.specs.Prelude.{◌≡◌, ◌≤◌, if◌then◌else◌, IfSome};
 ghost use Rattle.std.specs.Option.{option_map};
-ghost use Rattle.word_laws.specs.Words.{error_word, greatest_error, target_word, fit_words, keep_words};
+ghost use Rattle.run_words.specs.Words.{error_word, greatest_error, target_word, kept_error_word, fit_words, keep_words};
 ghost use Rattle.run_words.specs.FitView.{target_seen, IsTarget};
 ghost use Rattle.run_words.specs.WordView.{command_seen, IsCommandInBounds};
 
@@ -89,13 +89,13 @@ pub(crate) fn keep_in<'a>(
         keep_words grid.now prefix.now word.now number.now spacing.now keep.now points.now }
     ensures accepted { IfSome result IsCommandInBounds }
 {
-    if !is_prefix(prefix) || word != "error" || keep != "keep" {
+    if !is_prefix(prefix) {
         return None;
     }
     Some(Command::Keep(KeepWords {
         grid,
         prefix,
-        thousandths: error_in(number)?,
+        thousandths: kept_error_in(word, number, keep)?,
         spacing: small_number(spacing, 1, GREATEST_SPACING)?,
         points,
     }))
@@ -110,6 +110,18 @@ pub(crate) fn target_in(word: &str, number: &str) -> Option<Target>
         Some(Target::AtError(error_in(number)?))
     } else if word == "budget" {
         Some(Target::InBudget(small_number(number, LEAST_BUDGET, GREATEST_BUDGET)?))
+    } else {
+        None
+    }
+}
+
+/// The error of a mesh that keeps points, by the word before its number and that behind the spacing.
+pub(crate) fn kept_error_in(word: &str, number: &str, keep: &str) -> Option<u32>
+    ensures value { result ≡ kept_error_word word.now number.now keep.now }
+    ensures within { IfSome result (λ thousandths. thousandths ≤ greatest_error) }
+{
+    if word == "error" && keep == "keep" {
+        error_in(number)
     } else {
         None
     }

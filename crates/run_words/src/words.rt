@@ -3,11 +3,11 @@
 ghost use Rattle.std.specs.Prelude.{◌≡◌, ◌≤◌, if◌then◌else◌, true, map, string_bytes, IfSome, ◌<◌, ◌&&◌, ◌==◌, length};
 ghost use Rattle.std.specs.Prelude.{codes, bytes_eq};
 ghost use Rattle.std.specs.Option.{option_map};
-ghost use Rattle.word_laws.specs.Words.{as_measures, Facts, OnGrid, budget_word, command_of, frames_command};
-ghost use Rattle.word_laws.specs.Words.{greatest_level, greatest_seed, least_budget, greatest_budget, least_command};
-ghost use Rattle.word_laws.specs.Words.{meshes_command, six_command, number_word, spacing_word, tolerance_word};
-ghost use Rattle.word_laws.specs.Words.{try_command};
-ghost use Rattle.word_laws.specs.Words.{is_prefix as is_prefix_seen};
+ghost use Rattle.run_words.specs.Words.{as_measures, Facts, OnGrid, budget_word, command_of, frames_command};
+ghost use Rattle.run_words.specs.Words.{greatest_level, greatest_seed, least_budget, greatest_budget, least_command};
+ghost use Rattle.run_words.specs.Words.{meshes_command, six_command, number_word, spacing_word, tolerance_word};
+ghost use Rattle.run_words.specs.Words.{try_command};
+ghost use Rattle.run_words.specs.Words.{is_prefix as is_prefix_seen};
 ghost use Rattle.run_words.specs.ShowView.{IsPrefixLength};
 ghost use Rattle.run_words.specs.WordView.{command_seen, show_for, IsMeshing, IsCommandInBounds};
 
@@ -15,6 +15,7 @@ use crate::certify_words::{
     CheckWords, FitCheckWords, FitMakeWords, MakeWords, certify_in, is_task, make_fit_in,
 };
 use crate::fit_words::{FitWords, KeepWords, fit_in};
+use crate::kept_words::{KeptCheckWords, KeptMakeWords};
 use crate::showing::{Meshing, Showing};
 use mesh_defs::GREATEST_LEVEL;
 use roam_edge::LONGEST_PREFIX;
@@ -47,6 +48,11 @@ pub enum Command<'a> {
     /// `certify check-fit GRID OBJ CERT error E SPACING` and `certify check-fit GRID OBJ CERT budget BUDGET SPACING`:
     /// whether such a certificate is sound, and a mesh the one that it is of.
     CheckFit(FitCheckWords<'a>),
+    /// `certify make-fit GRID error E SPACING keep POINTS`: a certificate of a fitted mesh that keeps points.
+    MakeKept(KeptMakeWords<'a>),
+    /// `certify check-fit GRID OBJ CERT error E SPACING keep POINTS`: whether such a certificate is sound, and a mesh
+    /// the one that it is of.
+    CheckKept(KeptCheckWords<'a>),
 }
 
 /// The words of a command that makes the frames of a script.

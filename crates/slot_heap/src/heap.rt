@@ -7,7 +7,7 @@ ghost use Rattle.slot_heap.specs.Keys.{key_of, IsEmpty, IsLeastKey};
 use crate::change::{NOWHERE, add, remove, replace};
 use crate::entry::Entry;
 use bintree_addr::Slot;
-use roam_errors::NoMemory;
+use mesh_defs::NoMemory;
 use std::alloc::Global;
 use std::marker::Model;
 

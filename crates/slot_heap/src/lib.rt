@@ -14,4 +14,4 @@ mod sift;
 
 pub use bintree_addr::Slot;
 pub use heap::SlotHeap;
-pub use roam_errors::NoMemory;
+pub use mesh_defs::NoMemory;

@@ -6,7 +6,7 @@ ghost use Rattle.slot_heap.specs.Keys.{key_of, IsEmpty};
 ghost use Rattle.split_queue.specs.First.{IsFirstEntry};
 
 use bintree_addr::{Rank, Slot, rank_order_laws};
-use roam_errors::NoMemory;
+use mesh_defs::NoMemory;
 use slot_heap::SlotHeap;
 use std::alloc::Global;
 use std::marker::Model;

@@ -1,7 +1,7 @@
 -- The turns of a list, counted from its end.
 use Rattle.std.proofs.Common.{◌≡◌, ℕ, suc, ◌+◌, List, [], ◌∷◌, length, drop, get_or, ◌<◌, ◌∙◌, ap, sym, subst, arith}
 use Rattle.std.proofs.lemmas.List.{drop_more, drop_all}
-use Rattle.strip_laws.specs.Turn.{IsLeftTurn, IsRightTurn, HasTurns, none, left, right}
+use Rattle.mesh_laws.specs.Turn.{IsLeftTurn, IsRightTurn, HasTurns, none, left, right}
 
 -- the last two take no turn
 pub HasTurns-none : (n : ℕ) (order : List ℕ) (i d : ℕ) → i + 2 ≡ length order → HasTurns n (drop i order) 0 0

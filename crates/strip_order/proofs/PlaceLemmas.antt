@@ -7,12 +7,12 @@ use Rattle.mesh_defs.specs.Triangle.{level_of, IsAddress}
 use Rattle.mesh_defs.specs.ClosedSet.{IsClosed, leaves_under, leaves_of}
 use Rattle.mesh_defs.proofs.ListLemmas.{IsIn, Contains-in, count-cons, count-yes, count-some, length-counts}
 use Rattle.bintree_laws.proofs.LevelLemmas.{level-le}
-use Rattle.tiling_laws.proofs.DescentLemmas.{IsAddress-leaves_of}
-use Rattle.closure_laws.proofs.LeafLemmas.{leaves-most}
-use Rattle.strip_laws.specs.Strip.{strip_of, SharesEdge, IsStripChain, one, more}
-use Rattle.strip_laws.proofs.OrderLemmas.{count-strip_of, leaf-strip_of, strip-once}
-use Rattle.strip_laws.proofs.StripLemmas.{IsRing-strip_of}
-use Rattle.closure_laws.proofs.ClosureLemmas.{leaves_under-some}
+use Rattle.mesh_laws.proofs.DescentLemmas.{IsAddress-leaves_of}
+use Rattle.mesh_laws.proofs.LeafLemmas.{leaves-most}
+use Rattle.mesh_laws.specs.Strip.{strip_of, SharesEdge, IsStripChain, one, more}
+use Rattle.mesh_laws.proofs.StripOrderLemmas.{count-strip_of, leaf-strip_of, strip-once}
+use Rattle.mesh_laws.proofs.StripLemmas.{IsRing-strip_of}
+use Rattle.mesh_laws.proofs.ClosureLemmas.{leaves_under-some}
 
 -- ---- lists by places
 

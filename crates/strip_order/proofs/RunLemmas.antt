@@ -8,11 +8,11 @@ use Rattle.mesh_defs.specs.Triangle.{level_of}
 use Rattle.mesh_defs.specs.ClosedSet.{leaves_under, leaves_of}
 use Rattle.bintree_laws.proofs.LevelLemmas.{level_of-left, level_of-right}
 use Rattle.mesh_defs.proofs.ListLemmas.{length-counts}
-use Rattle.strip_laws.specs.Strip.{has_even_level, strip_under, strip_of, AreLeavesInOrder}
+use Rattle.mesh_laws.specs.Strip.{has_even_level, strip_under, strip_of, AreLeavesInOrder}
 use Rattle.strip_order.specs.Run.{turned, facing, IsFront, IsArranged}
-use Rattle.strip_laws.proofs.OrderLemmas.{count-strip_under}
-use Rattle.strip_laws.proofs.StripLemmas.{has_even_level-left, has_even_level-right}
-use Rattle.closure_laws.proofs.ClosureLemmas.{leaves_under-some}
+use Rattle.mesh_laws.proofs.StripOrderLemmas.{count-strip_under}
+use Rattle.mesh_laws.proofs.StripLemmas.{has_even_level-left, has_even_level-right}
+use Rattle.mesh_laws.proofs.ClosureLemmas.{leaves_under-some}
 
 -- ---- the two cases of a triangle
 

@@ -4,10 +4,10 @@ use Rattle.std.proofs.Common.{subst, arith, length-drop}
 use Rattle.std.proofs.lemmas.List.{get_or_default}
 use Rattle.mesh_defs.specs.Triangle.{level_of}
 use Rattle.mesh_defs.specs.ClosedSet.{leaves_of}
-use Rattle.strip_laws.specs.Strip.{SharesEdge}
-use Rattle.strip_laws.specs.Turn.{IsLeftTurn, IsRightTurn, HasTurns}
+use Rattle.mesh_laws.specs.Strip.{SharesEdge}
+use Rattle.mesh_laws.specs.Turn.{IsLeftTurn, IsRightTurn, HasTurns}
 use Rattle.strip_order.proofs.PlaceLemmas.{IsStrip}
-use Rattle.strip_laws.proofs.TurnLemmas.{length-turns}
+use Rattle.mesh_laws.proofs.StripTurnLemmas.{length-turns}
 use Rattle.strip_order.proofs.LoopLemmas.{HasTurns-left, HasTurns-right}
 
 -- a, b and c stand at the places i, i + 1 and i + 2

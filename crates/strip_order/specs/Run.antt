@@ -3,7 +3,7 @@
 use Rattle.std.specs.Prelude.{◌≡◌, ℕ, ◌+◌, ◌≤◌, Bool, true, false, List, ◌++◌, length, reverse}
 use Rattle.mesh_defs.specs.Triangle.{level_of}
 use Rattle.mesh_defs.specs.ClosedSet.{leaves_under}
-use Rattle.strip_laws.specs.Strip.{has_even_level, strip_under}
+use Rattle.mesh_laws.specs.Strip.{has_even_level, strip_under}
 
 -- a list, or that list backwards
 abbrev pub turned : Bool → List ℕ → List ℕ

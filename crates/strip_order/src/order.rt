@@ -2,7 +2,7 @@
 
 ghost use Rattle.std.specs.Prelude.{◌≡◌, ◌≤◌, ◌<◌, ℕ, Bool, List, length, count_by, nat_eq, Contains};
 ghost use Rattle.mesh_defs.specs.Triangle.{level_of};
-ghost use Rattle.strip_laws.specs.Strip.{AreLeavesInOrder, strip_of, IsRing};
+ghost use Rattle.mesh_laws.specs.Strip.{AreLeavesInOrder, strip_of, IsRing};
 ghost use Rattle.strip_order.specs.Run.{IsFront, IsArranged};
 
 use bintree_addr::Tri;

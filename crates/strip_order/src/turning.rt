@@ -5,15 +5,15 @@ ghost use Rattle.mesh_defs.specs.ClosedSet.{IsClosed, leaves_of};
 ghost use Rattle.mesh_defs.specs.declared.point.Point.{Point};
 ghost use Rattle.mesh_defs.specs.Triangle.{level_of, IsEdge};
 ghost use Rattle.mesh_defs.specs.declared.level.TheConstants.{GREATEST_LEVEL};
-ghost use Rattle.strip_laws.specs.Strip.{SharesEdge, strip_of};
-ghost use Rattle.strip_laws.specs.Turn.{HasEdgeBack, IsLeftTurn, IsRightTurn, HasTurns};
+ghost use Rattle.mesh_laws.specs.Strip.{SharesEdge, strip_of};
+ghost use Rattle.mesh_laws.specs.Turn.{HasEdgeBack, IsLeftTurn, IsRightTurn, HasTurns};
 ghost use Rattle.strip_order.specs.declared.sides.Turn.TheVariants.{Left, Right};
 
 use crate::sides::{Turn, Turns};
 use bintree_addr::{Corners, Point, Tri};
-use strip_laws::Edge;
+use mesh_laws::Edge;
 
-/// The turn at `t` of a strip of leaves of one mesh: never to both sides (`turn_laws` of `strip_laws`).
+/// The turn at `t` of a strip of leaves of one mesh: never to both sides (`turn_laws` of `mesh_laws`).
 ///
 /// Cost (not proved): that of three times `Tri::corners`.
 pub fn turn(before: Tri, t: Tri, after: Tri, n: u32) -> Turn

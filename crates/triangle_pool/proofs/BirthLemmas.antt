@@ -4,14 +4,14 @@ use Rattle.std.proofs.Common.{length, get_or, set, get_or-set_other, None, Some}
 use Rattle.std.proofs.lemmas.Bool.{cases_eq, cases_lt, true≢false}
 use Rattle.std.proofs.Math.ListN.{length-set}
 use Rattle.bintree_addr.specs.declared.slot.Slot.{Slot}
-use Rattle.edge_laws.specs.Edge.{mate_of}
-use Rattle.edge_laws.proofs.MateLemmas.{mate_of-low}
-use Rattle.edge_laws.specs.Slots.{address_at, IsLive, room_of, diamond_size}
+use Rattle.mesh_laws.specs.Edge.{mate_of}
+use Rattle.mesh_laws.proofs.MateLemmas.{mate_of-low}
+use Rattle.mesh_laws.specs.Slots.{address_at, IsLive, room_of, diamond_size}
 use Rattle.triangle_pool.specs.Answer.{AreChildren, IsOfPair, IsBirth}
 use Rattle.triangle_pool.specs.Links.{MaySplit, MaySplitMate}
 use Rattle.triangle_pool.proofs.HalveLemmas.{address-old, address-new}
 use Rattle.triangle_pool.proofs.PoolLemmas.{room-set}
-use Rattle.edge_laws.proofs.SlotLemmas.{size_one, size_two}
+use Rattle.mesh_laws.proofs.SlotLemmas.{size_one, size_two}
 
 -- the slots of a pair that was given to a
 children_at : (pairs : List ℕ) (k a : ℕ) (pair : Slot × Slot) → k < length pairs → pair.0.0 ≡ 2 * k →

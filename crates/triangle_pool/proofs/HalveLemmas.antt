@@ -5,16 +5,16 @@ use Rattle.std.proofs.lemmas.Bool.{cases_eq, cases_lt, cases_Bool, true≢false,
 use Rattle.std.proofs.lemmas.List.{get_or_past}
 use Rattle.std.proofs.Math.ListN.{length-set}
 use Rattle.mesh_defs.specs.Triangle.{level_of}
-use Rattle.edge_laws.specs.Edge.{mate_of, owner}
-use Rattle.edge_laws.specs.Net.{Net, nowhere, IsTree, IsHalving}
-use Rattle.edge_laws.proofs.MateLemmas.{mate_of-back, mate_of-low, mate_of-level, mate_of-1, mate_of-2}
-use Rattle.edge_laws.proofs.OwnerLemmas.{owner-whole}
-use Rattle.edge_laws.proofs.NetLemmas.{IsLinked-halving, IsTree-halving}
+use Rattle.mesh_laws.specs.Edge.{mate_of, owner}
+use Rattle.mesh_laws.specs.Net.{Net, nowhere, IsTree, IsHalving}
+use Rattle.mesh_laws.proofs.MateLemmas.{mate_of-back, mate_of-low, mate_of-level, mate_of-1, mate_of-2}
+use Rattle.mesh_laws.proofs.OwnerLemmas.{owner-whole}
+use Rattle.mesh_laws.proofs.NetLemmas.{IsLinked-halving, IsTree-halving}
 use Rattle.triangle_pool.specs.declared.forest.Node.{Node}
-use Rattle.edge_laws.specs.Slots.{address_at, has_children, IsLive}
+use Rattle.mesh_laws.specs.Slots.{address_at, has_children, IsLive}
 use Rattle.triangle_pool.specs.Links.{node_at, edge_link, net_of, ArePairs, AreChildrenAt, IsForest, IsAcross}
 use Rattle.triangle_pool.specs.Links.{IsRelinked, MayHalve, AreInnerLinks, ArePlacedNodes, with_link}
-use Rattle.edge_laws.proofs.SlotLemmas.{child_at, has_children-added, has_children-kept}
+use Rattle.mesh_laws.proofs.SlotLemmas.{child_at, has_children-added, has_children-kept}
 use Rattle.triangle_pool.proofs.RelinkLemmas.{edge-base, edge-left, edge-right, edge_low, relinked_turn}
 use Rattle.bintree_laws.proofs.LevelLemmas.{level_of-left, level_of-right}
 

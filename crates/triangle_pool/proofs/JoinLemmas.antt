@@ -4,21 +4,21 @@ use Rattle.std.proofs.Common.{inl, inr, ⊎_elim, subst, List, length, get_or, s
 use Rattle.std.proofs.lemmas.Bool.{cases_eq, cases_lt, true≢false}
 use Rattle.std.proofs.lemmas.List.{get_or_past}
 use Rattle.std.proofs.Math.ListN.{length-set}
-use Rattle.edge_laws.specs.Edge.{mate_of, owner}
-use Rattle.edge_laws.specs.Net.{IsTree, IsJoining}
-use Rattle.edge_laws.proofs.MateLemmas.{no_sibling, mate_of-root, mate_of-back, mate_of-level, mate_of-other}
-use Rattle.edge_laws.proofs.MateLemmas.{mate_of-no_child}
-use Rattle.edge_laws.proofs.IsMateLemmas.{mate_of-IsMate}
-use Rattle.edge_laws.proofs.OwnerLemmas.{owner_cases, owner-same, owner-split}
-use Rattle.edge_laws.proofs.NetLemmas.{read_link, read_less, IsLinked-joining, IsTree-joining}
+use Rattle.mesh_laws.specs.Edge.{mate_of, owner}
+use Rattle.mesh_laws.specs.Net.{IsTree, IsJoining}
+use Rattle.mesh_laws.proofs.MateLemmas.{no_sibling, mate_of-root, mate_of-back, mate_of-level, mate_of-other}
+use Rattle.mesh_laws.proofs.MateLemmas.{mate_of-no_child}
+use Rattle.mesh_laws.proofs.IsMateLemmas.{mate_of-IsMate}
+use Rattle.mesh_laws.proofs.OwnerLemmas.{owner_cases, owner-same, owner-split}
+use Rattle.mesh_laws.proofs.NetLemmas.{read_link, read_less, IsLinked-joining, IsTree-joining}
 use Rattle.mesh_defs.specs.Triangle.{level_of, IsSplittable, IsMate}
 use Rattle.mesh_defs.specs.ClosedSet.{IsClosed}
 use Rattle.bintree_laws.proofs.LevelLemmas.{level_of-below, level_of-parent}
-use Rattle.edge_laws.proofs.SlotLemmas.{has_children-set, set-has_children, slot_of, has_children-removed}
-use Rattle.edge_laws.proofs.SlotLemmas.{has_children-left, has_children_by, set_kept, set_false, pair_in, child_at}
+use Rattle.mesh_laws.proofs.SlotLemmas.{has_children-set, set-has_children, slot_of, has_children-removed}
+use Rattle.mesh_laws.proofs.SlotLemmas.{has_children-left, has_children_by, set_kept, set_false, pair_in, child_at}
 use Rattle.triangle_pool.proofs.SplitLemmas.{whole_of}
 use Rattle.triangle_pool.specs.declared.forest.Node.{Node}
-use Rattle.edge_laws.specs.Slots.{address_at, has_children, split_set}
+use Rattle.mesh_laws.specs.Slots.{address_at, has_children, split_set}
 use Rattle.triangle_pool.specs.Links.{node_at, edge_link, net_of, ArePairs, AreChildrenAt, IsForest, IsAcross}
 use Rattle.triangle_pool.specs.Links.{IsRelinked, MayJoin, IsLeafAgain, MayMerge}
 use Rattle.triangle_pool.proofs.RelinkLemmas.{edge-base, edge-left, edge-right}

@@ -4,15 +4,15 @@ use Rattle.std.proofs.Common.{subst, List, length}
 use Rattle.mesh_defs.specs.declared.point.Point.{Point}
 use Rattle.mesh_defs.specs.Triangle.{corners_of, child, OnOneSide}
 use Rattle.bintree_laws.proofs.CornerLemmas.{corners_of-left, corners_of-right}
-use Rattle.edge_laws.specs.Edge.{mate_of, owner, with_square, IsEdgeOf}
-use Rattle.edge_laws.specs.Net.{nowhere}
-use Rattle.edge_laws.specs.LeafAcross.{IsLeafOf, IsLeafAcross}
-use Rattle.edge_laws.proofs.MateLemmas.{mate_of-low}
-use Rattle.edge_laws.proofs.OwnerLemmas.{owner-same, owner-low}
-use Rattle.edge_laws.proofs.LeafLemmas.{leaf_across, edge-low, edge-border}
-use Rattle.edge_laws.specs.Slots.{address_at, has_children, IsLive, split_set, IsPool}
+use Rattle.mesh_laws.specs.Edge.{mate_of, owner, with_square, IsEdgeOf}
+use Rattle.mesh_laws.specs.Net.{nowhere}
+use Rattle.mesh_laws.specs.LeafAcross.{IsLeafOf, IsLeafAcross}
+use Rattle.mesh_laws.proofs.MateLemmas.{mate_of-low}
+use Rattle.mesh_laws.proofs.OwnerLemmas.{owner-same, owner-low}
+use Rattle.mesh_laws.proofs.LeafAcrossLemmas.{leaf_across, edge-low, edge-border}
+use Rattle.mesh_laws.specs.Slots.{address_at, has_children, IsLive, split_set, IsPool}
 use Rattle.triangle_pool.specs.Links.{IsAcross}
-use Rattle.edge_laws.proofs.SlotLemmas.{IsLeafOf-slot, square-children}
+use Rattle.mesh_laws.proofs.SlotLemmas.{IsLeafOf-slot, square-children}
 use Rattle.triangle_pool.proofs.MergeLemmas.{linked_small}
 
 -- what a link across an edge says

@@ -5,16 +5,16 @@ use Rattle.std.proofs.Common.{get_or-set_same}
 use Rattle.std.proofs.lemmas.Bool.{cases_eq, cases_lt, true≢false}
 use Rattle.std.proofs.lemmas.List.{get_or_past, get_or_default}
 use Rattle.std.proofs.Math.ListN.{length-set}
-use Rattle.edge_laws.specs.Edge.{mate_of, owner}
-use Rattle.edge_laws.specs.Net.{nowhere}
-use Rattle.edge_laws.proofs.OwnerLemmas.{owner-split}
-use Rattle.edge_laws.proofs.MateLemmas.{mate_of-low, mate_of-other}
-use Rattle.edge_laws.specs.Slots.{address_at, has_children, IsLive, split_set, room_of, IsPool, HasTwoLeaves, IsMerge}
-use Rattle.edge_laws.specs.Slots.{diamond_size}
+use Rattle.mesh_laws.specs.Edge.{mate_of, owner}
+use Rattle.mesh_laws.specs.Net.{nowhere}
+use Rattle.mesh_laws.proofs.OwnerLemmas.{owner-split}
+use Rattle.mesh_laws.proofs.MateLemmas.{mate_of-low, mate_of-other}
+use Rattle.mesh_laws.specs.Slots.{address_at, has_children, IsLive, split_set, room_of, IsPool, HasTwoLeaves, IsMerge}
+use Rattle.mesh_laws.specs.Slots.{diamond_size}
 use Rattle.triangle_pool.specs.Slots.{FreeState}
 use Rattle.triangle_pool.specs.Links.{HasPairs, AreChildrenAt, MayMerge}
-use Rattle.edge_laws.proofs.SlotLemmas.{has_children-removed, has_children_by, set_kept, set_false, pair_in, child_at}
-use Rattle.edge_laws.proofs.SlotLemmas.{member_mate, member_parent, pair_one, size_one, size_two}
+use Rattle.mesh_laws.proofs.SlotLemmas.{has_children-removed, has_children_by, set_kept, set_false, pair_in, child_at}
+use Rattle.mesh_laws.proofs.SlotLemmas.{member_mate, member_parent, pair_one, size_one, size_two}
 use Rattle.triangle_pool.proofs.HalveLemmas.{address-old}
 use Rattle.triangle_pool.proofs.JoinLemmas.{gone_low}
 use Rattle.triangle_pool.proofs.PoolLemmas.{free_more, room-free}

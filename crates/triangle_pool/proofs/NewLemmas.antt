@@ -10,16 +10,16 @@ use Rattle.std.proofs.lemmas.List.Sums.{sum_by-set}
 use Rattle.std.proofs.lemmas.List.Folds.{sum_by-replicate}
 use Rattle.std.proofs.Common.{ext_get_or}
 use Rattle.mesh_defs.specs.ClosedSet.{IsClosed, among}
-use Rattle.edge_laws.specs.Edge.{mate_of, owner}
-use Rattle.edge_laws.specs.Net.{nowhere, IsJoined}
-use Rattle.edge_laws.proofs.MateLemmas.{mate_of-root, mate_of-first}
-use Rattle.edge_laws.proofs.OwnerLemmas.{owner_cases, owner-split}
+use Rattle.mesh_laws.specs.Edge.{mate_of, owner}
+use Rattle.mesh_laws.specs.Net.{nowhere, IsJoined}
+use Rattle.mesh_laws.proofs.MateLemmas.{mate_of-root, mate_of-first}
+use Rattle.mesh_laws.proofs.OwnerLemmas.{owner_cases, owner-split}
 use Rattle.triangle_pool.specs.declared.forest.Node.{Node}
 use Rattle.triangle_pool.specs.declared.pool.TheConstants.{MOST_LEAVES}
-use Rattle.edge_laws.specs.Slots.{address_at, has_children, IsLive, split_set, room_of}
+use Rattle.mesh_laws.specs.Slots.{address_at, has_children, IsLive, split_set, room_of}
 use Rattle.triangle_pool.specs.Slots.{FreeState, IsFree}
 use Rattle.triangle_pool.specs.Links.{blank_node, node_at, edge_link, net_of, ArePairs, IsForest, IsMesh, HasPairs}
-use Rattle.edge_laws.proofs.SlotLemmas.{has_children_by, pair_of, set-has_children}
+use Rattle.mesh_laws.proofs.SlotLemmas.{has_children_by, pair_of, set-has_children}
 use Rattle.triangle_pool.proofs.RelinkLemmas.{edge-base, edge-left, edge-right}
 
 -- the first nodes

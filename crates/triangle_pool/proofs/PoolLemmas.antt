@@ -8,18 +8,18 @@ use Rattle.std.proofs.lemmas.Bool.{cases_lt, ne_eqb}
 use Rattle.std.proofs.Math.ListN.{length-set}
 use Rattle.mesh_defs.specs.Triangle.{level_of}
 use Rattle.mesh_defs.specs.ClosedSet.{IsClosed}
-use Rattle.edge_laws.specs.Edge.{mate_of, owner}
-use Rattle.edge_laws.specs.Net.{nowhere}
-use Rattle.edge_laws.proofs.OwnerLemmas.{owner-split, owner-low}
-use Rattle.edge_laws.proofs.NetLemmas.{read_link}
-use Rattle.edge_laws.proofs.MateLemmas.{mate_of-low}
+use Rattle.mesh_laws.specs.Edge.{mate_of, owner}
+use Rattle.mesh_laws.specs.Net.{nowhere}
+use Rattle.mesh_laws.proofs.OwnerLemmas.{owner-split, owner-low}
+use Rattle.mesh_laws.proofs.NetLemmas.{read_link}
+use Rattle.mesh_laws.proofs.MateLemmas.{mate_of-low}
 use Rattle.triangle_pool.specs.declared.forest.Node.{Node}
-use Rattle.edge_laws.specs.Slots.{address_at, has_children, IsLive, split_set, room_of, IsSplit}
+use Rattle.mesh_laws.specs.Slots.{address_at, has_children, IsLive, split_set, room_of, IsSplit}
 use Rattle.triangle_pool.specs.Slots.{FreeState, IsGivenOut, IsFree}
 use Rattle.triangle_pool.specs.Links.{node_at, blank_node, edge_link, net_of, IsForest, MaySplit, MaySplitMate, IsMesh}
 use Rattle.triangle_pool.specs.Links.{HasPairs}
 use Rattle.triangle_pool.proofs.RelinkLemmas.{edge-base}
-use Rattle.edge_laws.proofs.SlotLemmas.{live_within, has_children-added, set_more, set_only, has_children-set}
+use Rattle.mesh_laws.proofs.SlotLemmas.{live_within, has_children-added, set_more, set_only, has_children-set}
 use Rattle.triangle_pool.proofs.SplitLemmas.{whole_of}
 use Rattle.triangle_pool.proofs.HalveLemmas.{address-old, live_apart}
 

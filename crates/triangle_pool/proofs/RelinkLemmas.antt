@@ -5,12 +5,12 @@ use Rattle.std.proofs.lemmas.Bool.{cases_eq, cases_lt, eq-eqb, ne_eqb}
 use Rattle.std.proofs.lemmas.List.{get_or_past}
 use Rattle.mesh_defs.specs.Triangle.{level_of}
 use Rattle.bintree_laws.proofs.LevelLemmas.{level_of-parent}
-use Rattle.edge_laws.specs.Edge.{mate_of, owner}
-use Rattle.edge_laws.specs.Net.{nowhere}
-use Rattle.edge_laws.proofs.MateLemmas.{mate_of-back, mate_of-low, mate_of-level, mate_of-parity, mate_of-root}
-use Rattle.edge_laws.proofs.OwnerLemmas.{owner_cases, owner-low}
+use Rattle.mesh_laws.specs.Edge.{mate_of, owner}
+use Rattle.mesh_laws.specs.Net.{nowhere}
+use Rattle.mesh_laws.proofs.MateLemmas.{mate_of-back, mate_of-low, mate_of-level, mate_of-parity, mate_of-root}
+use Rattle.mesh_laws.proofs.OwnerLemmas.{owner_cases, owner-low}
 use Rattle.triangle_pool.specs.declared.forest.Node.{Node}
-use Rattle.edge_laws.specs.Slots.{address_at, has_children, IsLive}
+use Rattle.mesh_laws.specs.Slots.{address_at, has_children, IsLive}
 use Rattle.triangle_pool.specs.Links.{blank_node, node_at, edge_link, with_link, ArePairs, IsAcross, IsRelinked}
 
 -- ---- edges of a node

@@ -6,19 +6,19 @@ use Rattle.std.proofs.Math.ListN.{length-set}
 use Rattle.mesh_defs.specs.Triangle.{level_of, IsSplittable, IsMate}
 use Rattle.mesh_defs.specs.ClosedSet.{IsClosed}
 use Rattle.bintree_laws.proofs.LevelLemmas.{level_of-below}
-use Rattle.edge_laws.specs.Edge.{mate_of}
-use Rattle.edge_laws.specs.Net.{nowhere}
-use Rattle.edge_laws.proofs.MateLemmas.{mate_of-back, mate_of-low, mate_of-level, mate_of-other}
-use Rattle.edge_laws.proofs.NetLemmas.{IsWhole, read_link, read_more}
-use Rattle.edge_laws.proofs.ChainLemmas.{closed_more}
-use Rattle.edge_laws.proofs.OwnerLemmas.{owner-whole}
-use Rattle.edge_laws.proofs.IsMateLemmas.{IsMate-mate_of, mate_of-IsMate}
+use Rattle.mesh_laws.specs.Edge.{mate_of}
+use Rattle.mesh_laws.specs.Net.{nowhere}
+use Rattle.mesh_laws.proofs.MateLemmas.{mate_of-back, mate_of-low, mate_of-level, mate_of-other}
+use Rattle.mesh_laws.proofs.NetLemmas.{IsWhole, read_link, read_more}
+use Rattle.mesh_laws.proofs.ChainLemmas.{closed_more}
+use Rattle.mesh_laws.proofs.OwnerLemmas.{owner-whole}
+use Rattle.mesh_laws.proofs.IsMateLemmas.{IsMate-mate_of, mate_of-IsMate}
 use Rattle.triangle_pool.specs.declared.forest.Node.{Node}
-use Rattle.edge_laws.specs.Slots.{address_at, has_children, split_set}
+use Rattle.mesh_laws.specs.Slots.{address_at, has_children, split_set}
 use Rattle.triangle_pool.specs.Links.{node_at, edge_link, net_of, ArePairs, IsForest, IsAcross, MayHalve, MaySplit}
 use Rattle.triangle_pool.specs.Links.{MaySplitMate}
-use Rattle.edge_laws.proofs.SlotLemmas.{has_children-added, has_children-kept, has_children_low, set-has_children}
-use Rattle.edge_laws.proofs.SlotLemmas.{has_children-set, slot_of, set_more, set_only}
+use Rattle.mesh_laws.proofs.SlotLemmas.{has_children-added, has_children-kept, has_children_low, set-has_children}
+use Rattle.mesh_laws.proofs.SlotLemmas.{has_children-set, slot_of, set_more, set_only}
 use Rattle.triangle_pool.proofs.RelinkLemmas.{edge-left, edge-right}
 use Rattle.triangle_pool.proofs.HalveLemmas.{tree_of, child_shut, address-old, live_apart}
 

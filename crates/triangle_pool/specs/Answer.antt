@@ -5,11 +5,11 @@ use Rattle.bintree_addr.specs.declared.slot.Slot.{Slot}
 use Rattle.mesh_defs.specs.declared.point.Point.{Point}
 use Rattle.mesh_defs.specs.declared.point.Corners.{Corners}
 use Rattle.mesh_defs.specs.Triangle.{corners_of}
-use Rattle.edge_laws.specs.Edge.{mate_of}
-use Rattle.edge_laws.specs.LeafAcross.{IsLeafAcross}
+use Rattle.mesh_laws.specs.Edge.{mate_of}
+use Rattle.mesh_laws.specs.LeafAcross.{IsLeafAcross}
 use Rattle.triangle_pool.specs.Slots.{PoolState}
 use Rattle.triangle_pool.specs.declared.pool.Born.{Born}
-use Rattle.edge_laws.specs.Slots.{address_at, IsLive, split_set}
+use Rattle.mesh_laws.specs.Slots.{address_at, IsLive, split_set}
 
 -- the triangle at a slot
 abbrev pub triangle_at : PoolState → Slot → ℕ

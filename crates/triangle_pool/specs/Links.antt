@@ -1,11 +1,11 @@
 -- The links of nodes, as a net.
 use Rattle.std.specs.Prelude.{◌≡◌, ◌≢◌, ◌⊎◌, ℕ, ◌+◌, ◌*◌, ◌/◌, ◌%◌, ◌^◌, ◌<◌, ◌≤◌, Bool, true, false, nat_eq, List}
 use Rattle.std.specs.Prelude.{slice_index, slice_index_or, length}
-use Rattle.edge_laws.specs.Edge.{mate_of, owner}
-use Rattle.edge_laws.specs.Net.{nowhere, Net, IsLinked, IsTree}
+use Rattle.mesh_laws.specs.Edge.{mate_of, owner}
+use Rattle.mesh_laws.specs.Net.{nowhere, Net, IsLinked, IsTree}
 use Rattle.triangle_pool.specs.declared.forest.Node.{Node}
 use Rattle.triangle_pool.specs.declared.pool.TheConstants.{MOST_LEAVES}
-use Rattle.edge_laws.specs.Slots.{address_at, has_children, IsLive, split_set}
+use Rattle.mesh_laws.specs.Slots.{address_at, has_children, IsLive, split_set}
 use Rattle.triangle_pool.specs.Slots.{FreeState, IsFree}
 use Rattle.mesh_defs.specs.ClosedSet.{IsClosed}
 use Rattle.mesh_defs.specs.Triangle.{level_of}

@@ -1,6 +1,6 @@
 -- What a contract sees of a pool, and its free pairs.
 use Rattle.std.specs.Prelude.{◌≡◌, ◌⊎◌, ℕ, ◌+◌, ◌^◌, ◌<◌, ◌≤◌, ◌++◌, List, [], ◌∷◌, slice_index, length}
-use Rattle.edge_laws.specs.Slots.{room_of}
+use Rattle.mesh_laws.specs.Slots.{room_of}
 
 -- What a contract sees of a pool: the grid, the greatest number of leaves, the pairs of slots, and how many triangles
 -- were split and merged so far.

@@ -2,8 +2,8 @@
 
 ghost use Rattle.std.specs.Prelude.{◌≡◌, ℕ, ◌+◌, ◌*◌, ◌/◌, ◌%◌, ◌^◌, ◌<◌, ◌≤◌, slice_index, length};
 ghost use Rattle.mesh_defs.specs.Triangle.{level_of};
-ghost use Rattle.edge_laws.specs.Net.{IsTree};
-ghost use Rattle.edge_laws.specs.Slots.{address_at, IsLive};
+ghost use Rattle.mesh_laws.specs.Net.{IsTree};
+ghost use Rattle.mesh_laws.specs.Slots.{address_at, IsLive};
 
 use bintree_addr::Tri;
 

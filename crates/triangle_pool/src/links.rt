@@ -2,15 +2,15 @@
 
 ghost use Rattle.std.specs.Prelude.{◌≡◌, ℕ, ◌+◌, ◌*◌, ◌/◌, ◌%◌, ◌^◌, ◌<◌, ◌≤◌, ◌==◌, slice_index, slice_set, length};
 ghost use Rattle.mesh_defs.specs.Triangle.{level_of};
-ghost use Rattle.edge_laws.specs.Slots.{address_at, IsLive, split_set};
+ghost use Rattle.mesh_laws.specs.Slots.{address_at, IsLive, split_set};
 ghost use Rattle.triangle_pool.specs.Links.{node_at, with_link, ArePairs, IsAcross, IsRelinked, IsForest, MayHalve};
 ghost use Rattle.triangle_pool.specs.Links.{AreInnerLinks, ArePlacedNodes, MaySplit, MaySplitMate, MayJoin};
 ghost use Rattle.triangle_pool.specs.Links.{IsLeafAgain, MayMerge};
 ghost use Rattle.mesh_defs.specs.ClosedSet.{IsClosed};
 ghost use Rattle.mesh_defs.specs.declared.level.TheConstants.{GREATEST_LEVEL};
 ghost use Rattle.std.specs.Prelude.{◌≢◌};
-ghost use Rattle.edge_laws.specs.Net.{nowhere};
-ghost use Rattle.edge_laws.specs.Edge.{mate_of};
+ghost use Rattle.mesh_laws.specs.Net.{nowhere};
+ghost use Rattle.mesh_laws.specs.Edge.{mate_of};
 
 use crate::forest::{NOWHERE, Node, address, level};
 

@@ -3,14 +3,14 @@
 ghost use Rattle.std.specs.Prelude.{◌≡◌, ◌≢◌, ◌⊎◌, ◌↔◌, ℕ, ◌+◌, ◌-◌, ◌*◌, ◌/◌, ◌%◌, ◌^◌, ◌<◌, ◌≤◌, IfOk, IsTrue, false};
 ghost use Rattle.std.specs.Prelude.{true, length, slice_index, slice_set};
 ghost use Rattle.mesh_defs.specs.declared.level.TheConstants.{GREATEST_LEVEL};
-ghost use Rattle.edge_laws.specs.Edge.{mate_of, owner};
-ghost use Rattle.edge_laws.specs.Net.{nowhere};
-ghost use Rattle.edge_laws.specs.Slots.{address_at, has_children, IsLive};
+ghost use Rattle.mesh_laws.specs.Edge.{mate_of, owner};
+ghost use Rattle.mesh_laws.specs.Net.{nowhere};
+ghost use Rattle.mesh_laws.specs.Slots.{address_at, has_children, IsLive};
 
 use crate::forest::{NOWHERE, Node, address};
 use crate::links::{merge_border, merge_diamond, split_border, split_diamond};
 use bintree_addr::Tri;
-use roam_errors::NoMemory;
+use mesh_defs::NoMemory;
 use std::alloc::Global;
 use std::marker::Model;
 
@@ -71,7 +71,7 @@ impl Nodes {
     }
 
     ghost use Rattle.triangle_pool.specs.Links.{MaySplit, MaySplitMate, MayMerge, AreChildrenAt, IsAcross};
-    ghost use Rattle.edge_laws.specs.Slots.{IsPool, HasTwoLeaves};
+    ghost use Rattle.mesh_laws.specs.Slots.{IsPool, HasTwoLeaves};
 
     /// The address at a slot.
     pub fn tri(&self, s: u32) -> Tri

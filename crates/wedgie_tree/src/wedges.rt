@@ -19,8 +19,8 @@ use crate::shape::box_around;
 use crate::table::{entry, fill, levels, mend, places};
 use crate::wedge::Wedge;
 use bintree_addr::{Corners, Cuboid, Tri};
+use mesh_defs::NoMemory;
 use pgm_grid::Grid;
-use roam_errors::NoMemory;
 use std::alloc::Global;
 use std::marker::Model;
 

@@ -1,6 +1,6 @@
 -- A grid has splittable triangles, and fewer than 2 ^ 23.
 use Rattle.std.proofs.Common.{arith}
-use Rattle.least_laws.proofs.FlagLemmas.{end-low, end-high}
+use Rattle.mesh_laws.proofs.FlagLemmas.{end-low, end-high}
 use Rattle.address_flags.proofs.flags.end.Goals as goal
 
 pub returns-clause-low : goal.returns-clause-low

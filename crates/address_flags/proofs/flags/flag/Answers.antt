@@ -1,5 +1,5 @@
 -- A write of a flag adds its address to the set.
-use Rattle.least_laws.proofs.FlagLemmas.{flagged-write}
+use Rattle.mesh_laws.proofs.FlagLemmas.{flagged-write}
 use Rattle.address_flags.proofs.flags.flag.Goals as goal
 
 pub returns-clause-added : goal.returns-clause-added

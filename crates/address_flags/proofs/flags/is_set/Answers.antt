@@ -1,5 +1,5 @@
 -- Within the table the flag is read, and past it there is none.
-use Rattle.least_laws.proofs.FlagLemmas.{flagged-read, flagged-none}
+use Rattle.mesh_laws.proofs.FlagLemmas.{flagged-read, flagged-none}
 use Rattle.address_flags.proofs.flags.is_set.Goals as goal
 
 pub returns-then-place-flags : goal.returns-then-place-flags

@@ -2,8 +2,8 @@
 use Rattle.std.proofs.Common.{◌≤◌, ◌≡◌, true, ◌+◌, ◌-◌, ◌*◌, ◌++◌, length, take, length-append, append_assoc, ap, ap₂}
 use Rattle.std.proofs.Common.{sym, ◌∙◌, arith}
 use Rattle.mesh_defs.specs.ClosedSet.{leaves_under}
-use Rattle.least_laws.specs.Sweep.{is_flagged}
-use Rattle.closure_laws.proofs.LeafLemmas.{leaves_under-split}
+use Rattle.mesh_laws.specs.Sweep.{is_flagged}
+use Rattle.mesh_laws.proofs.LeafLemmas.{leaves_under-split}
 use Rattle.address_flags.proofs.list.+put_leaves.Goals as goal
 
 pub put_leaves-requires : goal.put_leaves-requires

@@ -4,8 +4,8 @@ use Rattle.std.proofs.lemmas.List.Elements.{All-weaker}
 use Rattle.mesh_defs.specs.Triangle.{level_of, IsAddress}
 use Rattle.mesh_defs.specs.ClosedSet.{leaves_of}
 use Rattle.bintree_laws.proofs.LevelLemmas.{level_of-root, level-le}
-use Rattle.least_laws.specs.Sweep.{is_flagged}
-use Rattle.tiling_laws.proofs.DescentLemmas.{append-leaves_of, IsAddress-leaves_of}
+use Rattle.mesh_laws.specs.Sweep.{is_flagged}
+use Rattle.mesh_laws.proofs.DescentLemmas.{append-leaves_of, IsAddress-leaves_of}
 use Rattle.address_flags.proofs.LeafListLemmas.{leaves-room, leaves-halves, leaves-base}
 use Rattle.address_flags.proofs.list.list_leaves.Goals as goal
 

@@ -1,6 +1,6 @@
 -- Each clause is a lemma.
-use Rattle.cert_text.proofs.BackLemmas.{lines-back, text-ended, lines-whole}
-use Rattle.cert_text.proofs.CountLemmas.{line-count}
+use Rattle.cert_text.proofs.CertBackLemmas.{lines-back, text-ended, lines-whole}
+use Rattle.cert_text.proofs.CertCountLemmas.{line-count}
 use Rattle.cert_text.proofs.laws.text_laws.Goals as goal
 
 pub returns-clause-back : goal.returns-clause-back

@@ -1,7 +1,7 @@
 use Rattle.std.proofs.lemmas.Grind.{common_steps}
 use Rattle.std.proofs.Common.{arith}
 -- The sink got the whole page.
-use Rattle.page_laws.proofs.PageLemmas.{put-written}
+use Rattle.cert_text.proofs.PageLemmas.{put-written}
 use Rattle.cert_text.proofs.page.make_room.Goals as goal
 
 pub returns-clause-ok : goal.returns-clause-ok

@@ -1,6 +1,6 @@
 use Rattle.std.proofs.Common.{◌≡◌, false, sym, ap₂, subst}
 use Rattle.mesh_defs.specs.ClosedSet.{among}
-use Rattle.frame_steps.specs.Deferred.{IsEntry}
+use Rattle.mesh_laws.specs.Deferred.{IsEntry}
 use Rattle.deferred_loop.specs.Seen.{IsRated}
 use Rattle.deferred_loop.proofs.asking.ask.Goals as goal
 

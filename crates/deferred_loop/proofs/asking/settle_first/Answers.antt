@@ -2,9 +2,9 @@ use Rattle.std.proofs.Common.{◌≡◌, ◌≤◌, ◌*◌, false, All, sym, �
 use Rattle.mesh_defs.specs.Triangle.{level_of}
 use Rattle.mesh_defs.specs.ClosedSet.{leaves_of, among}
 use Rattle.bintree_addr.specs.declared.rank.Rank.{Rank}
-use Rattle.frame_steps.specs.Deferred.{IsEntry}
+use Rattle.mesh_laws.specs.Deferred.{IsEntry}
 use Rattle.deferred_loop.specs.Seen.{PoolSet}
-use Rattle.frame_steps.specs.Steps.{leaf_count}
+use Rattle.mesh_laws.specs.Steps.{leaf_count}
 use Rattle.deferred_loop.specs.Choice.{Priorities, IsFirstRank}
 use Rattle.deferred_loop.specs.declared.queued.Located.{Located}
 use Rattle.deferred_loop.proofs.KeyLemmas.{unsure}

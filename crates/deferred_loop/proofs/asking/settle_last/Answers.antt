@@ -3,7 +3,7 @@ use Rattle.std.proofs.lemmas.Bool.{both_ways}
 use Rattle.mesh_defs.specs.Triangle.{level_of}
 use Rattle.mesh_defs.specs.ClosedSet.{among}
 use Rattle.bintree_addr.specs.declared.rank.Rank.{Rank}
-use Rattle.frame_steps.specs.Deferred.{IsEntry}
+use Rattle.mesh_laws.specs.Deferred.{IsEntry}
 use Rattle.deferred_loop.specs.Seen.{PoolSet, IsRated}
 use Rattle.deferred_loop.specs.Choice.{Priorities, IsLastRank}
 use Rattle.deferred_loop.specs.Kept.{IsAllowed, IsNoneMet}

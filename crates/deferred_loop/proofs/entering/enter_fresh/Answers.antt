@@ -1,6 +1,6 @@
 use Rattle.std.proofs.lemmas.Grind.{common_steps}
 use Rattle.std.proofs.Common.{◌∙◌, ap, arith}
-use Rattle.frame_steps.specs.Stamps.{Readings}
+use Rattle.mesh_laws.specs.Stamps.{Readings}
 use Rattle.deferred_loop.proofs.HeadLemmas.{asked_level}
 use Rattle.deferred_loop.proofs.EnterLemmas.{entering_next, next_listed}
 use Rattle.deferred_loop.proofs.entering.enter_fresh.Goals as goal

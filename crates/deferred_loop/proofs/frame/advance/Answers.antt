@@ -1,5 +1,5 @@
 use Rattle.std.proofs.Common.{◌+◌, refl, subst}
-use Rattle.frame_steps.specs.Stamps.{ReadingsHold}
+use Rattle.mesh_laws.specs.Stamps.{ReadingsHold}
 use Rattle.deferred_loop.proofs.LogLemmas.{frame_log}
 use Rattle.deferred_loop.proofs.PickLemmas.{picked_told, picked_of, picked_frame, end_sparing, end_at_most}
 use Rattle.deferred_loop.proofs.PickLemmas.{end_at_least, end_stamps}

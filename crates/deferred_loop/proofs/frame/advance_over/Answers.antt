@@ -1,7 +1,7 @@
 use Rattle.std.proofs.Common.{sym, ◌∙◌, subst, arith}
 use Rattle.deferred_loop.specs.Seen.{PoolSet, IsCountedBy, HasRoom}
 use Rattle.deferred_loop.specs.Choice.{IsNextSplit, IsNextMerge}
-use Rattle.frame_steps.specs.Stamps.{Readings, ReadingsHold}
+use Rattle.mesh_laws.specs.Stamps.{Readings, ReadingsHold}
 use Rattle.deferred_loop.specs.Kept.{IsStamped}
 use Rattle.deferred_loop.proofs.StepLemmas.{asked_stamped}
 use Rattle.deferred_loop.specs.Log.{emptied}

@@ -1,6 +1,6 @@
 use Rattle.std.proofs.Common.{◌≡◌}
 use Rattle.deferred_loop.specs.Seen.{IsCountedBy}
-use Rattle.frame_steps.proofs.MeasureLemmas.{steps_left}
+use Rattle.mesh_laws.proofs.MeasureLemmas.{steps_left}
 use Rattle.deferred_loop.specs.Log.{emptied, IsLogged}
 use Rattle.deferred_loop.specs.Kept.{IsSettled, IsCharged, IsStamped}
 use Rattle.deferred_loop.proofs.frame.advance_over.Given as goal

@@ -1,7 +1,7 @@
 use Rattle.std.proofs.Common.{◌+◌, ◌-◌, sym, subst, arith, ◌∙◌}
 use Rattle.deferred_loop.specs.Seen.{PoolSet, IsCountedBy}
-use Rattle.closure_laws.specs.Diamond.{IsWithoutDiamond}
-use Rattle.frame_steps.specs.Steps.{IsMergeStep}
+use Rattle.mesh_laws.specs.Diamond.{IsWithoutDiamond}
+use Rattle.mesh_laws.specs.Steps.{IsMergeStep}
 use Rattle.deferred_loop.proofs.ChoiceLemmas.{merge_counted}
 use Rattle.deferred_loop.proofs.HeadLemmas.{grid_set_here}
 use Rattle.deferred_loop.proofs.LogLemmas.{logged_on}

@@ -2,7 +2,7 @@ use Rattle.std.proofs.Common.{Contains, ◌+◌, ◌-◌, sym, subst, arith, ◌
 use Rattle.mesh_defs.specs.ClosedSet.{leaves_of, among}
 use Rattle.deferred_loop.specs.Seen.{PoolSet, IsCountedBy}
 use Rattle.mesh_defs.specs.GridSet.{IsForced}
-use Rattle.frame_steps.specs.Steps.{IsSplitStep, leaf_count}
+use Rattle.mesh_laws.specs.Steps.{IsSplitStep, leaf_count}
 use Rattle.deferred_loop.proofs.ChoiceLemmas.{split_counted, split_room}
 use Rattle.deferred_loop.proofs.HeadLemmas.{grid_set_here}
 use Rattle.deferred_loop.proofs.LogLemmas.{logged_on}

@@ -1,7 +1,7 @@
 -- With what it stands on in the set, a triangle with no mate goes in alone, and another with its mate.
 use Rattle.std.proofs.Common.{◌≡◌, Some}
 use Rattle.mesh_defs.specs.ClosedSet.{among}
-use Rattle.closure_laws.proofs.ForcingLemmas.{IsLeastClosed-single, IsLeastClosed-pair}
+use Rattle.mesh_laws.proofs.ForcingLemmas.{IsLeastClosed-single, IsLeastClosed-pair}
 use Rattle.diamond_rel.proofs.forcing.+force.Goals as goal
 
 pub force-returns-in_ok-insert-in-None-clause-least : goal.force-returns-in_ok-insert-in-None-clause-least

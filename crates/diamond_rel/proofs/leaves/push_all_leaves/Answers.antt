@@ -2,7 +2,7 @@
 use Rattle.std.proofs.Common.{arith}
 use Rattle.mesh_defs.specs.ClosedSet.{among}
 use Rattle.bintree_laws.proofs.LevelLemmas.{level_of-root}
-use Rattle.tiling_laws.proofs.DescentLemmas.{append-leaves_of}
+use Rattle.mesh_laws.proofs.DescentLemmas.{append-leaves_of}
 use Rattle.diamond_rel.proofs.leaves.push_all_leaves.Goals as goal
 
 pub push_leaves-requires-clause-deep : goal.push_leaves-requires-clause-deep

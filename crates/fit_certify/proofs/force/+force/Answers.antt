@@ -1,8 +1,8 @@
 -- With what it stands on in the set, a triangle with no mate goes in alone, and another with its mate.
 use Rattle.std.proofs.Common.{◌≡◌, Some, arith}
-use Rattle.least_laws.specs.Sweep.{is_flagged}
-use Rattle.least_laws.proofs.SweepLemmas.{splittable-lt, mate-lt}
-use Rattle.closure_laws.proofs.ForcingLemmas.{IsLeastClosed-single, IsLeastClosed-pair}
+use Rattle.mesh_laws.specs.Sweep.{is_flagged}
+use Rattle.mesh_laws.proofs.SweepLemmas.{splittable-lt, mate-lt}
+use Rattle.mesh_laws.proofs.ForcingLemmas.{IsLeastClosed-single, IsLeastClosed-pair}
 use Rattle.fit_certify.proofs.force.+force.Goals as goal
 
 pub force-flag-requires : goal.force-flag-requires

@@ -1,13 +1,13 @@
 -- Both passes begin at closed sets, and their reasons are sound.
 use Rattle.std.proofs.Common.{ℕ, Bool, false, List, sym, subst}
 use Rattle.mesh_defs.specs.ClosedSet.{leaves_of}
-use Rattle.closure_laws.proofs.ClosureLemmas.{nothing_closed}
-use Rattle.least_laws.specs.Sweep.{is_flagged}
+use Rattle.mesh_laws.proofs.ClosureLemmas.{nothing_closed}
+use Rattle.mesh_laws.specs.Sweep.{is_flagged}
 use Rattle.fit_laws.proofs.FitLemmas.{closed-same}
-use Rattle.fit_certificate_laws.specs.Certificate.{FitCertificate, LeadsToFit, IsFitSound}
-use Rattle.fit_certificate_laws.specs.Making.{HasNoneBehind}
-use Rattle.fit_certificate_laws.proofs.LeadLemmas.{leads-closed, leads-same}
-use Rattle.fit_certificate_laws.proofs.MakeLemmas.{made-sound}
+use Rattle.certificate_laws.specs.FitCertificate.{FitCertificate, LeadsToFit, IsFitSound}
+use Rattle.certificate_laws.specs.Making.{HasNoneBehind}
+use Rattle.certificate_laws.proofs.LeadLemmas.{leads-closed, leads-same}
+use Rattle.certificate_laws.proofs.FitMakeLemmas.{made-sound}
 use Rattle.fit_certify.proofs.making.cert_of.Goals as goal
 
 pub settle-requires-clause-closed : goal.settle-requires-clause-closed

@@ -1,7 +1,7 @@
 -- No flag is set at first.
 use Rattle.std.proofs.Common.{◌≡◌, Bool, false, List, sym, ◌∙◌, subst}
-use Rattle.least_laws.specs.Sweep.{is_flagged}
-use Rattle.least_laws.proofs.FlagLemmas.{flagged-unset}
+use Rattle.mesh_laws.specs.Sweep.{is_flagged}
+use Rattle.mesh_laws.proofs.FlagLemmas.{flagged-unset}
 use Rattle.fit_certify.proofs.making.make.Goals as goal
 
 pub cert_of-requires-clause-empty : goal.cert_of-requires-clause-empty

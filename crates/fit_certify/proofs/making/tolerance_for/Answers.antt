@@ -3,8 +3,8 @@ use Rattle.std.proofs.Common.{ℕ, ◌≤◌, List, length, sym, ◌∙◌, subs
 use Rattle.fit_laws.specs.Error.{error_of}
 use Rattle.fit_laws.specs.Budget.{IsBudgetMesh}
 use Rattle.fit_laws.proofs.ErrorLemmas.{worst-deviation}
-use Rattle.fit_certificate_laws.specs.declared.reason.Target.{Target}
-use Rattle.fit_certificate_laws.specs.Making.{IsBestTolerance}
+use Rattle.certificate_laws.specs.declared.fit_reason.Target.{Target}
+use Rattle.certificate_laws.specs.Making.{IsBestTolerance}
 use Rattle.fit_certify.proofs.making.tolerance_for.Goals as goal
 
 pub returns-in_ok-fit-in-Budget : goal.returns-in_ok-fit-in-Budget

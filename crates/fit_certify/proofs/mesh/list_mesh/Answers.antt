@@ -1,7 +1,7 @@
 -- The leaves of what the reasons make.
 use Rattle.std.proofs.Common.{◌∙◌, ap}
 use Rattle.mesh_defs.specs.ClosedSet.{leaves_of}
-use Rattle.least_laws.specs.Sweep.{is_flagged}
+use Rattle.mesh_laws.specs.Sweep.{is_flagged}
 use Rattle.fit_certify.proofs.MeshLemmas.{mesh-listed}
 use Rattle.fit_certify.proofs.mesh.list_mesh.Goals as goal
 

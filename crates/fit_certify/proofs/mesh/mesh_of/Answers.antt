@@ -1,8 +1,8 @@
 -- No flag is set at first.
 use Rattle.std.proofs.Common.{◌≡◌, Bool, false, List, sym, ◌∙◌, subst, arith}
 use Rattle.std.proofs.lemmas.List.{take-take, take-append-le}
-use Rattle.least_laws.specs.Sweep.{is_flagged}
-use Rattle.least_laws.proofs.FlagLemmas.{flagged-unset}
+use Rattle.mesh_laws.specs.Sweep.{is_flagged}
+use Rattle.mesh_laws.proofs.FlagLemmas.{flagged-unset}
 use Rattle.fit_certify.proofs.mesh.mesh_of.Goals as goal
 
 pub list_mesh-count-requires-clause-empty : goal.list_mesh-count-requires-clause-empty

@@ -3,10 +3,10 @@ use Rattle.std.proofs.Common.{◌≡◌, ◌/◌, ◌<◌, ◌≤◌, refl, sym,
 use Rattle.std.proofs.lemmas.Bool.{cases_lt, false≢true, both_ways}
 use Rattle.mesh_defs.specs.ClosedSet.{leaves_of}
 use Rattle.mesh_defs.proofs.ListLemmas.{IsIn-contains, Contains-in}
-use Rattle.tiling_laws.proofs.DescentLemmas.{IsAddress-splittable}
-use Rattle.closure_laws.proofs.ClosureLemmas.{leaf-outer}
+use Rattle.mesh_laws.proofs.DescentLemmas.{IsAddress-splittable}
+use Rattle.mesh_laws.proofs.ClosureLemmas.{leaf-outer}
 use Rattle.fit_laws.proofs.SettledLemmas.{outer-leaf}
-use Rattle.least_laws.specs.Sweep.{is_flagged}
+use Rattle.mesh_laws.specs.Sweep.{is_flagged}
 use Rattle.fit_certify.proofs.replay.is_leaf.Goals as goal
 
 pub returns-then-is_set : goal.returns-then-is_set

@@ -1,8 +1,8 @@
 -- The reasons so far lead to the flagged set.
 use Rattle.std.proofs.Common.{◌≡◌, length, take}
 use Rattle.mesh_defs.specs.ClosedSet.{IsClosed}
-use Rattle.least_laws.specs.Sweep.{is_flagged}
-use Rattle.fit_certificate_laws.specs.Certificate.{LeadsTo}
+use Rattle.mesh_laws.specs.Sweep.{is_flagged}
+use Rattle.certificate_laws.specs.FitCertificate.{LeadsTo}
 use Rattle.fit_certify.proofs.replay.replay.Given as goal
 
 abbrev pub invariant-loop-index : goal.invariant-loop-index

@@ -1,6 +1,6 @@
 -- The passes end, and there are fewer reasons than triangles that may be split.
 use Rattle.std.proofs.Common.{◌≤◌, refl, subst}
-use Rattle.least_laws.specs.Sweep.{is_flagged}
+use Rattle.mesh_laws.specs.Sweep.{is_flagged}
 use Rattle.fit_certify.proofs.SettleLemmas.{settle-falls, reasons-few}
 use Rattle.fit_certify.proofs.settle.settle.Goals as goal
 

@@ -2,7 +2,7 @@
 use Rattle.std.proofs.Common.{ℕ, refl, subst}
 use Rattle.mesh_defs.specs.ClosedSet.{IsLeastClosed}
 use Rattle.mesh_defs.specs.Greedy.{with_triangle}
-use Rattle.least_laws.specs.Sweep.{is_flagged}
+use Rattle.mesh_laws.specs.Sweep.{is_flagged}
 use Rattle.fit_certify.proofs.SettleLemmas.{error-most, split-going, split-grown}
 use Rattle.fit_certify.proofs.settle.split_leaf.Goals as goal
 

@@ -4,8 +4,8 @@ use Rattle.std.proofs.lemmas.Bool.{false≢true}
 use Rattle.mesh_defs.specs.Triangle.{IsSplittable}
 use Rattle.mesh_defs.specs.ClosedSet.{leaves_of}
 use Rattle.mesh_defs.proofs.ListLemmas.{IsIn-contains}
-use Rattle.least_laws.specs.Sweep.{is_flagged}
-use Rattle.least_laws.proofs.SweepLemmas.{lt-splittable}
+use Rattle.mesh_laws.specs.Sweep.{is_flagged}
+use Rattle.mesh_laws.proofs.SweepLemmas.{lt-splittable}
 use Rattle.fit_laws.specs.Error.{error_of}
 use Rattle.fit_laws.proofs.SettledLemmas.{outer-leaf}
 use Rattle.fit_certify.proofs.SettleLemmas.{going-same, going-through, sweep-more, sweep-none, asked-worst}

@@ -1,7 +1,7 @@
 -- What was split so far; where nothing was, all before this address were asked.
 use Rattle.std.proofs.Common.{◌≡◌, ◌<◌, true, false, length}
 use Rattle.mesh_defs.specs.ClosedSet.{leaves_of}
-use Rattle.least_laws.specs.Sweep.{is_flagged}
+use Rattle.mesh_laws.specs.Sweep.{is_flagged}
 use Rattle.fit_certify.specs.Settling.{IsGoingOn}
 use Rattle.fit_certify.proofs.SettleLemmas.{AreAsked}
 use Rattle.fit_certify.proofs.settle.sweep.Given as goal

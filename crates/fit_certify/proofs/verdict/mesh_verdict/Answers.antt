@@ -1,10 +1,10 @@
 -- Each test that a sound certificate has to pass was passed.
 use Rattle.std.proofs.Common.{ℕ, ◌-◌, ◌≤◌, Bool, List, length, refl, ◌∙◌, ap, subst}
 use Rattle.mesh_defs.specs.ClosedSet.{leaves_of}
-use Rattle.least_laws.specs.Sweep.{is_flagged}
+use Rattle.mesh_laws.specs.Sweep.{is_flagged}
 use Rattle.fit_laws.proofs.ErrorLemmas.{worst-deviation}
-use Rattle.fit_certificate_laws.specs.declared.reason.Off.{Off}
-use Rattle.fit_certificate_laws.specs.Certificate.{LeadsTo, IsWithinTarget, IsEnough}
+use Rattle.certificate_laws.specs.declared.fit_reason.Off.{Off}
+use Rattle.certificate_laws.specs.FitCertificate.{LeadsTo, IsWithinTarget, IsEnough}
 use Rattle.fit_certify.proofs.verdict.mesh_verdict.Goals as goal
 
 pub returns : goal.returns

@@ -1,10 +1,10 @@
 -- The first reason that is none.
 use Rattle.std.proofs.Common.{ℕ, false, List, inl, sym, subst}
-use Rattle.least_laws.specs.Sweep.{is_flagged}
-use Rattle.fit_certificate_laws.specs.declared.reason.Off.{Off}
-use Rattle.fit_certificate_laws.specs.declared.reason.Verdict.{Verdict}
-use Rattle.fit_certificate_laws.specs.Certificate.{IsFor, IsFirstBadFit, IsFitVerdict}
-use Rattle.fit_certificate_laws.proofs.LeadLemmas.{bad-same}
+use Rattle.mesh_laws.specs.Sweep.{is_flagged}
+use Rattle.certificate_laws.specs.declared.fit_reason.Off.{Off}
+use Rattle.certificate_laws.specs.declared.fit_reason.FitVerdict.{FitVerdict}
+use Rattle.certificate_laws.specs.FitCertificate.{IsFor, IsFirstBadFit, IsFitVerdict}
+use Rattle.certificate_laws.proofs.LeadLemmas.{bad-same}
 use Rattle.fit_certify.proofs.verdict.verdict.Goals as goal
 
 pub returns-in-Some : goal.returns-in-Some
@@ -19,5 +19,5 @@ returns-in-Some c =
     subst (λ (l : List Off). IsFirstBadFit n heights cert.tolerance flags l c.in-Some.index) c.needed.ensures.value
     (subst (λ k. IsFirstBadFit n heights k flags c.needed.result.now c.in-Some.index) c.tolerance-tolerance.ensures
     c.in-Some.ensures.bad) in
-    subst (λ (v : Verdict). IsFitVerdict n heights c.args.target cert v) (sym c.rejected-in-Some.ensures)
+    subst (λ (v : FitVerdict). IsFitVerdict n heights c.args.target cert v) (sym c.rejected-in-Some.ensures)
     (own, inl (bad-same n heights cert.tolerance flags (λ a. false) cert.needed c.in-Some.index c.requires.empty bad))

@@ -2,7 +2,7 @@
 use Rattle.std.proofs.Common.{◌<◌, ◌++◌, ◌∷◌, [], max, length, take, ap, ap₂, sym, ◌∙◌, arith}
 use Rattle.std.proofs.lemmas.List.{take_more}
 use Rattle.mesh_defs.specs.Priority.{worst_of}
-use Rattle.least_laws.proofs.LeastLemmas.{worst_of-next}
+use Rattle.mesh_laws.proofs.LeastLemmas.{worst_of-next}
 use Rattle.fit_laws.specs.Error.{error_of}
 use Rattle.fit_mesh.proofs.error.worst_error.Goals as goal
 

@@ -2,8 +2,8 @@
 use Rattle.std.proofs.Common.{◌≡◌, sym, ◌∙◌, subst, ap, Bool, false, List, length, arith}
 use Rattle.std.proofs.lemmas.List.{length-replicate}
 use Rattle.mesh_defs.proofs.ListLemmas.{IsIn-contains, among-in}
-use Rattle.least_laws.specs.Sweep.{is_flagged}
-use Rattle.least_laws.proofs.FlagLemmas.{flagged-unset}
+use Rattle.mesh_laws.specs.Sweep.{is_flagged}
+use Rattle.mesh_laws.proofs.FlagLemmas.{flagged-unset}
 use Rattle.fit_mesh.proofs.force.set_back.Goals as goal
 
 pub loop-place-init : goal.loop-place-init

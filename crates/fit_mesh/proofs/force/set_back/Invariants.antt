@@ -1,6 +1,6 @@
 use Rattle.std.proofs.Common.{◌≡◌, ℕ, length, take}
 use Rattle.mesh_defs.specs.ClosedSet.{among}
-use Rattle.least_laws.specs.Sweep.{is_flagged}
+use Rattle.mesh_laws.specs.Sweep.{is_flagged}
 use Rattle.fit_mesh.proofs.force.set_back.Given as goal
 
 abbrev pub invariant-loop-place : goal.invariant-loop-place

@@ -1,6 +1,6 @@
 -- The children of one member more.
 use Rattle.std.proofs.Common.{arith}
-use Rattle.least_laws.specs.Sweep.{is_flagged}
+use Rattle.mesh_laws.specs.Sweep.{is_flagged}
 use Rattle.fit_laws.specs.Error.{error_of}
 use Rattle.fit_mesh.proofs.PendingLemmas.{pending-step, listed-member}
 use Rattle.fit_mesh.proofs.grow.push_children.Goals as goal

@@ -1,6 +1,6 @@
 use Rattle.std.proofs.Common.{◌+◌, ◌-◌, ◌*◌, ◌≤◌, drop, length}
 use Rattle.std.specs.BinaryHeap.{heap_items, heap_len, heap_capacity}
-use Rattle.least_laws.specs.Sweep.{is_flagged}
+use Rattle.mesh_laws.specs.Sweep.{is_flagged}
 use Rattle.fit_laws.specs.Error.{error_of}
 use Rattle.fit_mesh.specs.Waiting.{IsPending}
 use Rattle.fit_mesh.proofs.grow.push_children.Given as goal

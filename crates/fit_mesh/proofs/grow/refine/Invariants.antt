@@ -1,6 +1,6 @@
-use Rattle.std.proofs.Common.{◌+◌, ◌-◌, ◌*◌, ◌^◌, ◌≡◌, ◌≤◌, length, take}
+use Rattle.std.proofs.Common.{◌+◌, ◌-◌, ◌*◌, ◌≡◌, ◌≤◌, length, vec_capacity}
 use Rattle.std.specs.BinaryHeap.{heap_items, heap_len, heap_capacity}
-use Rattle.least_laws.specs.Sweep.{is_flagged}
+use Rattle.mesh_laws.specs.Sweep.{is_flagged}
 use Rattle.fit_laws.specs.Error.{error_of}
 use Rattle.fit_mesh.specs.Log.{HasLog}
 use Rattle.fit_mesh.specs.Waiting.{IsWaiting}
@@ -10,15 +10,14 @@ use Rattle.fit_mesh.proofs.grow.refine.Given as goal
 abbrev pub invariant-loop-low : goal.invariant-loop-low
 invariant-loop-low l = record {
   capacity : heap_capacity l.fn.heap ≤ heap_capacity l.heap;
-  len : heap_len l.heap ≤ 2 * l.count + 2;
-  room : length l.room ≡ 2 ^ (2 * l.grid.n + 1);
-  count : l.count ≤ length l.room;
-  grown : HasLog l.grid.n l.flags (take l.count l.room);
+  len : heap_len l.heap ≤ 2 * length l.log.items + 2;
+  room : vec_capacity l.log ≡ vec_capacity l.fn.log;
+  grown : HasLog l.grid.n l.flags l.log.items;
   waiting : IsWaiting l.grid.n (error_of l.grid.n l.grid.heights) (is_flagged l.flags) (heap_items l.heap);
   needed : IsNeededBelow l.grid.n (error_of l.grid.n l.grid.heights) l.low (is_flagged l.flags);
-  best : IsBest l.grid.n (error_of l.grid.n l.grid.heights) l.tolerance l.budget l.low (take l.count l.room) l.mark;
-  few : l.count + 2 ≤ l.budget;
+  best : IsBest l.grid.n (error_of l.grid.n l.grid.heights) l.tolerance l.budget l.low l.log.items l.mark;
+  few : length l.log.items + 2 ≤ l.budget;
 }
 
 abbrev pub decreases-loop-low : goal.decreases-loop-low
-decreases-loop-low l = l.low + (length l.room - l.count)
+decreases-loop-low l = l.low + (vec_capacity l.fn.log - length l.log.items)

@@ -1,14 +1,14 @@
--- What is worse than the tolerance can be split, and every mesh within it needs that.
+-- What is worse than the tolerance can be split.
 use Rattle.std.proofs.Common.{ℕ, sym, subst, arith}
 use Rattle.bintree_laws.proofs.LevelLemmas.{level-le}
 use Rattle.mesh_defs.specs.Triangle.{IsSplittable}
 use Rattle.mesh_defs.specs.ClosedSet.{IsLeastClosed}
 use Rattle.mesh_defs.specs.Greedy.{with_triangle}
-use Rattle.least_laws.specs.Sweep.{is_flagged}
-use Rattle.fit_mesh.specs.Limit.{tolerance_of, error_within}
+use Rattle.mesh_laws.specs.Sweep.{is_flagged}
+use Rattle.fit_mesh.specs.Limit.{error_within}
 use Rattle.fit_mesh.proofs.LimitLemmas.{limit-finest}
 use Rattle.fit_laws.proofs.FitLemmas.{splittable-error}
-use Rattle.fit_mesh.proofs.SettleLemmas.{ask-needed}
+use Rattle.fit_mesh.proofs.SettleLemmas.{ask-least}
 use Rattle.fit_mesh.proofs.settle.ask.Goals as goal
 
 pub is_over-requires-clause-level : goal.is_over-requires-clause-level
@@ -17,16 +17,13 @@ is_over-requires-clause-level c = level-le c.args.grid.now.n c.args.t c.requires
 pub force-requires-clause-splittable : goal.force-requires-clause-splittable
 force-requires-clause-splittable c =
     let n : ℕ = c.args.grid.now.n in
-    let above = c.is_over.ensures.0 c.if-not-is_over.false in
+    let above = c.is_over.ensures.0 c.if-is_over.true in
     subst (λ k. IsSplittable k c.args.t) (sym c.n.ensures.value)
     (splittable-error n (error_within n c.args.grid.now.heights c.args.limit)
     (limit-finest n c.args.grid.now.heights c.args.limit) c.args.t c.requires.address (omega arith))
 
-pub returns-clause-needed : goal.returns-clause-needed
-returns-clause-needed c required needed =
-    let n : ℕ = c.args.grid.now.n in
-    ask-needed n (error_within n c.args.grid.now.heights c.args.limit) (tolerance_of c.args.limit)
-    (is_flagged c.args.flags.now) c.args.t c.requires.address c.requires.parent
-    required (is_flagged c.force.new.flags) (c.is_over.ensures.0 c.if-not-is_over.false) needed
+pub returns-then-is_over-clause-least : goal.returns-then-is_over-clause-least
+returns-then-is_over-clause-least c other closed inside asked =
+    ask-least c.args.grid.now.n (is_flagged c.args.flags.now) (is_flagged c.force.new.flags) c.args.t
     (subst (λ k. IsLeastClosed k (with_triangle (is_flagged c.args.flags.now) c.args.t) (is_flagged c.force.new.flags))
-    c.n.ensures.value c.force.ensures.least)
+    c.n.ensures.value c.force.ensures.least) other closed inside (asked (c.is_over.ensures.0 c.if-is_over.true))

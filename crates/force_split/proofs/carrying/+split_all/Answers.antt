@@ -1,5 +1,5 @@
 use Rattle.std.proofs.Common.{ap, sym, ◌∙◌, subst, ◌+◌, inl, inr, ◌∷◌, ◌++◌, [], arith}
-use Rattle.edge_laws.specs.Slots.{room_of}
+use Rattle.mesh_laws.specs.Slots.{room_of}
 use Rattle.triangle_pool.specs.Answer.{numbers}
 use Rattle.force_split.specs.Chain.{IsChain, IsBornOf}
 use Rattle.std.proofs.lemmas.List.{append_assoc}

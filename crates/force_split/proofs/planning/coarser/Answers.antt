@@ -1,7 +1,7 @@
 use Rattle.std.proofs.Common.{arith, true, false, ap}
 use Rattle.std.proofs.lemmas.Bool.{true≢false}
 use Rattle.mesh_defs.specs.Triangle.{level_of}
-use Rattle.edge_laws.proofs.SlotLemmas.{coarse_link}
+use Rattle.mesh_laws.proofs.SlotLemmas.{coarse_link}
 use Rattle.force_split.proofs.planning.coarser.Goals as goal
 
 pub tri-requires : goal.tri-requires

@@ -1,5 +1,5 @@
 use Rattle.std.proofs.Common.{sym, subst}
-use Rattle.edge_laws.specs.Slots.{address_at}
+use Rattle.mesh_laws.specs.Slots.{address_at}
 use Rattle.force_split.specs.Chain.{IsGainOf}
 use Rattle.force_split.proofs.GainLemmas.{chain_gain, gain_members}
 use Rattle.force_split.proofs.planning.plan.Goals as goal

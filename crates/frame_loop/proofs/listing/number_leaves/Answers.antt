@@ -1,6 +1,6 @@
 use Rattle.std.proofs.Common.{ℕ, List, ◌*◌, ◌≤◌, All, sym, ◌∙◌, subst}
 use Rattle.mesh_defs.specs.Triangle.{level_of}
-use Rattle.edge_laws.specs.Slots.{split_set}
+use Rattle.mesh_laws.specs.Slots.{split_set}
 use Rattle.frame_loop.proofs.PoolLemmas.{leaves_levels}
 use Rattle.frame_loop.proofs.listing.number_leaves.Goals as goal
 

@@ -1,10 +1,10 @@
 use Rattle.std.proofs.Common.{arith, ◌≡◌, ◌*◌, ◌≤◌, ◌&&◌, true, false, nat_eq, sym, subst, ◌∙◌, ap}
 use Rattle.std.proofs.lemmas.Bool.{false≢true}
 use Rattle.mesh_defs.specs.Triangle.{level_of}
-use Rattle.edge_laws.specs.Slots.{address_at, has_children}
+use Rattle.mesh_laws.specs.Slots.{address_at, has_children}
 use Rattle.triangle_pool.specs.Slots.{PoolState}
 use Rattle.frame_loop.specs.Engine.{IsExpired}
-use Rattle.leaf_list.specs.Below.{is_at_or_below}
+use Rattle.mesh_arrays.specs.Below.{is_at_or_below}
 use Rattle.frame_loop.specs.Turn.{is_turned}
 use Rattle.frame_loop.proofs.BelowLemmas.{live_address}
 use Rattle.frame_loop.proofs.WalkLemmas.{IsRead, read_children, step_left, step_right, IsExpired-itself}

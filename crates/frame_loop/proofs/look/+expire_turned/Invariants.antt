@@ -1,6 +1,6 @@
 use Rattle.std.proofs.Common.{◌-◌, ◌*◌}
 use Rattle.mesh_defs.specs.Triangle.{level_of}
-use Rattle.edge_laws.specs.Slots.{address_at}
+use Rattle.mesh_laws.specs.Slots.{address_at}
 use Rattle.frame_loop.proofs.look.+expire_turned.Given as goal
 
 abbrev pub decreases-expire_turned : goal.decreases-expire_turned

@@ -1,5 +1,5 @@
 use Rattle.std.proofs.Common.{◌≡◌, slice_index, arith, ap, ◌∙◌}
-use Rattle.edge_laws.specs.Slots.{address_at}
+use Rattle.mesh_laws.specs.Slots.{address_at}
 use Rattle.triangle_pool.specs.Slots.{PoolState}
 use Rattle.frame_loop.specs.Turn.{is_turned}
 use Rattle.frame_loop.proofs.WalkLemmas.{IsExpired-tested_square}

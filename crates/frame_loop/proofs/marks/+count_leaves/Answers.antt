@@ -1,5 +1,5 @@
 use Rattle.std.proofs.Common.{ap, length, sym, refl, arith}
-use Rattle.edge_laws.specs.Slots.{address_at, has_children}
+use Rattle.mesh_laws.specs.Slots.{address_at, has_children}
 use Rattle.frame_loop.proofs.LeafListLemmas.{when_some, children_below, leaf_at}
 use Rattle.frame_loop.proofs.marks.+count_leaves.Goals as goal
 

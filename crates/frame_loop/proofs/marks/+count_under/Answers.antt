@@ -1,8 +1,8 @@
 use Rattle.std.proofs.Common.{◌≡◌, ◌*◌, ◌≤◌, ap, subst, sym, ◌∙◌, refl, arith}
 use Rattle.mesh_defs.specs.Triangle.{level_of}
 use Rattle.mesh_defs.specs.declared.mark.Mark.TheVariants.{Inside, Outside}
-use Rattle.edge_laws.specs.Slots.{address_at, has_children, split_set}
-use Rattle.tiling_laws.proofs.DescentLemmas.{IsDown}
+use Rattle.mesh_laws.specs.Slots.{address_at, has_children, split_set}
+use Rattle.mesh_laws.proofs.DescentLemmas.{IsDown}
 use Rattle.frame_loop.specs.Turn.{mark_under}
 use Rattle.frame_loop.proofs.LeafListLemmas.{when_some, children_below, leaf_at}
 use Rattle.frame_loop.proofs.TurnLemmas.{IsPassedOn}

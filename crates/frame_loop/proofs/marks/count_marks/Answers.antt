@@ -1,7 +1,7 @@
 use Rattle.std.proofs.Common.{◌≡◌, ◌*◌, slice_index, ap, sym, ◌∙◌, arith}
 use Rattle.std.proofs.lemmas.List.{nil_from_length}
 use Rattle.mesh_defs.specs.ClosedSet.{leaves_of}
-use Rattle.edge_laws.specs.Slots.{address_at, split_set}
+use Rattle.mesh_laws.specs.Slots.{address_at, split_set}
 use Rattle.frame_loop.proofs.LeafListLemmas.{halves_of}
 use Rattle.frame_loop.proofs.MarkLemmas.{marks_seen-inside, marks_seen-cut, marks_seen-outside}
 use Rattle.frame_loop.proofs.InheritLemmas.{HasMarks-append, HasMarks-few}

@@ -1,5 +1,5 @@
 use Rattle.std.proofs.Common.{◌≡◌, length, map, take}
-use Rattle.edge_laws.specs.Slots.{split_set}
+use Rattle.mesh_laws.specs.Slots.{split_set}
 use Rattle.frame_loop.specs.Patch.{change_of}
 use Rattle.frame_loop.proofs.patch.list_changes.Given as goal
 

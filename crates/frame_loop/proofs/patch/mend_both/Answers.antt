@@ -2,7 +2,7 @@ use Rattle.std.proofs.Common.{◌≡◌, ◌^◌, ℕ, All, List, length, take, 
 use Rattle.mesh_defs.specs.ClosedSet.{leaves_of}
 use Rattle.mesh_defs.specs.MeshText.{vertices_of}
 use Rattle.bintree_laws.specs.Corners.{IsInSquare}
-use Rattle.edge_laws.specs.Slots.{split_set}
+use Rattle.mesh_laws.specs.Slots.{split_set}
 use Rattle.obj_write.specs.declared.patch.VertexChange.{VertexChange}
 use Rattle.obj_write.specs.Numbers.{numbers_of}
 use Rattle.obj_write.specs.Patch.{AreChanges}

@@ -1,8 +1,8 @@
 -- One visit a turn; at the end 2 was visited.
 use Rattle.std.proofs.Common.{◌≡◌, ◌-◌, IfSome, refl, sym, ◌∙◌, subst, arith}
 use Rattle.mesh_defs.specs.Triangle.{IsSplittable}
-use Rattle.least_laws.specs.Sweep.{is_flagged, IsSwept, IsMarked}
-use Rattle.least_laws.proofs.SweepLemmas.{swept_at_first, swept_skip, swept_mark, swept_at_last}
+use Rattle.mesh_laws.specs.Sweep.{is_flagged, IsSwept, IsMarked}
+use Rattle.mesh_laws.proofs.SweepLemmas.{swept_at_first, swept_skip, swept_mark, swept_at_last}
 use Rattle.least_mesh.proofs.flags.sweep.Goals as goal
 
 pub loop-number-init : goal.loop-number-init

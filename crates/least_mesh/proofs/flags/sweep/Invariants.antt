@@ -1,6 +1,6 @@
 -- The addresses from the counter up were visited.
 use Rattle.std.proofs.Common.{◌≡◌, length}
-use Rattle.least_laws.specs.Sweep.{is_flagged, IsSwept}
+use Rattle.mesh_laws.specs.Sweep.{is_flagged, IsSwept}
 use Rattle.least_mesh.proofs.flags.sweep.Given as goal
 
 abbrev pub invariant-loop-number : goal.invariant-loop-number

@@ -1,9 +1,9 @@
 -- The mate is splittable too, so its flag is there; and the marks are those of a pair.
 use Rattle.std.proofs.Common.{◌≡◌, Some, refl, arith}
 use Rattle.mesh_defs.specs.Triangle.{IsMate}
-use Rattle.tiling_laws.proofs.DescentLemmas.{IsAddress-splittable}
-use Rattle.least_laws.specs.Sweep.{is_flagged}
-use Rattle.least_laws.proofs.SweepLemmas.{splittable-lt, mate-lt, marked-pair}
+use Rattle.mesh_laws.proofs.DescentLemmas.{IsAddress-splittable}
+use Rattle.mesh_laws.specs.Sweep.{is_flagged}
+use Rattle.mesh_laws.proofs.SweepLemmas.{splittable-lt, mate-lt, marked-pair}
 use Rattle.least_mesh.proofs.flags.visit.Goals as goal
 
 pub flag_parent-requires : goal.flag_parent-requires

@@ -3,7 +3,7 @@ use Rattle.std.proofs.Common.{◌<◌, ◌++◌, ◌∷◌, [], max, length, tak
 use Rattle.std.proofs.lemmas.List.{take_more}
 use Rattle.mesh_defs.specs.Priority.{worst_of}
 use Rattle.mesh_defs.specs.State.{priority_seen}
-use Rattle.least_laws.proofs.LeastLemmas.{worst_of-next}
+use Rattle.mesh_laws.proofs.LeastLemmas.{worst_of-next}
 use Rattle.least_mesh.proofs.list.worst_leaf.Goals as goal
 
 pub loop-leaf-preserved : goal.loop-leaf-preserved

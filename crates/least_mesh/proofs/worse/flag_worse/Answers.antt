@@ -1,7 +1,7 @@
 -- One address a turn.
 use Rattle.std.proofs.Common.{◌≡◌, ◌+◌, ◌*◌, ◌^◌, length, ap, subst, sym, ◌∙◌, arith}
 use Rattle.mesh_defs.specs.State.{priority_seen}
-use Rattle.least_laws.specs.Least.{is_worse}
+use Rattle.mesh_laws.specs.Least.{is_worse}
 use Rattle.least_mesh.specs.Asked.{AreWantedFlagged}
 use Rattle.least_mesh.proofs.AskedLemmas.{asked-none, asked-yes, asked-no, asked-all}
 use Rattle.least_mesh.proofs.worse.flag_worse.Goals.{then-is_worse, else-is_worse}

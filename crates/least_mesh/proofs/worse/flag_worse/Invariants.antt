@@ -1,7 +1,7 @@
 -- Below the counter the flags are right, at most one question was asked for each address, and none was taken back.
 use Rattle.std.proofs.Common.{◌+◌, ◌≤◌}
 use Rattle.mesh_defs.specs.State.{priority_seen}
-use Rattle.least_laws.specs.Least.{is_worse}
+use Rattle.mesh_laws.specs.Least.{is_worse}
 use Rattle.least_mesh.specs.Asked.{AreWantedFlagged}
 use Rattle.least_mesh.proofs.worse.flag_worse.Given as goal
 

@@ -2,9 +2,9 @@
 use Rattle.std.proofs.Common.{◌≡◌, ◌+◌, ◌*◌, ◌^◌, ◌≤◌, IfSome, ltb, ap, sym, ◌∙◌, subst, arith}
 use Rattle.std.proofs.Math.Pow.{pow_mono}
 use Rattle.mesh_defs.specs.State.{priority_seen}
-use Rattle.least_laws.specs.Sweep.{is_flagged}
-use Rattle.least_laws.proofs.SweepLemmas.{lt-splittable}
-use Rattle.least_laws.proofs.LeastLemmas.{worse-splittable, worse-parent}
+use Rattle.mesh_laws.specs.Sweep.{is_flagged}
+use Rattle.mesh_laws.proofs.SweepLemmas.{lt-splittable}
+use Rattle.mesh_laws.proofs.LeastLemmas.{worse-splittable, worse-parent}
 use Rattle.least_mesh.proofs.worse.is_worse.Goals as goal
 
 pub returns-then-not-flags-number-clause-value : goal.returns-then-not-flags-number-clause-value

@@ -1,10 +1,10 @@
 use Rattle.std.proofs.Common.{◌≡◌, ℕ, ◌≤◌, min, refl, sym, arith, ap, ◌∙◌, ⊎_elim}
 use Rattle.std.proofs.lemmas.Bool.{true≢false, cases_lt}
-use Rattle.edge_laws.specs.Edge.{mate_of}
-use Rattle.edge_laws.specs.Chief.{chief_of}
-use Rattle.edge_laws.specs.Slots.{address_at, has_children}
-use Rattle.edge_laws.proofs.SlotLemmas.{member_mate}
-use Rattle.edge_laws.proofs.ChiefLemmas.{chief_of-alone, chief_of-mates}
+use Rattle.mesh_laws.specs.Edge.{mate_of}
+use Rattle.mesh_laws.specs.Chief.{chief_of}
+use Rattle.mesh_laws.specs.Slots.{address_at, has_children}
+use Rattle.mesh_laws.proofs.SlotLemmas.{member_mate}
+use Rattle.mesh_laws.proofs.ChiefLemmas.{chief_of-alone, chief_of-mates}
 use Rattle.merge_queue.proofs.ChiefLemmas.{mate_live, chief_same}
 use Rattle.merge_queue.proofs.diamond.chief.Goals as goal
 use Rattle.merge_queue.proofs.diamond.chief.Goals.{In-Some, After-number}

@@ -5,8 +5,8 @@ use Rattle.mesh_defs.specs.declared.point.Corners.{Corners}
 use Rattle.mesh_defs.specs.Triangle.{corners_of}
 use Rattle.mesh_defs.specs.Thickness.{height_of}
 use Rattle.mesh_defs.specs.BoundingBox.{point, is_in_closed}
-use Rattle.deviation_laws.specs.PlaneHeight.{area_of, off_plane}
-use Rattle.tiling_laws.proofs.DescentLemmas.{IsAddress-level}
+use Rattle.fit_laws.specs.PlaneHeight.{area_of, off_plane}
+use Rattle.mesh_laws.proofs.DescentLemmas.{IsAddress-level}
 use Rattle.mesh_measure.specs.Most.{gap_of}
 use Rattle.mesh_measure.proofs.AreaLemmas.{IsInSquare-largest, product, area-some}
 use Rattle.mesh_measure.proofs.GapLemmas.{off_plane-quotient}

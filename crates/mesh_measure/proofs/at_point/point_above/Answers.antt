@@ -5,8 +5,8 @@ use Rattle.mesh_defs.specs.declared.point.Corners.{Corners}
 use Rattle.mesh_defs.specs.Triangle.{IsAddress, corners_of}
 use Rattle.mesh_defs.specs.BoundingBox.{point, points_of, is_in_closed, holds_point}
 use Rattle.mesh_defs.proofs.PointLemmas.{greatest-le}
-use Rattle.deviation_laws.specs.PlaneHeight.{off_plane}
-use Rattle.tiling_laws.proofs.DescentLemmas.{IsAddress-level}
+use Rattle.fit_laws.specs.PlaneHeight.{off_plane}
+use Rattle.mesh_laws.proofs.DescentLemmas.{IsAddress-level}
 use Rattle.mesh_measure.specs.Above.{IsAbove}
 use Rattle.mesh_measure.specs.Most.{IsInBounds}
 use Rattle.mesh_measure.proofs.BoxLemmas.{IsInBounds-held}

@@ -1,7 +1,8 @@
 -- The corners lie in the largest square, and the heights and the area are those of the definitions.
-use Rattle.std.proofs.Common.{◌∙◌, arith}
+use Rattle.std.proofs.Common.{◌-◌, ◌*◌, ◌∙◌, ap, arith}
 use Rattle.mesh_defs.specs.declared.point.Corners.{Corners}
-use Rattle.mesh_measure.proofs.AreaLemmas.{area-across}
+use Rattle.mesh_defs.specs.Triangle.{corners_of}
+use Rattle.mesh_measure.proofs.AreaLemmas.{area-across, area-power}
 use Rattle.bintree_laws.proofs.CornerLemmas.{IsWithin-largest}
 use Rattle.mesh_measure.proofs.facet.facet_of.Goals as goal
 
@@ -31,4 +32,9 @@ returns-clause-valid c =
       v1 = c.height-3.ensures.value;
       area = c.from.ensures ∙ c.area.ensures.value ∙ area-across d.apex d.v0 d.v1 c.of.result c.of.ensures.value;
       small = let less = c.area.ensures.small in let high = c.of.ensures.high in omega arith;
+      power = area-power c.args.grid.now.n c.args.t d c.from.result (2 * c.n-2.result - c.level.result) c.requires.level
+          (c.corners-corners.ensures.value ∙ ap (λ k. corners_of k c.args.t) c.n.ensures.value)
+          (c.from.ensures ∙ c.area.ensures.value ∙ area-across d.apex d.v0 d.v1 c.of.result c.of.ensures.value)
+          (let same = c.n-2.ensures.value in let level = c.level.ensures.value in omega arith);
+      few = let high = c.n.ensures.high in omega arith;
     }

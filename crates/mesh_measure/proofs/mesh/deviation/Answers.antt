@@ -4,9 +4,9 @@ use Rattle.std.proofs.lemmas.List.{take_all}
 use Rattle.mesh_defs.specs.HeightField.{HeightField}
 use Rattle.mesh_defs.specs.Triangle.{level_of, IsAddress}
 use Rattle.mesh_defs.specs.BoundingBox.{greatest}
-use Rattle.tiling_laws.proofs.DescentLemmas.{IsAddress-leaves_of}
-use Rattle.deviation_laws.specs.PlaneHeight.{offs_in, deviation_of}
-use Rattle.deviation_laws.proofs.ListLemmas.{deviation_of-more, deviation_of-none, deviation_of-le, level-leaf}
+use Rattle.mesh_laws.proofs.DescentLemmas.{IsAddress-leaves_of}
+use Rattle.fit_laws.specs.PlaneHeight.{offs_in, deviation_of}
+use Rattle.fit_laws.proofs.ListLemmas.{deviation_of-more, deviation_of-none, deviation_of-le, level-leaf}
 use Rattle.mesh_measure.proofs.mesh.deviation.Goals as goal
 
 pub loop-t-init : goal.loop-t-init

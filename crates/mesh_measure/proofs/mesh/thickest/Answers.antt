@@ -1,7 +1,7 @@
 -- A triangle more: the greatest of what was found and of its own thickness.
 use Rattle.std.proofs.Common.{◌∙◌, ◌<◌, length, max, sym, ap, ap₂, arith}
 use Rattle.mesh_defs.specs.Thickness.{thickness_of}
-use Rattle.deviation_laws.proofs.ListLemmas.{thickest_of-more, thickest_of-none, level-leaf}
+use Rattle.fit_laws.proofs.ListLemmas.{thickest_of-more, thickest_of-none, level-leaf}
 use Rattle.mesh_measure.proofs.mesh.thickest.Goals as goal
 
 pub loop-t-init : goal.loop-t-init

@@ -1,5 +1,5 @@
 use Rattle.std.proofs.Common.{◌≡◌, take}
-use Rattle.deviation_laws.specs.PlaneHeight.{thickest_of}
+use Rattle.fit_laws.specs.PlaneHeight.{thickest_of}
 use Rattle.mesh_measure.proofs.mesh.thickest.Given as goal
 
 abbrev pub invariant-loop-t : goal.invariant-loop-t

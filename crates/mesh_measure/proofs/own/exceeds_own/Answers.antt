@@ -1,7 +1,7 @@
 -- A gap beyond the tolerance of its point is an excess.
 use Rattle.std.proofs.Common.{ℕ, ◌≤◌, arith}
 use Rattle.std.proofs.lemmas.Bool.{lt-ltb, ltb-true}
-use Rattle.tiling_laws.proofs.DescentLemmas.{IsAddress-level}
+use Rattle.mesh_laws.proofs.DescentLemmas.{IsAddress-level}
 use Rattle.mesh_measure.proofs.ErrorLemmas.{bounds-in_grid, excess-iff}
 use Rattle.mesh_measure.proofs.own.exceeds_own.Goals as goal
 

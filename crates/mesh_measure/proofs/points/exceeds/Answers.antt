@@ -3,9 +3,9 @@ use Rattle.std.proofs.Common.{◌≡◌, ◌∙◌, ℕ, ◌*◌, ◌/◌, ◌^�
 use Rattle.std.proofs.lemmas.Bool.{lt-ltb, ltb-true}
 use Rattle.bintree_laws.specs.Corners.{IsWithin}
 use Rattle.bintree_laws.proofs.CornerLemmas.{IsWithin-corners_of}
-use Rattle.deviation_laws.specs.PlaneHeight.{area_of}
-use Rattle.tiling_laws.proofs.DescentLemmas.{IsAddress-level}
-use Rattle.mesh_measure.proofs.ErrorLemmas.{bounds-in_grid, error-above, error-iff}
+use Rattle.fit_laws.specs.PlaneHeight.{area_of}
+use Rattle.mesh_laws.proofs.DescentLemmas.{IsAddress-level}
+use Rattle.mesh_measure.proofs.ErrorLemmas.{bounds-in_grid, error-above, off-iff}
 use Rattle.mesh_measure.proofs.points.exceeds.Goals as goal
 
 pub middle_gap-requires-clause-corners_in_grid : goal.middle_gap-requires-clause-corners_in_grid
@@ -40,14 +40,11 @@ returns-then-middle_gap-limit c =
 pub returns-else-middle_gap-limit : goal.returns-else-middle_gap-limit
 returns-else-middle_gap-limit c =
     let n : ℕ = c.args.grid.now.n in
-    let facet = c.facet_of-facet.result in
     let low : 2 ≤ c.args.t = omega arith in
-    let limit : ℕ = facet.area * c.from.result / c.side.result in
-    let at : limit ≡ area_of facet.corners * c.args.tolerance / 2 ^ n = ap₂ (λ i j. i / j)
-    (ap₂ (λ i j. i * j) c.facet_of-facet.ensures.valid.area c.from.ensures)
-    (c.side.ensures.value ∙ ap (λ k. 2 ^ k) c.n.ensures.value) in
-    let iff = error-iff n c.args.grid.now.heights c.args.t c.args.tolerance limit c.most_until.result
-    facet.corners c.bounds_of.result
+    let iff = off-iff n c.args.grid.now.heights c.args.t c.args.tolerance c.most_until.result
+    c.facet_of-facet.result.corners c.bounds_of.result
     (IsAddress-level n c.args.t low c.requires.level) c.facet_of-facet.ensures.corners
-    c.bounds_of.ensures at c.most_until.ensures.most in
-    (λ is. iff.0 (ltb-true limit c.most_until.result is), λ above. lt-ltb limit c.most_until.result (iff.1 above))
+    c.bounds_of.ensures c.most_until.ensures in (
+      λ is. iff.0 (ltb-true c.args.tolerance c.most_until.result is),
+      λ above. lt-ltb c.args.tolerance c.most_until.result (iff.1 above),
+    )

@@ -7,11 +7,12 @@ use Rattle.mesh_defs.specs.HeightField.{HeightField}
 use Rattle.mesh_defs.specs.Tiling.{IsConforming}
 use Rattle.mesh_defs.specs.ClosedSet.{leaves_of, among}
 use Rattle.bintree_laws.proofs.LevelLemmas.{level-le}
-use Rattle.tiling_laws.specs.Ancestors.{ancestors_of}
+use Rattle.mesh_laws.specs.Ancestors.{ancestors_of}
 use Rattle.fit_laws.specs.Error.{error_of}
-use Rattle.required_laws.specs.Required.{IsLeastMeshWith}
-use Rattle.tile_laws.specs.Tile.{IsTile}
-use Rattle.mosaic_rounds.specs.Rounds.{splits, IsKept}
+use Rattle.fit_laws.specs.Required.{IsLeastMeshWith}
+use Rattle.mosaic_laws.specs.Tile.{IsTile}
+use Rattle.mosaic_rounds.specs.Rounds.{splits}
+use Rattle.mosaic_rounds.specs.BorderPoints.{IsKept}
 use Rattle.mosaic_fit.proofs.UnderWayLemmas.{under-way-step, not-shrunk, entry-of, from_ok}
 use Rattle.mosaic_fit.proofs.fit.fit_tile.Goals as goal
 

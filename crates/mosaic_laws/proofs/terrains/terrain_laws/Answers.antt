@@ -1,5 +1,5 @@
 -- Each clause is a lemma.
-use Rattle.required_laws.proofs.RequiredLemmas.{mesh-with}
+use Rattle.fit_laws.proofs.RequiredLemmas.{mesh-with}
 use Rattle.mosaic_laws.specs.Rounds.{tile_error}
 use Rattle.mosaic_laws.specs.Terrain.{terrain_error}
 use Rattle.mosaic_laws.proofs.TerrainLemmas.{terrain-inside, terrain-beyond, terrain-exact, terrain-mesh}

@@ -1,12 +1,20 @@
 -- Side by side.
 use Rattle.std.proofs.Common.{◌≡◌, ℕ, ◌+◌, ◌*◌, ◌^◌, ◌<◌, ◌≤◌, length, take, set, refl, sym, ◌∙◌}
 use Rattle.std.proofs.Common.{arith, inl, ⊎_elim, eqb, eq-eqb, ap, pow-add, pow_pos, length-set}
+use Rattle.std.proofs.Common.{nat_eq, subst, [], ◌∷◌}
+use Rattle.std.proofs.Math.Seq.{take-suc-set}
+use Rattle.std.specs.List.{IsDistinct}
 use Rattle.std.proofs.lemmas.Bool.{eqb-true, cases_lt}
 use Rattle.std.proofs.lemmas.Nat.{mul-le}
 use Rattle.mesh_defs.specs.ClosedSet.{among}
 use Rattle.mosaic_rounds.specs.Across.{IsAcross}
-use Rattle.mosaic_rounds.proofs.AskedLemmas.{among-more}
+use Rattle.mosaic_rounds.proofs.AskedLemmas.{among-more, asked-more, asked-apart}
 use Rattle.mosaic_rounds.proofs.asked.tell.Goals as goal
+
+-- a single entry
+one-distinct : IsDistinct nat_eq (2 ∷ [])
+unfolding IsDistinct
+one-distinct = (tt, tt)
 
 pub loop-side-init : goal.loop-side-init
 loop-side-init c =
@@ -25,6 +33,23 @@ loop-side-init c =
             let none = p.1 in absurd (omega arith))
             h),
       ),
+      subst (IsDistinct nat_eq) (sym (take-suc-set c.args.list.now 0 2 (omega arith))) one-distinct,
+    )
+
+pub loop-side-preserved : goal.loop-side-preserved
+loop-side-preserved c =
+    let old = c.loop-side.invariant in
+    let few = old.2 in
+    let some = old.1 in
+    let within = c.tell_across-count.ensures.within in (
+      c.tell_across-count.ensures.room ∙ old.0,
+      omega arith,
+      omega arith,
+      asked-more c.args.shape c.args.words.now c.args.t c.loop-side.side
+          (among (take c.loop-side.count c.loop-side.list))
+          (among (take c.tell_across-count.result c.tell_across-count.new.list)) old.3 c.tell_across-count.ensures.just,
+      c.tell_across-count.ensures.distinct
+          (λ a h is. asked-apart c.args.shape c.args.words.now c.args.t c.loop-side.side a ((old.3 a).0 h) is) old.4,
     )
 
 -- the list has room for all sides

@@ -8,6 +8,7 @@ use Rattle.mosaic_rounds.specs.Border.{place_of}
 use Rattle.mosaic_rounds.specs.Across.{IsAcross}
 use Rattle.mosaic_rounds.proofs.ShapeLemmas.{side-places}
 use Rattle.mosaic_rounds.proofs.AskedLemmas.{IsToldTo, across-place, among-more, told-set, told-unset, told-all}
+use Rattle.mosaic_rounds.proofs.AskedLemmas.{IsApart, across-from, apart-more}
 use Rattle.mosaic_rounds.proofs.asked.tell_across.Goals as goal
 use Rattle.mosaic_rounds.proofs.asked.tell_across.Goals.{then-is_set, else-is_set}
 
@@ -25,6 +26,7 @@ loop-place-init c = (
         let none = p.1 in absurd (omega arith))
         h),
   ),
+  λ apart distinct. distinct,
 )
 
 pub border_tri-requires-clause-place : goal.border_tri-requires-clause-place
@@ -80,7 +82,23 @@ loop-place-preserved c =
           (subst (λ j. IsToldTo c.args.shape c.args.words.now c.args.t c.args.side
           (among (take c.args.count c.args.list.now)) (c.loop-place.place + 1)
           (among (take j (set c.loop-place.list c.loop-place.next w.border_tri.result)))) (sym one) told) in
-          (c.if-is_set.auto.list ∙ length_is, omega arith, omega arith, told')
+          let is = across-from c.args.shape c.args.words.now c.args.t c.args.side c.in-Some.u c.in-Some.ensures.some.0
+          c.in-Some.ensures.some.1 w.border_tri.result c.loop-place.place w.border_tri.ensures.big
+          w.border_tri.ensures.border w.border_tri.ensures.side w.border_tri.ensures.place (omega arith)
+          (sym bit ∙ sym c.is_set.ensures.value ∙ w.if-is_set.true) in
+          let apart : IsApart c.args.shape c.args.words.now c.args.t c.args.side (take c.args.count c.args.list.now)
+          (take (suc c.loop-place.next) (set c.loop-place.list c.loop-place.next w.border_tri.result)) =
+          apart-more c.args.shape c.args.words.now c.args.t c.args.side c.loop-place.place c.loop-place.next
+          w.border_tri.result (take c.args.count c.args.list.now) c.loop-place.list (omega arith) old.3 is
+          w.border_tri.ensures.place old.4 in
+          let apart' : IsApart c.args.shape c.args.words.now c.args.t c.args.side
+          (take c.args.count c.args.list.now) (take c.if-is_set.next c.if-is_set.list) =
+          subst (λ (xs : List ℕ). IsApart c.args.shape c.args.words.now c.args.t c.args.side
+          (take c.args.count c.args.list.now) (take c.if-is_set.next xs)) (sym w.list-is)
+          (subst (λ j. IsApart c.args.shape c.args.words.now c.args.t c.args.side
+          (take c.args.count c.args.list.now)
+          (take j (set c.loop-place.list c.loop-place.next w.border_tri.result))) (sym one) apart) in
+          (c.if-is_set.auto.list ∙ length_is, omega arith, omega arith, told', apart')
       | else-is_set w ↦
           let same = w.next-is in
           let told : IsToldTo c.args.shape c.args.words.now c.args.t c.args.side
@@ -99,7 +117,13 @@ loop-place-preserved c =
           (subst (λ j. IsToldTo c.args.shape c.args.words.now c.args.t c.args.side
           (among (take c.args.count c.args.list.now)) (c.loop-place.place + 1)
           (among (take j c.loop-place.list))) (sym same) told) in
-          (c.if-is_set.auto.list ∙ length_is, omega arith, omega arith, told')
+          let apart : IsApart c.args.shape c.args.words.now c.args.t c.args.side
+          (take c.args.count c.args.list.now) (take c.if-is_set.next c.if-is_set.list) =
+          subst (λ (xs : List ℕ). IsApart c.args.shape c.args.words.now c.args.t c.args.side
+          (take c.args.count c.args.list.now) (take c.if-is_set.next xs)) (sym w.list-is)
+          (subst (λ j. IsApart c.args.shape c.args.words.now c.args.t c.args.side
+          (take c.args.count c.args.list.now) (take j c.loop-place.list)) (sym same) old.4) in
+          (c.if-is_set.auto.list ∙ length_is, omega arith, omega arith, told', apart)
     ]
 
 pub returns-clause-just : goal.returns-clause-just

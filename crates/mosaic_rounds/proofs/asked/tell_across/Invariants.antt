@@ -3,6 +3,7 @@ use Rattle.std.proofs.Common.{◌≡◌, ◌⊎◌, ◌↔◌, ℕ, ◌+◌, ◌
 use Rattle.mesh_defs.specs.ClosedSet.{among}
 use Rattle.mosaic_rounds.specs.Across.{IsAcross}
 use Rattle.mosaic_rounds.specs.Border.{place_of}
+use Rattle.mosaic_rounds.proofs.AskedLemmas.{IsApart}
 use Rattle.mosaic_rounds.proofs.asked.tell_across.Given as goal
 
 abbrev pub invariant-loop-place : goal.invariant-loop-place
@@ -11,3 +12,4 @@ invariant-loop-place l =
     × ((a : ℕ) → IsTrue (among (take l.next l.list) a)
     ↔ (IsTrue (among (take l.fn.count l.initial.list) a)
     ⊎ (IsAcross l.fn.shape l.fn.words l.fn.t l.fn.side a × (place_of a < l.place))))
+    × (IsApart l.fn.shape l.fn.words l.fn.t l.fn.side (take l.fn.count l.initial.list) (take l.next l.list))

@@ -1,6 +1,7 @@
 use Rattle.std.proofs.Common.{◌+◌, ◌*◌, ◌<◌, ◌≤◌, ◌∷◌, ◌++◌, length, take, flat_map, get_or, refl, sym, ◌∙◌, ap, arith}
 use Rattle.mesh_defs.specs.HeightField.{side_of}
 use Rattle.mesh_defs.specs.MeshText.{vertices_of}
+use Rattle.obj_write.specs.LineView.{mesh_seen}
 use Rattle.obj_write.specs.VertexMarks.{place_point}
 use Rattle.obj_write.specs.Arrays.{position_of, positions_of}
 use Rattle.obj_write.proofs.NumberLemmas.{length-numbers}
@@ -10,7 +11,7 @@ use Rattle.obj_write.proofs.arrays.write_all_positions.Goals as goal
 
 pub loop-k-init : goal.loop-k-init
 loop-k-init c =
-    let v = c.args.view.now in
+    let v = mesh_seen c.args.view.now in
     let n = v.wedges.now.n in
     let first = c.first_from-k in
     let long = ap length c.requires.view.vertex_numbers ∙ length-numbers n v.leaves.now in
@@ -28,13 +29,13 @@ loop-k-init c =
 
 pub write_position-requires-clause-below : goal.write_position-requires-clause-below
 write_position-requires-clause-below c =
-    let v = c.args.view.now in
+    let v = mesh_seen c.args.view.now in
     let long = ap length c.requires.view.vertex_numbers ∙ length-numbers v.wedges.now.n v.leaves.now in
     let test = c.loop-k-test.true in omega arith
 
 pub write_position-requires-clause-room : goal.write_position-requires-clause-room
 write_position-requires-clause-room c =
-    let v = c.args.view.now in
+    let v = mesh_seen c.args.view.now in
     let n = v.wedges.now.n in
     let long = ap length c.requires.view.vertex_numbers ∙ length-numbers n v.leaves.now in
     let there : c.loop-k.k < length v.numbers.now = let test = c.loop-k-test.true in omega arith in
@@ -47,7 +48,7 @@ write_position-requires-clause-room c =
 
 pub loop-k-preserved : goal.loop-k-preserved
 loop-k-preserved c =
-    let v = c.args.view.now in
+    let v = mesh_seen c.args.view.now in
     let n = v.wedges.now.n in
     let at = c.loop-k.at in let was = c.loop-k.out in
     let next = c.first_from-k-in-loop-k in
@@ -80,7 +81,7 @@ loop-k-preserved c =
 
 pub returns : goal.returns
 returns c =
-    let v = c.args.view.now in
+    let v = mesh_seen c.args.view.now in
     let n = v.wedges.now.n in
     let long = ap length c.requires.view.vertex_numbers ∙ length-numbers n v.leaves.now in
     let beyond : side_of n * side_of n ≤ c.loop-k.k = let test = c.loop-k-test.false in omega arith in

@@ -7,7 +7,7 @@ use Rattle.obj_write.proofs.arrays.write_all_positions.Given as goal
 
 abbrev pub invariant-loop-k : goal.invariant-loop-k
 invariant-loop-k l =
-    let grid = l.view.wedges.now in let triangles = l.view.leaves.now in
+    let grid = l.view.grid.now in let triangles = l.view.leaves.now in
     record {
       within : l.k ≤ length l.view.numbers.now;
       number : l.k < length l.view.numbers.now → get_or l.view.numbers.now l.k 0 ≡ 0 → ⊥;

@@ -1,8 +1,9 @@
 use Rattle.std.proofs.Common.{rules, ◌≡◌, ◌<◌, ◌≤◌, ◌*◌, ◌/◌, ◌++◌, ◌∙◌, sym, ap, subst, arith, get_or, true, refl}
 use Rattle.std.proofs.Common.{⊎_elim}
 use Rattle.std.proofs.lemmas.Bool.{cases_lt, both_ways}
-use Rattle.mesh_defs.specs.HeightField.{HeightField, side_of}
+use Rattle.mesh_defs.specs.HeightField.{side_of}
 use Rattle.mesh_defs.specs.Triangle.{corners_of}
+use Rattle.obj_write.specs.LineView.{mesh_seen}
 use Rattle.obj_write.specs.Faces.{IsFace, IsCornerAt}
 use Rattle.obj_write.proofs.LineLemmas.{places, fields-face}
 use Rattle.obj_write.proofs.FaceLemmas.{child-apex}
@@ -10,13 +11,13 @@ use Rattle.obj_write.proofs.lines.put_face.Goals as goal
 
 pub half_face-half-requires-clause-places : goal.half_face-half-requires-clause-places
 half_face-half-requires-clause-places g c =
-    let same = c.n-n.ensures.value ∙ ap (λ (g : HeightField). g.n) c.grid.ensures.value in
-    places c.args.view.now c.requires.view ∙ sym (ap (λ n. side_of n * side_of n) same)
+    let same = c.n-n.ensures.value in
+    places (mesh_seen c.args.view.now) c.requires.view ∙ sym (ap (λ n. side_of n * side_of n) same)
 
 pub returns-in_default-clause-text : goal.returns-in_default-clause-text
 returns-in_default-clause-text g c =
-    let v = c.args.view.now in
-    let same = c.n-n.ensures.value ∙ ap (λ (g : HeightField). g.n) c.grid.ensures.value in
+    let v = mesh_seen c.args.view.now in
+    let same = c.n-n.ensures.value in
     let half = c.half_face-half.result in
     let face : IsFace v.wedges.now.n v.numbers.now half =
     subst (λ n. IsFace n v.numbers.now half) same c.half_face-half.ensures.face in
@@ -30,8 +31,8 @@ returns-in_default-clause-text g c =
 
 pub make_known-requires-clause-places : goal.make_known-requires-clause-places
 make_known-requires-clause-places g c =
-    let same = c.n-n.ensures.value ∙ ap (λ (g : HeightField). g.n) c.grid.ensures.value in
-    places c.args.view.now c.requires.view ∙ sym (ap (λ n. side_of n * side_of n) same)
+    let same = c.n-n.ensures.value in
+    places (mesh_seen c.args.view.now) c.requires.view ∙ sym (ap (λ n. side_of n * side_of n) same)
 
 pub push_line-requires-2 : goal.push_line-requires-2
 push_line-requires-2 g c =
@@ -45,10 +46,10 @@ push_line-requires-2 g c =
 
 pub returns-clause-text : goal.returns-clause-text
 returns-clause-text g c =
-    let v = c.args.view.now in
+    let v = mesh_seen c.args.view.now in
     let n = v.wedges.now.n in
     let leaf = c.args.leaf in
-    let same = c.n-n.ensures.value ∙ ap (λ (g : HeightField). g.n) c.grid.ensures.value in
+    let same = c.n-n.ensures.value in
     let parent = get_or c.make_known.new.faces c.level.result c.index-faces-level.result in
     let found = c.make_known.ensures.known c.level.result c.index-faces-level.result
     (omega (arith, c.level.ensures.high, c.make_known.ensures.count)) in

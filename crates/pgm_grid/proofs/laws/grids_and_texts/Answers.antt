@@ -1,4 +1,4 @@
-use Rattle.pgm_header.specs.declared.fault.HeaderFault.TheVariants as header
+use Rattle.pgm_grid.specs.declared.header_fault.HeaderFault.TheVariants as header
 use Rattle.pgm_grid.proofs.FileLemmas.{header-law, law-texts, law-grids, law-headers, law-others, law-truncated}
 use Rattle.pgm_grid.proofs.FileLemmas.{law-trailing, law-above, law-bad_sample, law-too_long}
 use Rattle.pgm_grid.proofs.laws.grids_and_texts.Goals as goal

@@ -4,7 +4,7 @@ use Rattle.std.proofs.Math.Seq.{take-length}
 use Rattle.std.proofs.lemmas.List.{length-take-le}
 use Rattle.std.proofs.lemmas.Result.{IfOk-weaker, IfErr-weaker}
 use Rattle.text_laws.proofs.ListLemmas.{cut-at}
-use Rattle.pgm_header.specs.Reading as reading
+use Rattle.pgm_grid.specs.HeaderReading as reading
 use Rattle.pgm_grid.specs.Stage.{progress_of}
 use Rattle.pgm_grid.proofs.ReaderLemmas.{HasTaken, header-takes, header-stops, header-ends}
 use Rattle.pgm_grid.proofs.HeaderEndLemmas.{header-full}

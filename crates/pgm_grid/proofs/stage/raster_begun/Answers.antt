@@ -1,6 +1,6 @@
 use Rattle.std.proofs.Common.{◌≡◌, ℕ, List}
 use Rattle.std.proofs.lemmas.Result.{IfOk-weaker, IfErr-weaker}
-use Rattle.pgm_raster.specs.Progress as samples
+use Rattle.pgm_grid.specs.RasterProgress as samples
 use Rattle.pgm_grid.specs.Progress.{samples_at}
 use Rattle.pgm_grid.specs.Stage.{progress_of}
 use Rattle.pgm_grid.proofs.ReaderLemmas.{begins-raster, begins-refused, begun-means}

@@ -3,9 +3,9 @@ use Rattle.std.proofs.Common.{◌≡◌, ℕ, ◌+◌, ◌<◌, ◌≤◌, ◌^�
 use Rattle.mesh_defs.specs.ClosedSet.{leaves_of, among}
 use Rattle.mesh_defs.specs.Greedy.{with_triangle}
 use Rattle.mesh_defs.specs.GridSet.{IsGridSet, IsForced, IsGain}
-use Rattle.closure_laws.proofs.SizeLemmas.{length-grown, length-leaves_of}
-use Rattle.closure_laws.proofs.MemberLemmas.{ascending_unique}
-use Rattle.closure_laws.proofs.ClosureLemmas.{IsLeastClosed-unique}
+use Rattle.mesh_laws.proofs.SizeLemmas.{length-grown, length-leaves_of}
+use Rattle.mesh_laws.proofs.MemberLemmas.{ascending_unique}
+use Rattle.mesh_laws.proofs.ClosureLemmas.{IsLeastClosed-unique}
 use Rattle.plain_mesh.specs.Stop.{IsOver}
 use Rattle.plain_mesh.proofs.refining.admit.Goals as goal
 

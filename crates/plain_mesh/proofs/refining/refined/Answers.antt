@@ -3,7 +3,7 @@ use Rattle.std.proofs.Common.{◌≡◌, ℕ, ◌≤◌, List, length, Some, fal
 use Rattle.std.proofs.lemmas.Option.{MatchOption-at_some}
 use Rattle.mesh_defs.specs.ClosedSet.{leaves_of, among}
 use Rattle.mesh_defs.specs.GridSet.{GridSet}
-use Rattle.closure_laws.proofs.ClosureLemmas.{leaves_of-none}
+use Rattle.mesh_laws.proofs.ClosureLemmas.{leaves_of-none}
 use Rattle.plain_mesh.specs.Ranks.{ranked_triangles}
 use Rattle.plain_mesh.specs.Stop.{IsOver, IsStop}
 use Rattle.plain_mesh.proofs.PrefixLemmas.{closure-nothing, closure-forced, IsStop-over}

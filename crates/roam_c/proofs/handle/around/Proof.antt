@@ -40,8 +40,9 @@ use Rattle.std_alloc.specs.contracts.boxed.Box as boxed
 use Rattle.std_alloc.specs.contracts.boxed.Box.into_raw as callee
 use Rattle.std_alloc.proofs.boxed.Box.into_raw.Met.{met}
 use Rattle.roam_c.proofs.Destruct++none.drop.Symbol.{glues}
-use Rattle.frame_loop.specs.contracts.engine.Engine as engine
-use Rattle.roam_c.specs.Held.{Kept, token, held}
+use Rattle.roam_c.specs.contracts.kept.Kept as kept
+use Rattle.roam_c.specs.declared.kept.Kept.{Kept}
+use Rattle.roam_c.specs.Held.{token, held}
 use Rattle.roam_c.specs.declared.mark.TheConstants.{MARK}
 use Rattle.roam_c.proofs.Calls.{R, L, Z, LZ, drops, no_drop, box_laws, glue}
 use Rattle.roam_c.proofs.HandleValues.{two, big_lit, handle_good, handle_in}
@@ -57,14 +58,14 @@ around_spec {M = M} 𝓤 𝓛 𝓜 𝓡 wired =
     let En = ended in
     let c = clauses 𝓛 𝓜.mem 𝓡.returns in
     let fn = code.function in
-    let B : RattleType = boxed.the_row engine.the_row heap.the_row ghosts in
+    let B : RattleType = boxed.the_row kept.the_row heap.the_row ghosts in
     let known = met 𝓤 𝓛 𝓜 𝓡 (code.calls-std_alloc::boxed::Box::into_raw 𝓡.env wired) R Z L LZ ghosts dict no_drop drops
     (allocator.passed 𝓡.env (code.calls-std_heap::GlobalAllocator::allocate 𝓡.env wired)
     (code.calls-std_heap::GlobalAllocator::deallocate 𝓡.env wired)
     (code.calls-std_heap::GlobalAllocator::grow 𝓡.env wired)
     (code.calls-std_heap::GlobalAllocator::shrink 𝓡.env wired) M 𝓤 𝓛 𝓜 𝓡)
     (glues 𝓡.env (code.calls-roam_c::Destruct++none::drop 𝓡.env wired) Z LZ M 𝓤 𝓛 𝓜 𝓡)
-    (glue 𝓤 𝓛 𝓜 𝓡 (code.calls-roam_c::frame_loop++engine++Engine+Destruct::drop 𝓡.env wired)) in
+    (glue 𝓤 𝓛 𝓜 𝓡 (code.calls-roam_c::roam_c++kept++Kept+Destruct::drop 𝓡.env wired)) in
     let hs : Stays En.signature.params En.kept = (stay_dropped (plain (λ _. B)) yes, tt) in
     proved_at 𝓛 En hs c 𝓜 𝓡 (Goes-blank 𝓛 0 (plain (λ _. B)) yes (λ κs x f. tt), tt) #self fn
     (code.unfolded 𝓤 H 𝓜 𝓡 wired) (λ z are.

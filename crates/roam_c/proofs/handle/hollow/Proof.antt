@@ -21,7 +21,7 @@ use Rattle.core.proofs.atomic.Steps.{Ptr-Good}
 use Rattle.core.specs.declared.option.Option.{Option}
 use Rattle.core.specs.declared.option.Option.TheVariants.{None}
 use Rattle.std.proofs.raw_atomic.Walks.{proved_at, leaves}
-use Rattle.roam_c.specs.Held.{Kept}
+use Rattle.roam_c.specs.declared.kept.Kept.{Kept}
 use Rattle.roam_c.proofs.HandleValues.{two, handle_good, handle_in}
 use Rattle.roam_c.specs.contracts.handle.hollow.{ended, clauses}
 use Rattle.roam_c.specs.contracts.handle.hollow.Key.{name as #self}

@@ -44,7 +44,7 @@ use Rattle.std_alloc.proofs.ResultValues.{and_tt}
 use Rattle.std_alloc.specs.contracts.boxed.Box as boxed
 use Rattle.std_alloc.specs.contracts.boxed.Box.from_raw as callee
 use Rattle.std_alloc.proofs.boxed.Box.from_raw.Met.{met}
-use Rattle.frame_loop.specs.contracts.engine.Engine as engine
+use Rattle.roam_c.specs.contracts.kept.Kept as kept
 use Rattle.roam_c.proofs.Destruct++none.drop.Symbol.{glues}
 use Rattle.roam_c.proofs.Calls.{R, L, Z, LZ, no_drop, box_laws}
 use Rattle.roam_c.proofs.HandleValues.{two, big_lit, word-Good, handle_good, handle_out, either_held}
@@ -63,7 +63,7 @@ open_spec {M = M} 𝓤 𝓛 𝓜 𝓡 wired =
     let En = ended in
     let c = clauses 𝓛 𝓜.mem 𝓡.returns in
     let fn = code.function in
-    let B : RattleType = boxed.the_row engine.the_row heap.the_row ghosts in
+    let B : RattleType = boxed.the_row kept.the_row heap.the_row ghosts in
     let known = met 𝓤 𝓛 𝓜 𝓡 (code.calls-std_alloc::boxed::Box::from_raw 𝓡.env wired) R Z L LZ ghosts dict no_drop
     (allocator.passed 𝓡.env (code.calls-std_heap::GlobalAllocator::allocate 𝓡.env wired)
     (code.calls-std_heap::GlobalAllocator::deallocate 𝓡.env wired)

@@ -4,8 +4,8 @@ use Rattle.mesh_defs.specs.HeightField.{HeightField}
 use Rattle.mesh_defs.specs.Priority.{priority_of}
 use Rattle.mesh_defs.specs.View.{ViewPlane}
 use Rattle.view_priority.specs.Camera.{view_from}
-use Rattle.least_laws.specs.Sweep.{is_flagged}
-use Rattle.least_laws.proofs.FlagLemmas.{flagged-unset}
+use Rattle.mesh_laws.specs.Sweep.{is_flagged}
+use Rattle.mesh_laws.proofs.FlagLemmas.{flagged-unset}
 use Rattle.certificate_laws.specs.Certificate.{IsSound, AreReasons, AreAllReasons}
 use Rattle.cert_text.specs.Certificate.{Certificate}
 use Rattle.roam_certify.proofs.CertLemmas.{sound-made}

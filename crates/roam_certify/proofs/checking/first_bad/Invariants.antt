@@ -1,6 +1,6 @@
 -- The reasons so far are good, and the flags are those of their triangles.
 use Rattle.std.proofs.Common.{◌≡◌, ℕ, [], length, take}
-use Rattle.least_laws.specs.Sweep.{is_flagged}
+use Rattle.mesh_laws.specs.Sweep.{is_flagged}
 use Rattle.certificate_laws.specs.Certificate.{named_in, AreReasons}
 use Rattle.mesh_defs.specs.State.{priority_seen}
 use Rattle.roam_certify.proofs.checking.first_bad.Given as goal

@@ -1,7 +1,7 @@
 -- Each test is the cause of its kind.
 use Rattle.std.proofs.Common.{◌≡◌, ◌*◌, ◌≤◌, ◌↔◌, inl, inr, false, IsTrue, Some, refl, sym, ◌∙◌, subst, ⊎_elim, leb}
 use Rattle.std.proofs.lemmas.Bool.{leb-true, le-leb, both_ways, false≢true}
-use Rattle.least_laws.specs.Sweep.{is_flagged}
+use Rattle.mesh_laws.specs.Sweep.{is_flagged}
 use Rattle.certificate_laws.specs.Certificate.{IsReason}
 use Rattle.mesh_defs.specs.State.{priority_seen}
 use Rattle.roam_certify.proofs.CheckingLemmas.{reason-old, reason-want, reason-parent, reason-mate, reason-no_mate}

@@ -1,7 +1,7 @@
 -- One entry a turn.
 use Rattle.std.proofs.Common.{inl, inr, refl, sym, ◌∙◌, arith}
 use Rattle.std.proofs.lemmas.Bool.{false≢true}
-use Rattle.least_laws.specs.Sweep.{is_flagged}
+use Rattle.mesh_laws.specs.Sweep.{is_flagged}
 use Rattle.certificate_laws.proofs.DistinctLemmas.{distinct-none}
 use Rattle.roam_certify.proofs.ClimbLemmas.{seen-next, leaves-next, leaves-bad}
 use Rattle.roam_certify.proofs.conforming.are_leaves.Goals.{then-is_set-via-then-is_set}

@@ -1,7 +1,7 @@
 -- The first entries are leaves, and seen.
 use Rattle.std.proofs.Common.{◌≡◌, ℕ, length, take}
 use Rattle.mesh_defs.specs.ClosedSet.{among}
-use Rattle.least_laws.specs.Sweep.{is_flagged}
+use Rattle.mesh_laws.specs.Sweep.{is_flagged}
 use Rattle.roam_certify.specs.Climb.{AreLeavesOf}
 use Rattle.roam_certify.proofs.conforming.are_leaves.Given as goal
 

@@ -1,7 +1,7 @@
 -- One visit a turn.
 use Rattle.std.proofs.Common.{◌≡◌, ◌-◌, IfSome, refl, ◌∙◌, subst, arith}
-use Rattle.least_laws.specs.Sweep.{is_flagged, IsParentMarked}
-use Rattle.least_laws.proofs.SweepLemmas.{splittable-lt}
+use Rattle.mesh_laws.specs.Sweep.{is_flagged, IsParentMarked}
+use Rattle.mesh_laws.proofs.SweepLemmas.{splittable-lt}
 use Rattle.roam_certify.specs.Climb.{IsClimbed}
 use Rattle.roam_certify.proofs.ClimbLemmas.{climbed-first, climbed-mark, climbed-skip}
 use Rattle.roam_certify.proofs.conforming.climb.Goals as goal

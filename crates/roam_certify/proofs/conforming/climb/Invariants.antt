@@ -1,7 +1,7 @@
 -- The addresses from the counter up were visited.
 use Rattle.std.proofs.Common.{◌≡◌, ℕ, List, All, length}
 use Rattle.mesh_defs.specs.Triangle.{IsAddress}
-use Rattle.least_laws.specs.Sweep.{is_flagged}
+use Rattle.mesh_laws.specs.Sweep.{is_flagged}
 use Rattle.roam_certify.specs.Climb.{AreParentsFlagged, IsClimbed}
 use Rattle.roam_certify.proofs.conforming.climb.Given as goal
 

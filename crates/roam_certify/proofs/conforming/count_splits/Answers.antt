@@ -1,7 +1,7 @@
 -- One address a turn.
 use Rattle.std.proofs.Common.{◌≡◌, ◌+◌, IfSome, IsTrue, sym, subst}
 use Rattle.mesh_defs.specs.Triangle.{IsSplittable, IsMate}
-use Rattle.least_laws.specs.Sweep.{is_flagged}
+use Rattle.mesh_laws.specs.Sweep.{is_flagged}
 use Rattle.roam_certify.specs.Climb.{IsCountedBelow}
 use Rattle.roam_certify.proofs.ClimbLemmas.{counted-first, counted-more, counted-skip}
 use Rattle.roam_certify.proofs.conforming.count_splits.Goals.{then-flags-number+else-not-has_mate, else-flags-number}

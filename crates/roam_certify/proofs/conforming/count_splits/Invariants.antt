@@ -1,5 +1,5 @@
 -- What is below the counter was counted.
-use Rattle.least_laws.specs.Sweep.{is_flagged}
+use Rattle.mesh_laws.specs.Sweep.{is_flagged}
 use Rattle.roam_certify.specs.Climb.{IsCountedBelow}
 use Rattle.roam_certify.proofs.conforming.count_splits.Given as goal
 

@@ -4,7 +4,7 @@ use Rattle.std.proofs.lemmas.List.Elements.{All-contains}
 use Rattle.mesh_defs.specs.Triangle.{IsAddress}
 use Rattle.bintree_laws.proofs.LevelLemmas.{pow_after}
 use Rattle.mesh_defs.proofs.ListLemmas.{Contains-in}
-use Rattle.least_laws.specs.Sweep.{is_flagged}
+use Rattle.mesh_laws.specs.Sweep.{is_flagged}
 use Rattle.roam_certify.proofs.ClimbLemmas.{entry-in, entered-step}
 use Rattle.roam_certify.proofs.conforming.flag_parents.Goals as goal
 

@@ -1,6 +1,6 @@
 -- The parents of the first entries are flagged.
 use Rattle.std.proofs.Common.{◌≡◌, length, take}
-use Rattle.least_laws.specs.Sweep.{is_flagged}
+use Rattle.mesh_laws.specs.Sweep.{is_flagged}
 use Rattle.roam_certify.specs.Climb.{AreParentsFlagged}
 use Rattle.roam_certify.proofs.conforming.flag_parents.Given as goal
 

@@ -1,9 +1,9 @@
 -- The flags are the ancestors; each part of the test is what a conforming list has, and all parts together are enough.
 use Rattle.std.proofs.Common.{◌≡◌, ℕ, ◌+◌, ◌*◌, ◌^◌, length, arith, eq-eqb}
 use Rattle.std.proofs.lemmas.Bool.{both_ways, false≢true, eqb-true}
-use Rattle.tiling_laws.specs.Ancestors.{ancestors_of}
-use Rattle.least_laws.specs.Sweep.{is_flagged}
-use Rattle.least_laws.proofs.SweepLemmas.{splittable-lt}
+use Rattle.mesh_laws.specs.Ancestors.{ancestors_of}
+use Rattle.mesh_laws.specs.Sweep.{is_flagged}
+use Rattle.mesh_laws.proofs.SweepLemmas.{splittable-lt}
 use Rattle.certificate_laws.proofs.CutLemmas.{ancestor-splittable}
 use Rattle.roam_certify.proofs.ClimbLemmas.{climbed-last, conforming-counted, conforming-mates, conforming-leaves}
 use Rattle.roam_certify.proofs.ClimbLemmas.{conforming-fits}

@@ -1,6 +1,6 @@
 -- A queue that was gone through has all reasons, or it is full.
 use Rattle.std.proofs.Common.{◌+◌, ◌-◌, ◌*◌, ◌^◌, inl, inr, ⊎_elim, arith}
-use Rattle.least_laws.proofs.SweepLemmas.{splittable-lt}
+use Rattle.mesh_laws.proofs.SweepLemmas.{splittable-lt}
 use Rattle.mesh_defs.specs.State.{priority_seen}
 use Rattle.roam_certify.proofs.MakingLemmas.{all-queue, wanted-grown}
 use Rattle.roam_certify.proofs.making.make_reasons.Goals as goal

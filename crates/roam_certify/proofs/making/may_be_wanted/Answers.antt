@@ -1,7 +1,7 @@
 -- The parent is half of the address, where there is one.
 use Rattle.std.proofs.Common.{◌≡◌, ◌≤◌, ◌/◌, sym, ◌∙◌, ap, ⊎_elim}
 use Rattle.std.proofs.lemmas.Bool.{cases_lt, false≢true}
-use Rattle.least_laws.specs.Sweep.{is_flagged}
+use Rattle.mesh_laws.specs.Sweep.{is_flagged}
 use Rattle.roam_certify.proofs.making.may_be_wanted.Goals as goal
 
 pub returns-in-Some : goal.returns-in-Some

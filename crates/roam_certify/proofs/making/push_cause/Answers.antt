@@ -1,6 +1,6 @@
 -- The cause is listed, unless the list is full.
 use Rattle.std.proofs.Common.{IfSome, IsTrue, sym, subst, arith}
-use Rattle.least_laws.proofs.SweepLemmas.{splittable-lt}
+use Rattle.mesh_laws.proofs.SweepLemmas.{splittable-lt}
 use Rattle.certificate_laws.specs.Certificate.{named_in}
 use Rattle.roam_certify.specs.Making.{IsCause}
 use Rattle.roam_certify.proofs.MakingLemmas.{pushed-list, pushed-reasoned, pushed-grown, pushed-listed}

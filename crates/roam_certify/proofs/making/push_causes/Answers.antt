@@ -3,7 +3,7 @@ use Rattle.std.proofs.Common.{◌≡◌, ℕ, ◌/◌, ◌<◌, ◌≤◌, ◌�
 use Rattle.std.proofs.Common.{subst, arith, ⊎_elim}
 use Rattle.std.proofs.lemmas.Bool.{cases_lt, false≢true}
 use Rattle.mesh_defs.specs.Triangle.{IsSplittable, IsMate}
-use Rattle.closure_laws.proofs.ClosureLemmas.{IsSplittable-half, IsSplittable-mate}
+use Rattle.mesh_laws.proofs.ClosureLemmas.{IsSplittable-half, IsSplittable-mate}
 use Rattle.certificate_laws.specs.declared.reason.Reason.{Reason}
 use Rattle.certificate_laws.specs.declared.reason.Kind.TheVariants.{Parent, Mate}
 use Rattle.certificate_laws.specs.Certificate.{named_in}

@@ -1,6 +1,6 @@
 -- It is left out, or it is listed and flagged.
 use Rattle.std.proofs.Common.{false, inl, inr, refl, sym, ◌∙◌, ap, get_or, arith}
-use Rattle.least_laws.specs.Sweep.{is_flagged}
+use Rattle.mesh_laws.specs.Sweep.{is_flagged}
 use Rattle.roam_certify.specs.Making.{left_out, listed}
 use Rattle.roam_certify.proofs.making.push_new.Goals.{else-len-limit-via-then-len-limit+else-not-flags-number}
 use Rattle.roam_certify.proofs.making.push_new.Goals.{else-len-limit-via-else-len-limit}

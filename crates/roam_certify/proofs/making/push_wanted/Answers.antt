@@ -2,8 +2,8 @@
 use Rattle.std.proofs.Common.{◌/◌, ◌≤◌, sym, ◌∙◌, subst, arith}
 use Rattle.std.proofs.lemmas.Bool.{false≢true}
 use Rattle.mesh_defs.specs.Triangle.{IsAddress}
-use Rattle.tiling_laws.proofs.DescentLemmas.{IsAddress-splittable}
-use Rattle.least_laws.proofs.SweepLemmas.{splittable-lt}
+use Rattle.mesh_laws.proofs.DescentLemmas.{IsAddress-splittable}
+use Rattle.mesh_laws.proofs.SweepLemmas.{splittable-lt}
 use Rattle.certificate_laws.specs.declared.reason.Kind.TheVariants.{Want}
 use Rattle.mesh_defs.specs.State.{priority_seen}
 use Rattle.roam_certify.proofs.MakingLemmas.{pushed-list, pushed-reasoned, pushed-grown, pushed-listed}

@@ -5,7 +5,7 @@ use Rattle.std.proofs.lemmas.List.Elements.{All-get_or}
 use Rattle.mesh_defs.specs.Triangle.{IsAddress}
 use Rattle.bintree_laws.proofs.LevelLemmas.{level-le}
 use Rattle.mesh_defs.specs.Priority.{worst_of}
-use Rattle.least_laws.proofs.LeastLemmas.{worst_of-next}
+use Rattle.mesh_laws.proofs.LeastLemmas.{worst_of-next}
 use Rattle.mesh_defs.specs.State.{priority_seen}
 use Rattle.roam_certify.proofs.verdict.worst_leaf.Goals as goal
 

@@ -3,7 +3,7 @@ use Rattle.std.proofs.lemmas.List.Elements.{All-weaker}
 use Rattle.mesh_defs.specs.Triangle.{level_of, IsAddress}
 use Rattle.mesh_defs.specs.Tiling.{IsConforming}
 use Rattle.bintree_laws.proofs.LevelLemmas.{level-le}
-use Rattle.tiling_laws.specs.Ancestors.{ancestors_of}
+use Rattle.mesh_laws.specs.Ancestors.{ancestors_of}
 use Rattle.roam_embed.proofs.fitting.fit_into.Goals as goal
 
 -- the list is conforming, by other names of its n and of itself

@@ -1,5 +1,5 @@
 use Rattle.std.proofs.Common.{◌≡◌, ◌+◌, ◌*◌, ◌^◌, min, ◌∙◌, ap, arith, pow-add}
-use Rattle.closure_laws.proofs.LeafLemmas.{four-power}
+use Rattle.mesh_laws.proofs.LeafLemmas.{four-power}
 use Rattle.roam_embed.proofs.fitting.most_triangles.Goals as goal
 
 pub returns : goal.returns

@@ -5,10 +5,10 @@ use Rattle.mesh_defs.specs.Triangle.{level_of}
 use Rattle.mesh_defs.specs.ClosedSet.{leaves_of}
 use Rattle.mesh_defs.specs.declared.level.TheConstants.{GREATEST_LEVEL}
 use Rattle.mesh_defs.proofs.ListLemmas.{Contains-in}
-use Rattle.closure_laws.proofs.SetListLemmas.{All-in}
+use Rattle.mesh_laws.proofs.SetListLemmas.{All-in}
 use Rattle.frame_loop.specs.Engine.{is_split}
-use Rattle.strip_laws.specs.Strip.{strip_of}
-use Rattle.strip_laws.proofs.OrderLemmas.{leaf-strip_of}
+use Rattle.mesh_laws.specs.Strip.{strip_of}
+use Rattle.mesh_laws.proofs.StripOrderLemmas.{leaf-strip_of}
 use Rattle.roam_embed.proofs.shapes.put_strip.Goals as goal
 
 -- the triangles of a strip are leaves, so of the grid

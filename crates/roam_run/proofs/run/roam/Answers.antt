@@ -1,5 +1,5 @@
 use Rattle.std.proofs.Common.{ℕ, List, Option, map, string_bytes, option_map, rules}
-use Rattle.word_laws.specs.Words.{Command, command_of}
+use Rattle.run_words.specs.Words.{Command, command_of}
 use Rattle.run_laws.specs.Outcome.{EngineEnd}
 use Rattle.run_laws.specs.Moment.{Moment, moment}
 use Rattle.run_laws.specs.Statement.{KeepsBestMeshes, CertifiesMesh, EndsByStatus, LeavesOutside, IsCaused}
@@ -48,6 +48,9 @@ returns-clause-certified g c =
           (outcome-follows _ _ line run.result.status left files ends (λ some. told_files)) done;
       of_check_fit = λ files check grid told_files is_check done.
           c.fitting_laws.ensures.certified line files check grid _ _ _ _ run.result.status is_check
+          (outcome-follows _ _ line run.result.status left files ends (λ some. told_files)) done;
+      of_check_kept = λ files check grid told_files is_check done.
+          c.fitting_laws.ensures.certified_kept line files check grid _ _ _ _ run.result.status is_check
           (outcome-follows _ _ line run.result.status left files ends (λ some. told_files)) done;
     })
 

@@ -33,3 +33,13 @@ pub returns-in-Keep-clause-runs : goal.returns-in-Keep-clause-runs
 returns-in-Keep-clause-runs g c =
     rw (c.in-Keep.is, c.without_engine-in-Keep.ensures.status, c.without_engine-in-Keep.ensures.engine)
     c.run_keep.ensures.runs
+
+pub returns-in-MakeKept-clause-runs : goal.returns-in-MakeKept-clause-runs
+returns-in-MakeKept-clause-runs g c =
+    rw (c.in-MakeKept.is, c.without_engine-in-MakeKept.ensures.status, c.without_engine-in-MakeKept.ensures.engine)
+    c.run_kept_make.ensures.runs
+
+pub returns-in-CheckKept-clause-runs : goal.returns-in-CheckKept-clause-runs
+returns-in-CheckKept-clause-runs g c =
+    rw (c.in-CheckKept.is, c.without_engine-in-CheckKept.ensures.status, c.without_engine-in-CheckKept.ensures.engine)
+    c.run_kept_check.ensures.runs

@@ -1,6 +1,6 @@
 use Rattle.std.proofs.Common.{◌≡◌, ◌&&◌, [], List, Some, Option, option_map, sym, ◌∙◌, ap, subst}
 use Rattle.roam_edge.specs.Shelf.{NamedFile}
-use Rattle.word_laws.specs.Words.{Show, Frames, Scripted}
+use Rattle.run_words.specs.Words.{Show, Frames, Scripted}
 use Rattle.run_laws.specs.Outcome.{Outcome}
 use Rattle.run_laws.specs.Maker.{TellsFrames, Begins, Leaves}
 use Rattle.run_laws.proofs.GridLemmas.{first_walk, first-begins}

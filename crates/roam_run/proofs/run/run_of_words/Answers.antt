@@ -1,5 +1,5 @@
 use Rattle.std.proofs.Common.{◌≡◌, map, string_bytes, sym, subst, Option}
-use Rattle.word_laws.specs.Words.{Command, command_of}
+use Rattle.run_words.specs.Words.{Command, command_of}
 use Rattle.run_laws.specs.Leaving.{Runs}
 use Rattle.run_laws.proofs.RunLemmas.{usage-runs, command-not-usage}
 use Rattle.run_engine.specs.EngineSeen.{engine_seen}

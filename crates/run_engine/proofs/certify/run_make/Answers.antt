@@ -1,5 +1,5 @@
 use Rattle.std.proofs.Common.{refl}
-use Rattle.word_laws.specs.Words.{Make}
+use Rattle.run_words.specs.Words.{Make}
 use Rattle.run_words.specs.CertifyView.{making_seen}
 use Rattle.run_laws.proofs.RunLemmas.{line-runs, spent-runs}
 use Rattle.run_engine.proofs.certify.run_make.Goals as goal

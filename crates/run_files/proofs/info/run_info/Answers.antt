@@ -1,6 +1,6 @@
 use Rattle.std.proofs.Common.{refl, ◌∙◌, ap, subst, sym}
 use Rattle.run_laws.specs.declared.status.Status.TheVariants.{Done}
-use Rattle.word_laws.specs.Words.{Facts}
+use Rattle.run_words.specs.Words.{Facts}
 use Rattle.run_laws.specs.ReportText.{info_line}
 use Rattle.run_laws.specs.Outcome.{text_outcome}
 use Rattle.run_laws.proofs.RunLemmas.{line-runs, spent-runs}

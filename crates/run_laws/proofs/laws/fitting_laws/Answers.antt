@@ -2,6 +2,7 @@ use Rattle.run_laws.proofs.FitLemmas.{tolerance-exact, fit-best}
 use Rattle.run_laws.proofs.KeepLemmas.{kept-best}
 use Rattle.run_laws.proofs.FitRunLemmas.{fit-keeps, kept-keeps}
 use Rattle.run_laws.proofs.FitCertifyLemmas.{fit_mesh-certified}
+use Rattle.run_laws.proofs.KeptCertifyLemmas.{kept_mesh-certified}
 use Rattle.run_laws.proofs.laws.fitting_laws.Goals as goal
 
 pub returns-clause-tolerance : goal.returns-clause-tolerance
@@ -18,6 +19,11 @@ returns-clause-fitted c words files f grid before now old new all status run the
 pub returns-clause-certified : goal.returns-clause-certified
 returns-clause-certified c words files check grid before now old new status is ends done =
     fit_mesh-certified c.grids_and_texts.ensures.texts words files check grid is before now old new status ends done
+
+pub returns-clause-certified_kept : goal.returns-clause-certified_kept
+returns-clause-certified_kept c words files check grid before now old new status is ends done =
+    kept_mesh-certified c.grids_and_texts.ensures.texts c.point_laws.ensures.in_grid words files check grid is before
+    now old new status ends done
 
 pub returns-clause-best_kept : goal.returns-clause-best_kept
 returns-clause-best_kept c thousandths points grid triangles inside = kept-best thousandths points grid inside triangles

@@ -2,7 +2,7 @@ use Rattle.std.proofs.Common.{refl}
 use Rattle.mesh_defs.specs.Triangle.{level_of, corners_of}
 use Rattle.mesh_defs.specs.Thickness.{thickness_of}
 use Rattle.mesh_defs.specs.BoundingBox.{points_of}
-use Rattle.deviation_laws.specs.PlaneHeight.{plane_height, deviation_of, thickest_of}
+use Rattle.fit_laws.specs.PlaneHeight.{plane_height, deviation_of, thickest_of}
 use Rattle.run_laws.specs.Turns.{left_turns, right_turns}
 use Rattle.run_laws.proofs.laws.measure_examples.Goals as goal
 

@@ -8,23 +8,23 @@ returns-clause-frames c state before set low =
     let n : ℕ = state.grid.n in
     let priority : ℕ → ℕ = priority_in state in
     let falling : IsFalling n priority = c.falling_laws.ensures n state.grid.heights state.view in
-    let run = c.frame_laws.ensures.ends n state.budget priority before set falling low in
-    let frame = c.frame_laws.ensures.frame n state.budget priority before run.0 run.1 run.2 set run.3 falling low in (
+    let run = c.frame_run_laws.ensures.ends n state.budget priority before set falling low in
+    let frame = c.frame_run_laws.ensures.frame n state.budget priority before run.0 run.1 run.2 set run.3 falling low in (
       run.0,
       frame.0,
       frame.1,
       run.1,
       run.2,
-      c.frame_laws.ensures.set n state.budget priority before run.0 run.1 run.2 set run.3,
+      c.frame_run_laws.ensures.set n state.budget priority before run.0 run.1 run.2 set run.3,
       frame.2,
       run.3,
     )
 
 pub returns-clause-runs : goal.returns-clause-runs
-returns-clause-runs c = c.frame_laws.ensures.unique
+returns-clause-runs c = c.frame_run_laws.ensures.unique
 
 pub returns-clause-sets : goal.returns-clause-sets
-returns-clause-sets c = c.frame_laws.ensures.set
+returns-clause-sets c = c.frame_run_laws.ensures.set
 
 pub returns-clause-levels : goal.returns-clause-levels
 returns-clause-levels c grid bytes is =

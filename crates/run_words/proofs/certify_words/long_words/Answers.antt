@@ -1,8 +1,6 @@
 use Rattle.std.proofs.Common.{string_bytes, sym, ◌∙◌, arith, rules}
-use Rattle.run_words.proofs.WordLemmas.{eight-words, none-of-eight, none-of-nine}
+use Rattle.run_words.proofs.WordLemmas.{eight-words}
 use Rattle.run_words.proofs.certify_words.long_words.Goals as goal
-use Rattle.run_words.proofs.certify_words.long_words.Goals.{in_default-via-then-words-lt8}
-use Rattle.run_words.proofs.certify_words.long_words.Goals.{in_default-via-else-words-lt8+else-words-lt9}
 
 pub returns-in-len8-clause-value : goal.returns-in-len8-clause-value
 returns-in-len8-clause-value c =
@@ -22,9 +20,3 @@ returns-in-len8-clause-value c =
     c.k-item.result c.number-item.result c.spacing-item.result (omega arith) (omega arith)
     c.first-item.is c.task-item.is c.grid-item.is c.i-item.is c.j-item.is c.k-item.is
     c.number-item.is c.spacing-item.is)
-
-pub returns-in_default-clause-value : goal.returns-in_default-clause-value
-returns-in_default-clause-value c = elim c.in_default.branch [
-  | in_default-via-then-words-lt8 w ↦ sym (none-of-eight string_bytes c.args.words.now c.requires.many (search rules))
-  | in_default-via-else-words-lt8+else-words-lt9 w ↦ sym (none-of-nine string_bytes c.args.words.now (search rules))
-]

@@ -1,10 +1,10 @@
 -- The strips of 2 and of 3 are the strip of the set.
 use Rattle.std.proofs.Common.{◌∙◌, ◌*◌, List, [], Contains, ap, eqb, sym, subst, count_by}
 use Rattle.mesh_defs.specs.ClosedSet.{leaves_under}
-use Rattle.strip_laws.specs.Strip.{IsRing}
+use Rattle.mesh_laws.specs.Strip.{IsRing}
 use Rattle.strip_order.specs.Run.{IsFront}
-use Rattle.strip_laws.proofs.OrderLemmas.{count-strip_of, once-leaf}
-use Rattle.strip_laws.proofs.StripLemmas.{IsRing-strip_of}
+use Rattle.mesh_laws.proofs.StripOrderLemmas.{count-strip_of, once-leaf}
+use Rattle.mesh_laws.proofs.StripLemmas.{IsRing-strip_of}
 use Rattle.strip_order.proofs.RunLemmas.{IsFront-lower, IsFront-upper, IsArranged-same, strip_of-parts}
 use Rattle.strip_order.proofs.order.strip.Goals as goal
 

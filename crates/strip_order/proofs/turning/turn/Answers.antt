@@ -1,6 +1,6 @@
 -- Where the exit is not the next edge, it is the one before: over the edge of the entry there is no other leaf.
-use Rattle.strip_laws.specs.declared.edge.Edge.TheVariants.{LeftLeg, Base, RightLeg}
-use Rattle.strip_laws.proofs.TurnLemmas.{IsLeftTurn-found}
+use Rattle.mesh_laws.specs.declared.edge.Edge.TheVariants.{LeftLeg, Base, RightLeg}
+use Rattle.mesh_laws.proofs.StripTurnLemmas.{IsLeftTurn-found}
 use Rattle.strip_order.proofs.turning.turn.Goals as goal
 
 pub returns-in_default : goal.returns-in_default

@@ -1,7 +1,7 @@
 -- Each three triangles in a row of a strip are three leaves of one mesh that share edges, and so turn.
 use Rattle.std.proofs.Common.{◌+◌, ◌-◌, length, drop, arith, length-drop}
 use Rattle.strip_order.proofs.PlaceLemmas.{IsStrip-order}
-use Rattle.strip_laws.proofs.TurnLemmas.{length-turns}
+use Rattle.mesh_laws.proofs.StripTurnLemmas.{length-turns}
 use Rattle.strip_order.proofs.LoopLemmas.{HasTurns-none}
 use Rattle.strip_order.proofs.TripleLemmas.{IsTriple-at, HasTurns-left_at, HasTurns-right_at, turns-few}
 use Rattle.strip_order.proofs.turning.turns.Goals as goal

@@ -1,5 +1,5 @@
 use Rattle.std.proofs.Common.{◌-◌, drop}
-use Rattle.strip_laws.specs.Turn.{HasTurns}
+use Rattle.mesh_laws.specs.Turn.{HasTurns}
 use Rattle.strip_order.proofs.turning.turns.Given as goal
 
 abbrev pub invariant-loop-at : goal.invariant-loop-at

@@ -1,8 +1,8 @@
 use Rattle.std.proofs.Common.{◌≡◌, ◌∙◌, sym, refl, ℕ, ◌+◌, ◌*◌, arith, set, subst}
-use Rattle.edge_laws.specs.Slots.{address_at}
+use Rattle.mesh_laws.specs.Slots.{address_at}
 use Rattle.triangle_pool.specs.Links.{IsForest}
 use Rattle.triangle_pool.proofs.HalveLemmas.{mate_within, renewed_by, forest_halved}
-use Rattle.edge_laws.proofs.SlotLemmas.{live_within}
+use Rattle.mesh_laws.proofs.SlotLemmas.{live_within}
 use Rattle.triangle_pool.proofs.links.halve.Goals as goal
 
 pub far_child-requires-clause-small : goal.far_child-requires-clause-small

@@ -1,7 +1,7 @@
 use Rattle.std.proofs.Common.{◌≡◌, ◌∙◌, ℕ, arith}
-use Rattle.edge_laws.specs.Slots.{address_at}
+use Rattle.mesh_laws.specs.Slots.{address_at}
 use Rattle.triangle_pool.proofs.JoinLemmas.{forest_joined}
-use Rattle.edge_laws.proofs.SlotLemmas.{live_within, pair_in}
+use Rattle.mesh_laws.proofs.SlotLemmas.{live_within, pair_in}
 use Rattle.triangle_pool.proofs.links.join.Goals as goal
 
 pub returns-clause-forest : goal.returns-clause-forest

@@ -1,5 +1,5 @@
 use Rattle.std.proofs.Common.{arith}
-use Rattle.edge_laws.specs.Slots.{address_at}
+use Rattle.mesh_laws.specs.Slots.{address_at}
 use Rattle.triangle_pool.proofs.HalveLemmas.{mate_within, inner_linked}
 use Rattle.triangle_pool.proofs.links.link_inner.Goals as goal
 

@@ -1,6 +1,6 @@
 use Rattle.std.proofs.Common.{ℕ, sym, subst, List}
 use Rattle.mesh_defs.specs.ClosedSet.{IsClosed}
-use Rattle.edge_laws.specs.Slots.{address_at, split_set}
+use Rattle.mesh_laws.specs.Slots.{address_at, split_set}
 use Rattle.triangle_pool.proofs.JoinLemmas.{left_child, right_child, closed_alone}
 use Rattle.triangle_pool.proofs.links.merge_border.Goals as goal
 

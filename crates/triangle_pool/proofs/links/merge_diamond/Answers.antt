@@ -1,7 +1,7 @@
 use Rattle.std.proofs.Common.{◌≡◌, ◌∙◌, ap, ℕ, ◌+◌, ◌*◌, sym, subst, List, set, arith}
 use Rattle.mesh_defs.specs.ClosedSet.{IsClosed}
-use Rattle.edge_laws.specs.Edge.{mate_of}
-use Rattle.edge_laws.specs.Slots.{address_at, split_set}
+use Rattle.mesh_laws.specs.Edge.{mate_of}
+use Rattle.mesh_laws.specs.Slots.{address_at, split_set}
 use Rattle.triangle_pool.specs.Links.{IsForest, IsAcross, node_at}
 use Rattle.triangle_pool.proofs.JoinLemmas.{left_child, right_child, closed_both, bare_second, leg_less}
 use Rattle.triangle_pool.proofs.links.merge_diamond.Goals as goal

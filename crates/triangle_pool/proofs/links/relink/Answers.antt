@@ -1,6 +1,6 @@
 use Rattle.std.proofs.Common.{ℕ, ◌%◌, arith, refl, subst, nat_eq}
 use Rattle.triangle_pool.specs.Links.{IsAcross}
-use Rattle.edge_laws.proofs.SlotLemmas.{live_within}
+use Rattle.mesh_laws.proofs.SlotLemmas.{live_within}
 use Rattle.triangle_pool.proofs.RelinkLemmas.{across_live, relinked_nowhere, relinked_turn}
 use Rattle.triangle_pool.proofs.links.relink.Goals as goal
 

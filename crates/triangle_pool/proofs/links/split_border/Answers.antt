@@ -1,6 +1,6 @@
 use Rattle.std.proofs.Common.{ℕ, sym, subst, List}
 use Rattle.mesh_defs.specs.ClosedSet.{IsClosed}
-use Rattle.edge_laws.specs.Slots.{address_at, split_set}
+use Rattle.mesh_laws.specs.Slots.{address_at, split_set}
 use Rattle.triangle_pool.proofs.SplitLemmas.{ready_first, left_across, right_across, closed_one}
 use Rattle.triangle_pool.proofs.links.split_border.Goals as goal
 

@@ -1,7 +1,7 @@
 use Rattle.std.proofs.Common.{◌≡◌, ◌∙◌, ap, ℕ, sym, subst, List, set}
 use Rattle.mesh_defs.specs.ClosedSet.{IsClosed}
-use Rattle.edge_laws.specs.Edge.{mate_of}
-use Rattle.edge_laws.specs.Slots.{address_at, split_set}
+use Rattle.mesh_laws.specs.Edge.{mate_of}
+use Rattle.mesh_laws.specs.Slots.{address_at, split_set}
 use Rattle.triangle_pool.specs.Links.{IsForest}
 use Rattle.triangle_pool.proofs.SplitLemmas.{ready_first, left_across, right_across, ready_second, left_second}
 use Rattle.triangle_pool.proofs.SplitLemmas.{right_second, closed_two, second_address}

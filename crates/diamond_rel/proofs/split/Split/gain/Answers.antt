@@ -3,8 +3,8 @@ use Rattle.std.proofs.Common.{◌-◌, ◌≤◌, ◌^◌, length, subst, rules}
 use Rattle.mesh_defs.specs.ClosedSet.{among}
 use Rattle.mesh_defs.specs.Greedy.{with_triangle}
 use Rattle.mesh_defs.specs.GridSet.{GridSet, IsGridSet, IsGain}
-use Rattle.closure_laws.proofs.MemberLemmas.{gain-member}
-use Rattle.closure_laws.proofs.SizeLemmas.{length-grown}
+use Rattle.mesh_laws.proofs.MemberLemmas.{gain-member}
+use Rattle.mesh_laws.proofs.SizeLemmas.{length-grown}
 use Rattle.diamond_rel.proofs.split.Split.gain.Goals as goal
 
 pub overflow_cast-result : goal.overflow_cast-result

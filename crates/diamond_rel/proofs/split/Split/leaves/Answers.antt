@@ -3,7 +3,7 @@ use Rattle.std.proofs.Common.{◌≡◌, ℕ, ◌+◌, ◌∙◌, List, length, 
 use Rattle.mesh_defs.specs.Tiling.{IsConforming}
 use Rattle.mesh_defs.specs.ClosedSet.{leaves_of, among}
 use Rattle.mesh_defs.specs.GridSet.{IsGridSet, GridSet}
-use Rattle.closure_laws.proofs.SizeLemmas.{length-leaves_of}
+use Rattle.mesh_laws.proofs.SizeLemmas.{length-leaves_of}
 use Rattle.diamond_rel.proofs.split.Split.leaves.Goals as goal
 
 -- the leaves of a set are conforming and are two more than its members

@@ -1,7 +1,7 @@
 -- A closed set of a grid has at most 2 ^ 24 members, and two leaves more.
 use Rattle.std.proofs.Common.{◌≡◌, ◌+◌, ◌≤◌, ◌^◌, ◌∙◌, length, ap, sym, subst, rules}
 use Rattle.mesh_defs.specs.GridSet.{GridSet, IsGridSet}
-use Rattle.closure_laws.proofs.SizeLemmas.{length-members, length-leaves_of}
+use Rattle.mesh_laws.proofs.SizeLemmas.{length-members, length-leaves_of}
 use Rattle.diamond_rel.proofs.split.Split.size.Goals as goal
 
 pub overflow_cast-result : goal.overflow_cast-result

@@ -2,7 +2,7 @@
 use Rattle.std.proofs.Common.{◌≤◌, ◌^◌, length, rules}
 use Rattle.mesh_defs.specs.ClosedSet.{among}
 use Rattle.mesh_defs.specs.Greedy.{with_triangle}
-use Rattle.closure_laws.proofs.SizeLemmas.{length-grown}
+use Rattle.mesh_laws.proofs.SizeLemmas.{length-grown}
 use Rattle.diamond_rel.proofs.split.Split.split_forced.Goals as goal
 
 pub overflow_cast-gain : goal.overflow_cast-gain

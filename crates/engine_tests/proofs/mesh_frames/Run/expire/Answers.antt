@@ -1,6 +1,6 @@
 use Rattle.std.proofs.Common.{◌≡◌, ℕ, Bool, true, false, cond, Option, None, Some, option_map, nat_eq, refl, sym, ◌∙◌}
 use Rattle.std.proofs.Common.{arith}
-use Rattle.frame_steps.specs.Stamps.{Stamp}
+use Rattle.mesh_laws.specs.Stamps.{Stamp}
 use Rattle.roam_mesh.specs.Mesh.{stamp_of, with_expired}
 use Rattle.engine_tests.proofs.mesh_frames.Run.expire.Goals as goal
 

@@ -1,7 +1,7 @@
 use Rattle.std.proofs.Common.{◌≡◌, ℕ, ◌+◌, ◌≤◌, ◌||◌, ◌⊎◌, Bool, true, false, nat_lt, List, Some, get_or, inl, inr, sym}
 use Rattle.std.proofs.Common.{◌∙◌, arith, ⊎_elim}
 use Rattle.std.proofs.lemmas.Bool.{ltb-false}
-use Rattle.frame_steps.specs.Stamps.{Stamp, Readings, is_due, stamp_now, StampsHold}
+use Rattle.mesh_laws.specs.Stamps.{Stamp, Readings, is_due, stamp_now, StampsHold}
 use Rattle.deferred_loop.specs.Promise.{AreStampsGood}
 use Rattle.roam_mesh.specs.Mesh.{MeshState, stamp_of, seen_of, OnlyEntriesStamped}
 use Rattle.engine_tests.proofs.mesh_frames.Run.frame.Goals as goal

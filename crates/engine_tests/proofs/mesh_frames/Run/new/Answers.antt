@@ -1,5 +1,5 @@
 use Rattle.std.proofs.Common.{◌≡◌, ℕ, None, Some, arith}
-use Rattle.frame_steps.specs.Stamps.{Stamp}
+use Rattle.mesh_laws.specs.Stamps.{Stamp}
 use Rattle.roam_mesh.specs.Mesh.{MeshState, stamp_of}
 use Rattle.engine_tests.proofs.mesh_frames.Run.new.Goals as goal
 

@@ -1,41 +1,28 @@
--- No flag is set, so the leaves are 2 and 3.
-use Rattle.std.proofs.Common.{◌≡◌, ℕ, ◌≤◌, Bool, false, List, length, take, replicate, ap, sym, subst, ◌∙◌, arith}
-use Rattle.std.proofs.lemmas.List.{with_items_is, length-replicate}
-use Rattle.mesh_defs.specs.Tiling.{IsConforming}
-use Rattle.least_laws.specs.Sweep.{is_flagged}
-use Rattle.least_laws.proofs.FlagLemmas.{flagged-unset}
+-- The two halves of the square, with the numbers of their corners.
+use Rattle.std.proofs.Common.{◌≡◌, ℕ, ◌+◌, ◌*◌, ◌^◌, ◌<◌, ◌≤◌, List, length, ap, sym, subst, ◌∙◌, arith}
+use Rattle.std.specs.Prelude.{All}
+use Rattle.std.proofs.lemmas.List.{length-replicate}
+use Rattle.mesh_defs.specs.HeightField.{side_of}
+use Rattle.mesh_defs.specs.Triangle.{level_of}
 use Rattle.obj_write.specs.Numbers.{numbers_of}
 use Rattle.fit_mesh.proofs.fit.Fit.make.Goals as goal
 
-pub returns-clause-base : goal.returns-clause-base
-returns-clause-base c =
-    let room = with_items_is c.in_ok-room.room c.list_leaves-count.new.list
-    (c.list_leaves-count.auto.list ∙ c.deref_mut.ensures.len) in
-    let unset : c.deref.result.now ≡ replicate c.end.result false =
-    c.deref.ensures.value ∙ c.in_ok-flags.ensures.items_if_clones_equal (λ y h. h) in
-    ap (take c.list_leaves-count.result) room ∙ c.list_leaves-count.ensures.base
-    (λ a. subst (λ (l : List Bool). is_flagged l a ≡ false) (sym unset) (flagged-unset c.end.result a))
+pub number-requires-clause-levels : goal.number-requires-clause-levels
+number-requires-clause-levels c =
+    subst (λ k. All (λ a. level_of a ≤ 2 * k) c.leaves.result.now) c.in_ok-set.ensures.n c.leaves.ensures.levels
 
 pub invariant_of-result : goal.invariant_of-result
 invariant_of-result c =
-    let count = c.list_leaves-count.result in
-    let list = c.list_leaves-count.new.list in
-    let room = with_items_is c.in_ok-room.room list (c.list_leaves-count.auto.list ∙ c.deref_mut.ensures.len) in
-    let unset : c.in_ok-flags.flags.items ≡ replicate c.end.result false =
-    c.in_ok-flags.ensures.items_if_clones_equal (λ y h. h) in
-    let blank = c.in_ok-room.ensures.items_if_clones_equal (λ y h. h) in
+    let same : c.in_ok-set.set.n ≡ c.args.n = c.in_ok-set.ensures.n in
     record {
-      n_low = c.requires.in_grid.0;
-      n_high = c.requires.in_grid.1;
+      n_low = (let low = c.requires.in_grid.0 in omega arith);
+      n_high = (let high = c.requires.in_grid.1 in omega arith);
       budget_low = c.requires.some;
-      flagged = ap length unset ∙ length-replicate c.end.result false ∙ c.end.ensures.value;
-      roomy = ap length room ∙ c.list_leaves-count.auto.list ∙ ap length c.deref_mut.ensures.value ∙ ap length blank
-          ∙ length-replicate _ _ ∙ c.end-2.ensures.value;
-      within = subst (λ (l : List ℕ). count ≤ length l) (sym room) c.list_leaves-count.ensures.within;
-      conforming =
-          subst (λ (l : List ℕ). IsConforming c.args.n l) (sym (returns-clause-base c)) c.base_mesh.ensures.conforming;
-      places = c.number.ensures.places ∙ ap length c.in_ok-numbers.ensures ∙ length-replicate _ _;
-      numbered =
-          c.number.ensures.numbers ∙ ap (λ (l : List ℕ). numbers_of c.args.n (take count l)) c.deref-2.ensures.value;
-      waiting = λ small. (let e = c.waiting_room.ensures.bound small in let k = c.in_ok-heap.ensures.capacity in omega arith);
+      conforming = c.leaves.ensures.listed.conforming;
+      places = c.number.ensures.places ∙ ap (λ (l : List ℕ). length l) c.in_ok-numbers.ensures ∙ length-replicate _ _
+          ∙ ap (λ k. side_of k * side_of k) (sym same);
+      numbered = c.number.ensures.numbers ∙ ap (λ (l : List ℕ). numbers_of c.args.n l) c.leaves.ensures.value
+          ∙ ap (λ k. numbers_of k c.in_ok-set.set.leaves) (sym same);
+      waiting = λ small. (let e = c.waiting_room.ensures.bound (subst (λ k. c.args.budget < 2 ^ (2 * k + 1)) same small) in
+          let k = c.in_ok-heap.ensures.capacity in omega arith);
     }

@@ -2,13 +2,13 @@ use Rattle.std.proofs.Common.{◌≡◌, ◌+◌, ◌<◌, ◌↔◌, IsNone, If
 use Rattle.std.proofs.lemmas.Option.{same_Some}
 use Rattle.mesh_defs.specs.ClosedSet.{leaves_of, among}
 use Rattle.mesh_defs.specs.GridSet.{IsGridSet}
-use Rattle.edge_laws.specs.Slots.{split_set}
-use Rattle.edge_laws.proofs.SlotLemmas.{split_list-closed}
+use Rattle.mesh_laws.specs.Slots.{split_set}
+use Rattle.mesh_laws.proofs.SlotLemmas.{split_list-closed}
 use Rattle.mesh_defs.specs.State.{priority_in}
 use Rattle.roam_mesh.specs.Mesh.{pool_members}
 use Rattle.roam_mesh.specs.Chosen.{SparesChosen}
-use Rattle.leaf_list.specs.Change.{IsChange}
-use Rattle.leaf_list.specs.List.{ListState}
+use Rattle.mesh_arrays.specs.ListChange.{IsChange}
+use Rattle.mesh_arrays.specs.List.{ListState}
 use Rattle.frame_loop.specs.Changes.{no_changes, changes_of, AreChangesOf}
 use Rattle.frame_loop.proofs.PoolLemmas.{members_leaves_at}
 use Rattle.frame_loop.specs.Engine.{EngineState, IsStill, engine_of, mesh_seen}

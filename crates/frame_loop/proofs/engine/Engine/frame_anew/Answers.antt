@@ -3,10 +3,10 @@ use Rattle.std.proofs.Common.{◌≡◌, ℕ, length, refl, sym, ◌∙◌, ap, 
 use Rattle.mesh_defs.specs.declared.mark.Mark.TheVariants.{Inside, Cut, Outside}
 use Rattle.mesh_defs.specs.ClosedSet.{IsClosed, leaves_of, among}
 use Rattle.mesh_defs.specs.MeshText.{vertices_of}
-use Rattle.edge_laws.specs.Slots.{split_set}
+use Rattle.mesh_laws.specs.Slots.{split_set}
 use Rattle.triangle_pool.specs.Slots.{PoolState}
 use Rattle.roam_mesh.specs.Mesh.{pool_members}
-use Rattle.leaf_list.specs.Change.{IsChange}
+use Rattle.mesh_arrays.specs.ListChange.{IsChange}
 use Rattle.frame_loop.specs.Marks.{marks_seen}
 use Rattle.frame_loop.proofs.PoolLemmas.{members_leaves_at}
 use Rattle.frame_loop.proofs.ListingLemmas.{kept_listing}

@@ -1,7 +1,7 @@
 -- The numbers are those of the list of leaves, which is that of the pool.
 use Rattle.std.proofs.Common.{◌≡◌, ◌∙◌, ℕ, List, sym, ap, subst}
 use Rattle.mesh_defs.specs.ClosedSet.{leaves_of, among}
-use Rattle.edge_laws.specs.Slots.{IsPool, split_set}
+use Rattle.mesh_laws.specs.Slots.{IsPool, split_set}
 use Rattle.roam_mesh.specs.Mesh.{pool_members}
 use Rattle.obj_write.specs.Numbers.{numbers_of}
 use Rattle.frame_loop.specs.Engine.{EngineState, mesh_seen}

@@ -1,7 +1,7 @@
 use Rattle.std.proofs.Common.{◌≡◌, ℕ, List, length, sym, ◌∙◌, ap, subst}
 use Rattle.mesh_defs.specs.ClosedSet.{leaves_of, among}
 use Rattle.mesh_defs.specs.MeshText.{vertices_of}
-use Rattle.edge_laws.specs.Slots.{IsPool, split_set}
+use Rattle.mesh_laws.specs.Slots.{IsPool, split_set}
 use Rattle.roam_mesh.specs.Mesh.{pool_members}
 use Rattle.frame_loop.specs.Engine.{EngineState, mesh_seen}
 use Rattle.frame_loop.proofs.PoolLemmas.{members_leaves_at}

@@ -5,9 +5,9 @@ use Rattle.std.specs.Vec.{with_items}
 use Rattle.mesh_defs.specs.Triangle.{level_of}
 use Rattle.mesh_defs.specs.ClosedSet.{leaves_of}
 use Rattle.mesh_defs.specs.State.{priority_seen}
-use Rattle.least_laws.specs.Least.{IsLeastList}
-use Rattle.least_laws.specs.Sweep.{is_flagged}
-use Rattle.least_laws.proofs.LeastLemmas.{least_list-mesh}
+use Rattle.mesh_laws.specs.Least.{IsLeastList}
+use Rattle.mesh_laws.specs.Sweep.{is_flagged}
+use Rattle.mesh_laws.proofs.LeastLemmas.{least_list-mesh}
 use Rattle.obj_write.specs.Numbers.{numbers_of}
 use Rattle.least_mesh.specs.Kept.{GridMesh}
 use Rattle.least_mesh.proofs.FrameLemmas.{listed, levels-listed, conforming-listed}

@@ -2,8 +2,8 @@
 use Rattle.std.proofs.Common.{◌≡◌, ℕ, ◌≤◌, Bool, false, List, length, take, replicate, ap, sym, subst, ◌∙◌}
 use Rattle.std.proofs.lemmas.List.{with_items_is, length-replicate}
 use Rattle.mesh_defs.specs.Tiling.{IsConforming}
-use Rattle.least_laws.specs.Sweep.{is_flagged}
-use Rattle.least_laws.proofs.FlagLemmas.{flagged-unset}
+use Rattle.mesh_laws.specs.Sweep.{is_flagged}
+use Rattle.mesh_laws.proofs.FlagLemmas.{flagged-unset}
 use Rattle.obj_write.specs.Numbers.{numbers_of}
 use Rattle.least_mesh.proofs.FrameLemmas.{levels-listed}
 use Rattle.least_mesh.proofs.least.Least.make.Goals as goal

@@ -2,7 +2,7 @@
 use Rattle.std.proofs.Common.{◌≡◌, ℕ, ◌*◌, ◌<◌, ◌≤◌, List, refl, sym, subst, true}
 use Rattle.std.specs.Prelude.{IsNone}
 use Rattle.std.proofs.lemmas.Bool.{both_ways}
-use Rattle.tile_laws.specs.Tile.{IsTile}
+use Rattle.mosaic_laws.specs.Tile.{IsTile}
 use Rattle.mosaic_rounds.specs.Turn.{Waits, turn_in}
 use Rattle.mosaic_rounds.specs.Across.{LacksBy}
 use Rattle.mosaic_rounds.specs.Rounds.{IsSettled, Lacks, wait_of, rounds_of}

@@ -2,6 +2,7 @@ use Rattle.std.proofs.Common.{rules, length, get_or, Some, ◌<◌, ◌*◌, ◌
 use Rattle.mesh_defs.specs.HeightField.{side_of}
 use Rattle.mesh_defs.specs.Triangle.{corners_of}
 use Rattle.mesh_defs.specs.MeshText.{face_line, vertices_of, triangle_mark}
+use Rattle.obj_write.specs.LineView.{mesh_seen}
 use Rattle.obj_write.specs.LinesLeft.{LinesLeft, vertex_text, face_text}
 use Rattle.obj_write.proofs.LineLemmas.{places, vertex-text-passed, vertex-text-step, vertex-text-end, face-text-step}
 use Rattle.obj_write.proofs.LineLemmas.{face-text-end, line-of-vertex, lines-of-triangle}
@@ -9,14 +10,14 @@ use Rattle.obj_write.proofs.lines.MeshLines.put_next.Goals as goal
 
 pub put_vertex-requires : goal.put_vertex-requires
 put_vertex-requires g c =
-    let grid = c.self.inside.view.wedges.now in
+    let grid = c.self.inside.view.grid.now in
     let below : c.first_from-self-inside.result < side_of grid.n * side_of grid.n =
-    omega (arith, places c.self.inside.view c.self.invariant.0, c.if-self-places.true) in
+    omega (arith, places (mesh_seen c.self.inside.view) c.self.invariant.0, c.if-self-places.true) in
     search rules
 
 pub returns-then-self-places-clause-text : goal.returns-then-self-places-clause-text
 returns-then-self-places-clause-text g c =
-    let v = c.self.inside.view in
+    let v = mesh_seen c.self.inside.view in
     let found = c.first_from-self-inside in
     let at = found.result in
     let below : at < length v.numbers.now = omega (arith, c.if-self-places.true) in
@@ -30,7 +31,7 @@ returns-then-self-places-clause-text g c =
 
 pub returns-then-self-clause-text : goal.returns-then-self-clause-text
 returns-then-self-clause-text g c =
-    let v = c.self.inside.view in
+    let v = mesh_seen c.self.inside.view in
     let found = c.first_from-self-inside in
     let passed = vertex-text-passed v c.self.invariant.0 c.self.inside.place found.result found.ensures.later
     found.ensures.within found.ensures.clear in
@@ -39,7 +40,7 @@ returns-then-self-clause-text g c =
 
 pub returns-then-self-clause-ended : goal.returns-then-self-clause-ended
 returns-then-self-clause-ended g c _ =
-    let v = c.self.inside.view in
+    let v = mesh_seen c.self.inside.view in
     let found = c.first_from-self-inside in
     let passed = vertex-text-passed v c.self.invariant.0 c.self.inside.place found.result found.ensures.later
     found.ensures.within found.ensures.clear in
@@ -53,7 +54,7 @@ returns-then-self-clause-ended g c _ =
 
 pub returns-clause-text : goal.returns-clause-text
 returns-clause-text g c =
-    let v = c.self.inside.view in
+    let v = mesh_seen c.self.inside.view in
     let i = c.self.inside.face in
     let found = c.first_from-self-inside in
     let at = found.result in

@@ -11,15 +11,16 @@ use Rattle.std.proofs.Crossing as heap
 use Rattle.std.specs.declared.option.Option.{Option}
 use Rattle.std.specs.declared.option.Option.TheVariants.{None, Some}
 use Rattle.std_alloc.proofs.SendSync.{quiet, lies}
-use Rattle.frame_loop.specs.contracts.engine.Engine as engine
-use Rattle.frame_loop.proofs.engine.Engine.TheSendSync.{the_send as engine_send}
-use Rattle.roam_c.specs.Held.{Kept, is_mark, held_if}
+use Rattle.roam_c.specs.contracts.kept.Kept as kept
+use Rattle.roam_c.proofs.kept.Kept.TheSendSync.{the_send as kept_send}
+use Rattle.roam_c.specs.declared.kept.Kept.{Kept}
+use Rattle.roam_c.specs.Held.{is_mark, held_if}
 use Rattle.roam_c.specs.contracts.handle.Handle.{the_row, the_type}
 
 held_if-keyless : (full : Bool) (at : Ptr) (value : Option Kept) → Keyless (held_if full at value)
 held_if-keyless true at (Some x) = (
-  lies engine.the_row engine_send at x,
-  heap.frees.frees (record { memory = record { seal = tt } }) (raw (lone (engine.the_row).mir)) at,
+  lies kept.the_row kept_send at x,
+  heap.frees.frees (record { memory = record { seal = tt } }) (raw (lone (kept.the_row).mir)) at,
 )
 held_if-keyless true at None = tt
 held_if-keyless false at (Some x) = tt

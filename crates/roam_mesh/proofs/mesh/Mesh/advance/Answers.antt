@@ -2,16 +2,16 @@ use Rattle.std.proofs.Common.{◌≡◌, ℕ, ◌+◌, List, sym, subst}
 use Rattle.mesh_defs.specs.ClosedSet.{among}
 use Rattle.mesh_defs.specs.GridSet.{IsGridSet}
 use Rattle.mesh_defs.specs.Falling.{IsFalling}
-use Rattle.closure_laws.specs.Frame.{IsFrame}
-use Rattle.frame_steps.specs.Stamps.{StampsHold}
-use Rattle.frame_steps.proofs.RunLemmas.{run_set}
-use Rattle.frame_steps.proofs.FrameLemmas.{merge_spares}
+use Rattle.mesh_laws.specs.Frame.{IsFrame}
+use Rattle.mesh_laws.specs.Stamps.{StampsHold}
+use Rattle.mesh_laws.proofs.RunLemmas.{run_set}
+use Rattle.mesh_laws.proofs.FrameRunLemmas.{merge_spares}
 use Rattle.deferred_loop.specs.Promise.{IsAtMost, IsAtLeast, AreStampsGood}
 use Rattle.roam_mesh.specs.Mesh.{MeshState, stamp_of, pool_members, seen_of}
 use Rattle.roam_mesh.specs.Chosen.{SparesChosen}
-use Rattle.edge_laws.specs.Slots.{IsPool}
+use Rattle.mesh_laws.specs.Slots.{IsPool}
 use Rattle.roam_mesh.specs.Parts.{QueuedState, mesh_of}
-use Rattle.edge_laws.proofs.SlotLemmas.{split_list-closed}
+use Rattle.mesh_laws.proofs.SlotLemmas.{split_list-closed}
 use Rattle.roam_mesh.proofs.MeshLemmas.{stamps_hold, at_most, at_least, stamps_good}
 use Rattle.roam_mesh.proofs.mesh.Mesh.advance.Goals as goal
 

@@ -1,5 +1,5 @@
 use Rattle.std.proofs.Common.{◌≡◌, ℕ, subst, refl}
-use Rattle.edge_laws.specs.Slots.{address_at, IsLive}
+use Rattle.mesh_laws.specs.Slots.{address_at, IsLive}
 use Rattle.triangle_pool.specs.Slots.{PoolState}
 use Rattle.roam_mesh.proofs.MeshLemmas.{dead_stamps}
 use Rattle.roam_mesh.proofs.mesh.Mesh.expire.Goals as goal

@@ -1,5 +1,5 @@
 use Rattle.std.proofs.Common.{◌≡◌, cond, nat_eq, option_map, sym, ◌∙◌, ap, subst, refl}
-use Rattle.edge_laws.specs.Slots.{address_at, IsLive}
+use Rattle.mesh_laws.specs.Slots.{address_at, IsLive}
 use Rattle.roam_mesh.specs.Mesh.{MeshState, stamp_of, with_expired}
 use Rattle.roam_mesh.specs.Parts.{QueuedState, PartsState, IsParts, mesh_of}
 use Rattle.roam_mesh.proofs.MeshLemmas.{expired_parts, expired_stamps}

@@ -1,6 +1,6 @@
 -- what holds of the parts holds of them on the heap
 use Rattle.std.proofs.Common.{◌≡◌, ℕ, false, None, Some, [], sym, subst}
-use Rattle.edge_laws.specs.Slots.{split_set}
+use Rattle.mesh_laws.specs.Slots.{split_set}
 use Rattle.deferred_loop.specs.Seen.{IsQuiet}
 use Rattle.roam_mesh.specs.Mesh.{stamp_of}
 use Rattle.roam_mesh.specs.Parts.{QueuedState, mesh_of, seen_parts}

@@ -1,6 +1,6 @@
 use Rattle.std.proofs.Common.{◌≡◌, ◌/◌, nat_le, false, sym, subst}
 use Rattle.std.proofs.lemmas.Bool.{and_right, false_from_ne_true, both_ways}
-use Rattle.edge_laws.specs.Slots.{address_at, IsMergeReady}
+use Rattle.mesh_laws.specs.Slots.{address_at, IsMergeReady}
 use Rattle.roam_mesh.specs.Mesh.{slot_of}
 use Rattle.roam_mesh.specs.Parts.{PartsState, is_ready}
 use Rattle.roam_mesh.specs.Places.{is_ready_above}

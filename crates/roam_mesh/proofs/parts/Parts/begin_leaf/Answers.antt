@@ -1,6 +1,6 @@
 use Rattle.std.proofs.Common.{ℕ, ◌<◌, List, Option, None, Some, option_map, arith, length, get_or-set_same, set-set}
 use Rattle.std.proofs.Common.{slice_index_or, slice_set, sym, ap, ap₂, subst, ◌∙◌}
-use Rattle.edge_laws.specs.Slots.{IsLive}
+use Rattle.mesh_laws.specs.Slots.{IsLive}
 use Rattle.bintree_addr.specs.declared.rank.Rank.{Rank}
 use Rattle.roam_mesh.specs.Parts.{PartsState, leaf_rank, parts_of}
 use Rattle.roam_mesh.proofs.PlaceLemmas.{live_below}

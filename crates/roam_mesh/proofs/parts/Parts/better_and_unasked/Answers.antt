@@ -1,7 +1,7 @@
 use Rattle.std.proofs.lemmas.Grind.{common_steps}
 use Rattle.std.proofs.lemmas.Bool.{both_ways}
 use Rattle.std.proofs.Common.{◌≡◌, inl, inr, true, false, None, Some, sym, ◌∙◌, ap, subst, arith}
-use Rattle.edge_laws.specs.Slots.{IsPool}
+use Rattle.mesh_laws.specs.Slots.{IsPool}
 use Rattle.bintree_addr.specs.declared.rank.Rank.{Rank}
 use Rattle.bintree_addr.specs.RankOrder.{ComesFirst}
 use Rattle.roam_mesh.specs.Parts.{PartsState, IsWhole, entry_at, leaf_rank}

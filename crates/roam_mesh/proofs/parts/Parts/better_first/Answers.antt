@@ -1,6 +1,6 @@
 use Rattle.std.proofs.Common.{sym, ap, subst}
 use Rattle.std.proofs.lemmas.Bool.{both_ways}
-use Rattle.edge_laws.specs.Slots.{address_at, IsPool}
+use Rattle.mesh_laws.specs.Slots.{address_at, IsPool}
 use Rattle.triangle_pool.specs.Slots.{PoolState}
 use Rattle.bintree_addr.specs.declared.rank.Rank.{Rank}
 use Rattle.bintree_addr.specs.RankOrder.{ComesFirst}

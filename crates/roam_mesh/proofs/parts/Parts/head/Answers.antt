@@ -1,8 +1,8 @@
 use Rattle.std.proofs.Common.{◌≡◌, ◌*◌, ◌<◌, ◌≤◌, length, sym, subst}
 use Rattle.roam_mesh.specs.Parts.{PartsState}
 use Rattle.roam_mesh.specs.Change.{chief_slot}
-use Rattle.edge_laws.specs.Chief.{chief_of}
-use Rattle.edge_laws.specs.Slots.{address_at}
+use Rattle.mesh_laws.specs.Chief.{chief_of}
+use Rattle.mesh_laws.specs.Slots.{address_at}
 use Rattle.roam_mesh.proofs.PlaceLemmas.{live_below, one_slot}
 use Rattle.roam_mesh.proofs.parts.Parts.head.Goals as goal
 

@@ -1,7 +1,7 @@
 use Rattle.std.proofs.Common.{◌≡◌, true, sym, subst, IfSome}
 use Rattle.std.proofs.lemmas.Option.{IfSome_then}
-use Rattle.edge_laws.specs.Edge.{mate_of}
-use Rattle.edge_laws.specs.Slots.{address_at}
+use Rattle.mesh_laws.specs.Edge.{mate_of}
+use Rattle.mesh_laws.specs.Slots.{address_at}
 use Rattle.roam_mesh.specs.Mesh.{slot_of}
 use Rattle.roam_mesh.specs.Parts.{PartsState, is_ready_at}
 use Rattle.roam_mesh.proofs.PlacedLemmas.{mate_answered}

@@ -2,8 +2,8 @@ use Rattle.std.proofs.Common.{◌≡◌, ◌*◌, ◌<◌, ◌≤◌, inl, true,
 use Rattle.std.proofs.Common.{ap, subst, arith, ⊎_elim}
 use Rattle.std.proofs.lemmas.Bool.{true≢false, cases_lt}
 use Rattle.bintree_addr.specs.declared.slot.Slot.{Slot}
-use Rattle.edge_laws.specs.Edge.{mate_of}
-use Rattle.edge_laws.specs.Slots.{address_at, IsMergeReady}
+use Rattle.mesh_laws.specs.Edge.{mate_of}
+use Rattle.mesh_laws.specs.Slots.{address_at, IsMergeReady}
 use Rattle.triangle_pool.specs.Slots.{PoolState}
 use Rattle.roam_mesh.specs.Parts.{PartsState, is_leaf_at, is_ready_at}
 use Rattle.roam_mesh.specs.Change.{with_children, above_slots, left_all, pushed_all}

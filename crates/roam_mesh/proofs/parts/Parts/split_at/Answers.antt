@@ -2,7 +2,7 @@ use Rattle.std.proofs.Common.{◌≡◌, ◌+◌, ◌*◌, ◌<◌, ◌≤◌, �
 use Rattle.std.specs.List.{AllByRecursion}
 use Rattle.std.proofs.lemmas.List.{length-map}
 use Rattle.mesh_defs.specs.Triangle.{level_of}
-use Rattle.edge_laws.specs.Slots.{address_at, room_of, IsLive}
+use Rattle.mesh_laws.specs.Slots.{address_at, room_of, IsLive}
 use Rattle.bintree_addr.specs.declared.slot.Slot.{Slot}
 use Rattle.triangle_pool.specs.Answer.{numbers}
 use Rattle.triangle_pool.specs.Slots.{PoolState}

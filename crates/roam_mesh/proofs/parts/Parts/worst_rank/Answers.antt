@@ -1,6 +1,6 @@
 use Rattle.std.proofs.Common.{◌≡◌, ◌<◌, length, sym, ◌∙◌, ap, subst, arith}
 use Rattle.std.proofs.lemmas.List.{get_or_read}
-use Rattle.edge_laws.specs.Slots.{address_at, IsLive}
+use Rattle.mesh_laws.specs.Slots.{address_at, IsLive}
 use Rattle.roam_mesh.specs.contracts.parts.Parts.{the_view}
 use Rattle.roam_mesh.specs.Parts.{PartsState, merging_key, worst_rank, blank}
 use Rattle.roam_mesh.proofs.PlaceLemmas.{live_below}

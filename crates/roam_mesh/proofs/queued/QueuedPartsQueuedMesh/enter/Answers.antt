@@ -1,6 +1,6 @@
 use Rattle.std.proofs.Common.{◌≡◌, ℕ, List, ◌∷◌, true, false, sym, ap, subst, ◌∙◌, ⊎_elim}
 use Rattle.std.proofs.lemmas.Bool.{both_ways}
-use Rattle.edge_laws.specs.Slots.{address_at}
+use Rattle.mesh_laws.specs.Slots.{address_at}
 use Rattle.deferred_loop.specs.Seen.{IsEntered}
 use Rattle.mesh_defs.specs.ClosedSet.{among}
 use Rattle.roam_mesh.specs.Parts.{QueuedState, PartsState, is_leaf_at, is_ready_at, IsParts, seen_parts}

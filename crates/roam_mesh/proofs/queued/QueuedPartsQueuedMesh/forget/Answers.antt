@@ -1,5 +1,5 @@
 use Rattle.std.proofs.Common.{◌≡◌, [], sym, subst, ap}
-use Rattle.edge_laws.specs.Slots.{IsPool}
+use Rattle.mesh_laws.specs.Slots.{IsPool}
 use Rattle.triangle_pool.specs.Slots.{PoolState}
 use Rattle.deferred_loop.specs.Seen.{IsForgotten}
 use Rattle.roam_mesh.specs.Parts.{QueuedState, PartsState, IsParts, seen_parts}

@@ -2,14 +2,14 @@ use Rattle.std.proofs.Common.{◌≡◌, ◌+◌, ◌*◌, ℕ, List, ◌≤◌,
 use Rattle.std.proofs.lemmas.List.{length-map}
 use Rattle.mesh_defs.specs.ClosedSet.{among}
 use Rattle.mesh_defs.specs.GridSet.{IsAscending, IsForced}
-use Rattle.closure_laws.proofs.ExistenceLemmas.{forced_list}
-use Rattle.edge_laws.specs.Slots.{address_at, split_set, HasLeaf}
+use Rattle.mesh_laws.proofs.ExistenceLemmas.{forced_list}
+use Rattle.mesh_laws.specs.Slots.{address_at, split_set, HasLeaf}
 use Rattle.force_split.specs.Chain.{chain_size}
 use Rattle.triangle_pool.specs.Answer.{numbers}
 use Rattle.triangle_pool.specs.Slots.{PoolState}
 use Rattle.roam_mesh.specs.Mesh.{pool_members}
 use Rattle.roam_mesh.specs.Parts.{QueuedState, PartsState, IsParts}
-use Rattle.edge_laws.proofs.SlotLemmas.{among-split_list, split_list-closed}
+use Rattle.mesh_laws.proofs.SlotLemmas.{among-split_list, split_list-closed}
 use Rattle.roam_mesh.proofs.HeadLemmas.{slot_leaf, chain_size-le}
 use Rattle.roam_mesh.proofs.queued.QueuedPartsQueuedMesh.gain.Goals as goal
 

@@ -1,8 +1,8 @@
 use Rattle.std.proofs.Common.{◌≡◌, ℕ, true, MatchOption, IfSome, Option, [], refl, sym, ◌∙◌, ap, subst}
 use Rattle.mesh_defs.specs.ClosedSet.{among}
-use Rattle.closure_laws.specs.Diamond.{CanMerge}
-use Rattle.edge_laws.specs.Slots.{address_at, IsLive}
-use Rattle.edge_laws.specs.Chief.{chief_of}
+use Rattle.mesh_laws.specs.Diamond.{CanMerge}
+use Rattle.mesh_laws.specs.Slots.{address_at, IsLive}
+use Rattle.mesh_laws.specs.Chief.{chief_of}
 use Rattle.slot_heap.specs.Keys.{IsEmpty}
 use Rattle.merge_queue.specs.Last.{IsLastEntry}
 use Rattle.bintree_addr.specs.declared.slot.Slot.{Slot}

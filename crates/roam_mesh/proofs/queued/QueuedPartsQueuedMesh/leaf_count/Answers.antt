@@ -1,8 +1,8 @@
 use Rattle.std.proofs.Common.{sym, ◌∙◌, ap, subst, length}
 use Rattle.mesh_defs.specs.ClosedSet.{leaves_of}
-use Rattle.edge_laws.specs.Slots.{split_set}
+use Rattle.mesh_laws.specs.Slots.{split_set}
 use Rattle.roam_mesh.specs.Parts.{QueuedState, PartsState, IsParts}
-use Rattle.edge_laws.proofs.SlotLemmas.{leaves-split_list}
+use Rattle.mesh_laws.proofs.SlotLemmas.{leaves-split_list}
 use Rattle.roam_mesh.proofs.queued.QueuedPartsQueuedMesh.leaf_count.Goals as goal
 
 pub returns : goal.returns

@@ -1,7 +1,7 @@
 use Rattle.std.proofs.Common.{◌≡◌, [], sym, subst, ap}
 use Rattle.mesh_defs.specs.ClosedSet.{among}
-use Rattle.closure_laws.specs.Diamond.{CanMerge}
-use Rattle.edge_laws.specs.Slots.{address_at}
+use Rattle.mesh_laws.specs.Diamond.{CanMerge}
+use Rattle.mesh_laws.specs.Slots.{address_at}
 use Rattle.deferred_loop.specs.Seen.{IsMergeOf}
 use Rattle.roam_mesh.specs.Mesh.{pool_members, pool_set}
 use Rattle.roam_mesh.specs.Parts.{QueuedState, PartsState, seen_parts}

@@ -1,5 +1,5 @@
 use Rattle.std.proofs.Common.{◌≡◌, ℕ, ◌+◌, ◌-◌, ◌≤◌, length, map, reverse, take, List, ◌∷◌, arith, sym, ap, subst, ◌∙◌}
-use Rattle.edge_laws.specs.Slots.{address_at, IsLive}
+use Rattle.mesh_laws.specs.Slots.{address_at, IsLive}
 use Rattle.triangle_pool.specs.Slots.{PoolState}
 use Rattle.roam_mesh.specs.Parts.{QueuedState, PartsState}
 use Rattle.roam_mesh.proofs.SlotListLemmas.{numbers_last}

@@ -1,5 +1,5 @@
 use Rattle.std.proofs.Common.{List, ◌≡◌, ℕ, ◌≤◌, true, [], sym, ◌∙◌, ap, subst}
-use Rattle.edge_laws.specs.Slots.{address_at, room_of}
+use Rattle.mesh_laws.specs.Slots.{address_at, room_of}
 use Rattle.force_split.specs.Chain.{IsGainOf}
 use Rattle.deferred_loop.specs.Seen.{IsSplitOf}
 use Rattle.deferred_loop.specs.Log.{Log, IsLogged}

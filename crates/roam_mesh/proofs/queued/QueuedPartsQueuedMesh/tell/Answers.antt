@@ -1,8 +1,8 @@
 use Rattle.std.proofs.Common.{◌≡◌, true, false, [], sym, ◌∙◌, ap, subst, ⊎_elim}
 use Rattle.std.proofs.lemmas.Bool.{both_ways}
 use Rattle.mesh_defs.specs.ClosedSet.{among}
-use Rattle.edge_laws.specs.Slots.{address_at, IsLive}
-use Rattle.frame_steps.specs.Deferred.{IsEntry}
+use Rattle.mesh_laws.specs.Slots.{address_at, IsLive}
+use Rattle.mesh_laws.specs.Deferred.{IsEntry}
 use Rattle.deferred_loop.specs.Seen.{IsRated}
 use Rattle.roam_mesh.specs.Mesh.{pool_members}
 use Rattle.roam_mesh.specs.Parts.{QueuedState, PartsState, IsParts, seen_parts, is_leaf_at, is_ready_at}

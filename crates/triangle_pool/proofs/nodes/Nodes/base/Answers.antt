@@ -1,7 +1,7 @@
 use Rattle.std.proofs.Common.{◌≡◌, ℕ, List, ◌⊎◌, ap, ◌≤◌, subst}
-use Rattle.edge_laws.specs.Edge.{mate_of, owner}
-use Rattle.edge_laws.specs.Net.{nowhere}
-use Rattle.edge_laws.specs.Slots.{address_at, has_children}
+use Rattle.mesh_laws.specs.Edge.{mate_of, owner}
+use Rattle.mesh_laws.specs.Net.{nowhere}
+use Rattle.mesh_laws.specs.Slots.{address_at, has_children}
 use Rattle.triangle_pool.proofs.PoolLemmas.{node_at-read, base_across}
 use Rattle.triangle_pool.proofs.nodes.Nodes.base.Goals as goal
 

@@ -1,5 +1,5 @@
 use Rattle.std.proofs.Common.{◌≡◌, ℕ, List, ap, subst, arith}
-use Rattle.edge_laws.specs.Slots.{address_at}
+use Rattle.mesh_laws.specs.Slots.{address_at}
 use Rattle.triangle_pool.specs.Links.{AreChildrenAt}
 use Rattle.triangle_pool.proofs.PoolLemmas.{node_at-read}
 use Rattle.std.proofs.lemmas.Grind.{common_steps}

@@ -1,5 +1,5 @@
 use Rattle.std.proofs.lemmas.Bool.{eq-eqb, eqb-true}
-use Rattle.edge_laws.specs.Net.{nowhere}
+use Rattle.mesh_laws.specs.Net.{nowhere}
 use Rattle.triangle_pool.proofs.MergeLemmas.{two_leaves_read}
 use Rattle.triangle_pool.proofs.nodes.Nodes.has_two_leaves.Goals as goal
 

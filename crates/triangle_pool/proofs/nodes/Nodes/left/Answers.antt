@@ -1,5 +1,5 @@
 use Rattle.std.proofs.Common.{◌≡◌, ◌∙◌, ℕ, List, ap, ◌*◌, subst, refl, arith}
-use Rattle.edge_laws.specs.Slots.{address_at, has_children}
+use Rattle.mesh_laws.specs.Slots.{address_at, has_children}
 use Rattle.triangle_pool.specs.Links.{IsAcross}
 use Rattle.triangle_pool.proofs.SplitLemmas.{left_across}
 use Rattle.triangle_pool.proofs.PoolLemmas.{node_at-read}

@@ -1,9 +1,9 @@
 use Rattle.std.proofs.Common.{◌≡◌, ◌≢◌, ◌∙◌, ap, sym, subst, ◌/◌, ◌<◌, get_or, arith}
 use Rattle.std.proofs.lemmas.List.{get_or_default}
-use Rattle.edge_laws.specs.Net.{nowhere}
-use Rattle.edge_laws.specs.Slots.{address_at, IsLive}
+use Rattle.mesh_laws.specs.Net.{nowhere}
+use Rattle.mesh_laws.specs.Slots.{address_at, IsLive}
 use Rattle.triangle_pool.proofs.MergeLemmas.{parent_link}
-use Rattle.edge_laws.proofs.SlotLemmas.{live_within}
+use Rattle.mesh_laws.proofs.SlotLemmas.{live_within}
 use Rattle.std.proofs.lemmas.Grind.{common_steps}
 use Rattle.triangle_pool.proofs.nodes.Nodes.parent.Goals as goal
 

@@ -1,4 +1,4 @@
-use Rattle.edge_laws.specs.Slots.{address_at}
+use Rattle.mesh_laws.specs.Slots.{address_at}
 use Rattle.triangle_pool.proofs.MergeLemmas.{partner_link}
 use Rattle.triangle_pool.proofs.nodes.Nodes.partner.Goals as goal
 

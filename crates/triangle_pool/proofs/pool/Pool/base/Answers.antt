@@ -1,8 +1,8 @@
 use Rattle.std.proofs.Common.{◌≡◌, ◌∙◌, ap, sym, subst, ℕ, ◌^◌, ◌<◌, List, length, false}
 use Rattle.std.proofs.lemmas.Option.{IfSome_then}
 use Rattle.mesh_defs.specs.Triangle.{corners_of}
-use Rattle.edge_laws.specs.Slots.{address_at, has_children, IsLive, IsPool, split_set}
-use Rattle.edge_laws.specs.LeafAcross.{IsLeafAcross}
+use Rattle.mesh_laws.specs.Slots.{address_at, has_children, IsLive, IsPool, split_set}
+use Rattle.mesh_laws.specs.LeafAcross.{IsLeafAcross}
 use Rattle.triangle_pool.specs.Links.{IsAcross}
 use Rattle.triangle_pool.proofs.LeafLemmas.{IsLeafLink, base_words}
 use Rattle.triangle_pool.proofs.pool.Pool.base.Goals as goal

@@ -1,7 +1,7 @@
 use Rattle.std.proofs.Common.{◌≡◌, ap, length, refl, arith}
 use Rattle.mesh_defs.specs.ClosedSet.{leaves_of}
-use Rattle.edge_laws.specs.Slots.{split_set}
-use Rattle.edge_laws.proofs.SlotLemmas.{leaves_count}
+use Rattle.mesh_laws.specs.Slots.{split_set}
+use Rattle.mesh_laws.proofs.SlotLemmas.{leaves_count}
 use Rattle.triangle_pool.proofs.PoolLemmas.{room_seen}
 use Rattle.triangle_pool.proofs.pool.Pool.leaf_count.Goals as goal
 

@@ -1,8 +1,8 @@
 use Rattle.std.proofs.Common.{◌≡◌, ap, arith}
 use Rattle.std.proofs.lemmas.Bool.{eq-eqb, eqb-true, true≢false}
 use Rattle.mesh_defs.specs.Triangle.{level_of}
-use Rattle.edge_laws.specs.Slots.{address_at}
-use Rattle.edge_laws.proofs.SlotLemmas.{coarse_link}
+use Rattle.mesh_laws.specs.Slots.{address_at}
+use Rattle.mesh_laws.proofs.SlotLemmas.{coarse_link}
 use Rattle.triangle_pool.proofs.pool.Pool.may_split.Goals as goal
 
 pub tri-requires : goal.tri-requires

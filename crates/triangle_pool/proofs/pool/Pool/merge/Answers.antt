@@ -1,9 +1,9 @@
 use Rattle.std.proofs.Common.{◌≡◌, ◌≢◌, ap, sym, subst, ℕ, ◌+◌, ◌≤◌, arith, List}
-use Rattle.edge_laws.specs.Edge.{mate_of}
-use Rattle.edge_laws.specs.Net.{nowhere}
-use Rattle.edge_laws.specs.Slots.{address_at, IsLive, IsMergeReady, IsMerge, room_of, diamond_size}
+use Rattle.mesh_laws.specs.Edge.{mate_of}
+use Rattle.mesh_laws.specs.Net.{nowhere}
+use Rattle.mesh_laws.specs.Slots.{address_at, IsLive, IsMergeReady, IsMerge, room_of, diamond_size}
 use Rattle.triangle_pool.specs.Links.{HasPairs, AreChildrenAt, MayMerge}
-use Rattle.edge_laws.proofs.SlotLemmas.{pair_in}
+use Rattle.mesh_laws.proofs.SlotLemmas.{pair_in}
 use Rattle.triangle_pool.proofs.MergeLemmas.{partner_live, may_merge_of, may_merge_mate, IsMerge-alone, IsMerge-both}
 use Rattle.triangle_pool.proofs.MergeLemmas.{pairs_back, pairs_back_two, back_one, back_two}
 use Rattle.triangle_pool.proofs.pool.Pool.merge.Goals as goal

@@ -1,5 +1,5 @@
 use Rattle.std.proofs.Common.{◌≡◌, ap, sym, subst}
-use Rattle.edge_laws.specs.Slots.{IsLive}
+use Rattle.mesh_laws.specs.Slots.{IsLive}
 use Rattle.triangle_pool.proofs.MergeLemmas.{partner_live}
 use Rattle.triangle_pool.proofs.pool.Pool.merge_ready.Goals as goal
 

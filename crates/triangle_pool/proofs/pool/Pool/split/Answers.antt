@@ -1,6 +1,6 @@
 use Rattle.std.proofs.Common.{◌≡◌, ap, ℕ, ◌+◌, ◌≤◌, arith, subst, List, refl, None, Some}
-use Rattle.edge_laws.specs.Edge.{mate_of}
-use Rattle.edge_laws.specs.Slots.{address_at, room_of, IsSplit, diamond_size}
+use Rattle.mesh_laws.specs.Edge.{mate_of}
+use Rattle.mesh_laws.specs.Slots.{address_at, room_of, IsSplit, diamond_size}
 use Rattle.triangle_pool.specs.Answer.{IsBirth}
 use Rattle.triangle_pool.specs.Links.{MaySplit, MaySplitMate}
 use Rattle.triangle_pool.proofs.BirthLemmas.{birth_one, birth_two, room_one, room_two}

@@ -1,0 +1,147 @@
+//! A reader of a certificate, line after line.
+
+ghost use Rattle.std.specs.Prelude.{◌≡◌, ◌≤◌, ◌↔◌, ℕ, None, Some, Ok, Err, OnOk, OnErr, IfOk, IfErr};
+ghost use Rattle.std.specs.Prelude.{All};
+ghost use Rattle.mesh_defs.specs.Triangle.{IsAddress, IsSplittable};
+ghost use Rattle.mesh_defs.specs.declared.level.TheConstants.{GREATEST_LEVEL};
+ghost use Rattle.certificate_laws.specs.declared.reason.Reason.{Reason};
+ghost use Rattle.cert_text.specs.CertReader.{nothing_read, read_so_far, AreFew, line_taken, cert_line_in, finished};
+ghost use Rattle.cert_text.specs.CertLine.{IsLineOf};
+ghost use Rattle.cert_text.specs.declared.fault.CertFault.{CertFault};
+
+use crate::cert::Cert;
+use crate::cert_line::CertLine;
+use crate::fault::{CertFault, push};
+use crate::limits::{MOST_LEAVES, MOST_REASONS};
+use crate::reading::read_line;
+use bintree_addr::Tri;
+use certificate_laws::Reason;
+use std::alloc::Global;
+use std::marker::Model;
+use view_priority::Camera;
+
+/// A reader of the certificate of a grid, one line after the other; after a refusal it gives no other answer.
+#[derive(Drop)]
+pub struct CertReader {
+    n: u32,
+    camera: Option<Camera>,
+    leaves: Vec<Tri>,
+    reasons: Vec<Reason>,
+    refusal: Option<CertFault>,
+}
+
+impl Model for CertReader {
+    ghost use Rattle.std.specs.Prelude.{◌≤◌, length, All};
+    ghost use Rattle.mesh_defs.specs.Triangle.{IsAddress, IsSplittable};
+    ghost use Rattle.certificate_laws.specs.declared.reason.Reason.{Reason};
+    ghost use Rattle.cert_text.specs.CertReader.{CertReading, AreFew};
+
+    ghost Value = { CertReading };
+
+    ghost view = { λ r. record {
+      n = r.n;
+      read = record { camera = r.camera; leaves = r.leaves.items; reasons = r.reasons.items };
+      refusal = r.refusal;
+    } };
+
+    ghost invariant = { λ r. AreFew r.n r.leaves.items r.reasons.items };
+}
+
+impl CertReader {
+    /// A reader that has read nothing, for the grid of side 2^n. Takes no memory.
+    pub fn new(alloc: Global, n: u32) -> CertReader
+        requires in_grid { (1 ≤ n) × (n ≤ GREATEST_LEVEL) }
+        ensures { result ≡ record { n = n; read = nothing_read; refusal = None } }
+    {
+        CertReader {
+            n,
+            camera: None,
+            leaves: Vec::new(alloc),
+            reasons: Vec::new(alloc),
+            refusal: None,
+        }
+    }
+
+    /// Reads one line more. The LF is none of its bytes, a CR at its end counts and is no part of a field.
+    ///
+    /// After a refusal each further line is refused in the same way.
+    /// Cost (not proved): a few steps a byte.
+    pub fn line(&mut self, bytes: &[u8]) -> Result<(), CertFault>
+        ensures n { self.new.n ≡ self.old.n }
+
+        // A refusal is the answer from then on.
+        ensures sticky { (fault : CertFault) → self.old.refusal ≡ Some fault → result ≡ Err fault }
+        ensures kept { OnErr result (self.new.read ≡ self.old.read) }
+        ensures refusal { IfErr result (λ fault. self.new.refusal ≡ Some fault) }
+
+        // An accepted line may stand there, and a bad one may not.
+        ensures ok { OnOk result (cert_line_in self.old.n self.old.read bytes.now ≡ Some self.new.read) }
+        ensures no_refusal { OnOk result ((self.old.refusal ≡ None) × (self.new.refusal ≡ None)) }
+        ensures bad_line { self.old.refusal ≡ None →
+            (result ≡ Err CertFault.BadLine) ↔ (cert_line_in self.old.n self.old.read bytes.now ≡ None) }
+    {
+        if let Some(fault) = self.refusal {
+            return Err(fault);
+        }
+        let outcome = match read_line(bytes, self.n) {
+            None => Err(CertFault::BadLine),
+            Some(line) => take(&mut self.camera, &mut self.leaves, &mut self.reasons, line),
+        };
+        if let Err(fault) = outcome {
+            self.refusal = Some(fault);
+        }
+        outcome
+    }
+
+    /// The certificate that was read, or the refusal. Takes no memory.
+    pub fn finish(self) -> Result<Cert, CertFault>
+        ensures value { result ≡ finished self.refusal self.read }
+        ensures leaves { IfOk result (λ c. All (IsAddress self.n) c.leaves) }
+        ensures reasons { IfOk result (λ c. All (λ (r : Reason). IsSplittable self.n r.triangle) c.reasons) }
+    {
+        let CertReader {
+            n: _,
+            camera,
+            leaves,
+            reasons,
+            refusal,
+        } = self;
+        if let Some(fault) = refusal {
+            return Err(fault);
+        }
+        match camera {
+            None => Err(CertFault::BadLine),
+            Some(camera) => Ok(Cert::new(camera, leaves, reasons)),
+        }
+    }
+}
+
+/// Takes a line that may stand behind those before it.
+fn take(
+    camera: &mut Option<Camera>,
+    leaves: &mut Vec<Tri>,
+    reasons: &mut Vec<Reason>,
+    line: CertLine,
+) -> Result<(), CertFault>
+    ensures ok { OnOk result (line_taken (read_so_far camera.old leaves.old.items reasons.old.items) line
+        ≡ Some (read_so_far camera.new leaves.new.items reasons.new.items)) }
+    ensures err { OnErr result (read_so_far camera.new leaves.new.items reasons.new.items
+        ≡ read_so_far camera.old leaves.old.items reasons.old.items) }
+    ensures few { (n : ℕ) → AreFew n leaves.old.items reasons.old.items → IsLineOf n line →
+        AreFew n leaves.new.items reasons.new.items }
+    ensures bad_line { (result ≡ Err CertFault.BadLine)
+        ↔ (line_taken (read_so_far camera.old leaves.old.items reasons.old.items) line ≡ None) }
+{
+    match line {
+        CertLine::CameraLine(seen_from) if camera.is_none() => *camera = Some(seen_from),
+        CertLine::LeafLine(leaf)
+            if camera.is_some() && reasons.is_empty() && leaves.len() < MOST_LEAVES => {
+            push(leaves, leaf)?;
+        }
+        CertLine::ReasonLine(reason) if camera.is_some() && reasons.len() < MOST_REASONS => {
+            push(reasons, reason)?;
+        }
+        _ => return Err(CertFault::BadLine),
+    }
+    Ok(())
+}

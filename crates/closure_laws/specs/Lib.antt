@@ -1,4 +1,0 @@
-pub mod Forcing
-pub mod Frame
-pub mod Order
-pub mod Diamond

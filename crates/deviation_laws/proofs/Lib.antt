@@ -1,3 +1,0 @@
-pub mod DescentLemmas
-pub mod PlaneLemmas
-pub mod ListLemmas

@@ -1,6 +1,0 @@
-pub mod Edge
-pub mod LeafAcross
-pub mod Chain
-pub mod Net
-pub mod Slots
-pub mod Chief

@@ -1,0 +1,9 @@
+use Rattle.engine_tests.proofs.BufferLemmas.{none-goes, one-comes, away}
+use Rattle.engine_tests.proofs.buffer.put.Goals as goal
+
+pub patch-requires-clause-gone : goal.patch-requires-clause-gone
+patch-requires-clause-gone c = none-goes c.args.buffer.now.triangles
+
+pub patch-requires-clause-come : goal.patch-requires-clause-come
+patch-requires-clause-come c = one-comes c.args.buffer.now.triangles c.args.come c.triangles-once.ensures.once
+    (away _ _ c.has.ensures c.if-has.false)

@@ -1,2 +1,0 @@
-pub mod BackLemmas
-pub mod CountLemmas

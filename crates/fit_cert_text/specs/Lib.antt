@@ -1,4 +1,0 @@
-pub mod FitLine
-pub mod FitCertReader
-pub mod FitCertText
-pub mod Laws

@@ -1,6 +1,0 @@
-pub mod LeadLemmas
-pub mod SoundLemmas
-pub mod VerdictLemmas
-pub mod DecisionLemmas
-pub mod MakeLemmas
-pub mod FoundLemmas

@@ -1,0 +1,119 @@
+//! Certificates of fitted meshes that keep points: making one, and the mesh of one.
+
+ghost use Rattle.std.specs.Prelude.{◌≡◌, ℕ, ◌+◌, ◌*◌, ◌^◌, ◌<◌, ◌≤◌, Bool, [], false, List, All, IfOk, IfSome, IfNone, length};
+ghost use Rattle.std.specs.Prelude.{take};
+ghost use Rattle.mesh_defs.specs.declared.point.Point.{Point as PointSeen};
+ghost use Rattle.mesh_defs.specs.Triangle.{level_of};
+ghost use Rattle.mesh_defs.specs.ClosedSet.{IsClosed, IsLeastClosed};
+ghost use Rattle.bintree_laws.specs.Corners.{IsInSquare};
+ghost use Rattle.mesh_laws.specs.Sweep.{is_flagged};
+ghost use Rattle.certificate_laws.specs.declared.limits.TheConstants.{MOST_REASONS};
+ghost use Rattle.certificate_laws.specs.FitCertificate.{LeadsTo, IsFirstBadFit};
+ghost use Rattle.certificate_laws.specs.Keeping.{is_centred, IsKeptSound};
+
+use crate::points::{list_needs, split_centred};
+use crate::replay::replay;
+use crate::settle::settle;
+use address_flags::{end, list_leaves};
+use bintree_addr::{Point, Tri};
+use certificate_laws::{FitCert, KeptCert};
+use mesh_defs::NoMemory;
+use pgm_grid::Grid;
+use std::alloc::Global;
+
+/// A sound certificate of the best mesh for a tolerance that keeps these points of the grid: that of `Fit::frame_with` of
+/// `fit_mesh` for their triangles. A corner of the square is a vertex of each mesh.
+///
+/// Its points are those of the list whose triangles are not split by the points before them.
+/// Cost (not proved): a level for each point; a byte for each splittable triangle, and a few passes over all of them, in
+/// each the error of each leaf; 12 bytes for each reason and eight for each point.
+pub fn make_kept(
+    alloc: Global,
+    grid: &Grid,
+    tolerance: u32,
+    points: &[Point],
+) -> Result<KeptCert, NoMemory>
+    requires inside { All (IsInSquare (2 ^ grid.now.n)) points.now }
+    requires few { length points.now ≤ MOST_REASONS }
+    ensures sound { IfOk result (λ c. (mesh : List ℕ) ×
+        IsKeptSound grid.now.n grid.now.heights points.now tolerance c mesh) }
+    ensures few { IfOk result (λ c. length c.needs ≤ length points.now) }
+{
+    let mut flags = vec![in alloc; false; end(grid.n()) as usize]?;
+    kept_cert_of(alloc, grid, tolerance, points, &mut flags)
+}
+
+/// The same with flags of no triangle.
+fn kept_cert_of(
+    alloc: Global,
+    grid: &Grid,
+    tolerance: u32,
+    points: &[Point],
+    flags: &mut [bool],
+) -> Result<KeptCert, NoMemory>
+    requires inside { All (IsInSquare (2 ^ grid.now.n)) points.now }
+    requires few { length points.now ≤ MOST_REASONS }
+    requires flags { length flags.old ≡ 2 ^ (2 * grid.now.n + 1) }
+    requires empty { (a : ℕ) → is_flagged flags.old a ≡ false }
+    ensures sound { IfOk result (λ c. (mesh : List ℕ) ×
+        IsKeptSound grid.now.n grid.now.heights points.now tolerance c mesh) }
+    ensures few { IfOk result (λ c. length c.needs ≤ length points.now) }
+{
+    let needs = list_needs(alloc, grid.n(), points, flags)?;
+    let needed = settle(alloc, grid, tolerance, flags)?;
+    Ok(KeptCert::new(needs, FitCert::new(tolerance, needed, Vec::new(alloc))))
+}
+
+/// Splits the triangles of a certificate's points and of its reasons before the mesh, with what they force; or the
+/// number of the first reason that is none, counted from 1.
+pub(crate) fn replay_kept(grid: &Grid, cert: &KeptCert, flags: &mut [bool]) -> Option<u32>
+    requires flags { length flags.old ≡ 2 ^ (2 * grid.now.n + 1) }
+    requires empty { (a : ℕ) → is_flagged flags.old a ≡ false }
+    ensures flags { length flags.new ≡ length flags.old }
+    ensures closed { IsClosed grid.now.n (is_flagged flags.new) }
+    ensures all { IfNone result (All (IsInSquare (2 ^ grid.now.n)) cert.now.needs → (start : ℕ → Bool)
+        × IsLeastClosed grid.now.n (is_centred grid.now.n cert.now.needs) start
+        × LeadsTo grid.now.n grid.now.heights cert.now.rest.tolerance start cert.now.rest.needed
+        (is_flagged flags.new)) }
+    ensures bad { IfSome result (λ k. All (IsInSquare (2 ^ grid.now.n)) cert.now.needs → (start : ℕ → Bool)
+        × IsLeastClosed grid.now.n (is_centred grid.now.n cert.now.needs) start
+        × IsFirstBadFit grid.now.n grid.now.heights cert.now.rest.tolerance start cert.now.rest.needed k) }
+    ensures place { IfSome result (λ k. k ≤ MOST_REASONS) }
+{
+    split_centred(grid.n(), cert.needs(), flags);
+    let rest = cert.rest();
+    replay(grid, rest.tolerance(), rest.needed(), flags)
+}
+
+/// The triangles that the points and the reasons before the mesh make, depth first: for a sound certificate its mesh.
+///
+/// Of a certificate that is not sound nothing is said. Cost (not proved): that of `check_kept` for these.
+pub fn mesh_of_kept(alloc: Global, grid: &Grid, cert: &KeptCert) -> Result<Vec<Tri>, NoMemory>
+    ensures mesh { IfOk result (λ v. (points : List PointSeen) (tolerance : ℕ) (mesh : List ℕ) →
+        All (IsInSquare (2 ^ grid.now.n)) points →
+        IsKeptSound grid.now.n grid.now.heights points tolerance cert.now mesh → v.items ≡ mesh) }
+    ensures levels { IfOk result (λ v. All (λ a. level_of a ≤ 2 * grid.now.n) v.items) }
+    ensures few { IfOk result (λ v. length v.items ≤ 2 ^ (2 * grid.now.n + 1)) }
+{
+    let mut flags = vec![in alloc; false; end(grid.n()) as usize]?;
+    let mut room = vec![in alloc; Tri::LOWER; end(grid.n()) as usize]?;
+    let count = list_kept(grid, cert, &mut flags, &mut room);
+    room.truncate(count);
+    Ok(room)
+}
+
+/// Lists them in given room, with flags of no triangle. Answers how many they are.
+fn list_kept(grid: &Grid, cert: &KeptCert, flags: &mut [bool], room: &mut [Tri]) -> usize
+    requires flags { length flags.old ≡ 2 ^ (2 * grid.now.n + 1) }
+    requires room { length room.old ≡ 2 ^ (2 * grid.now.n + 1) }
+    requires empty { (a : ℕ) → is_flagged flags.old a ≡ false }
+    ensures mesh { (points : List PointSeen) (tolerance : ℕ) (mesh : List ℕ) →
+        All (IsInSquare (2 ^ grid.now.n)) points →
+        IsKeptSound grid.now.n grid.now.heights points tolerance cert.now mesh → take result room.new ≡ mesh }
+    ensures levels { All (λ a. level_of a ≤ 2 * grid.now.n) (take result room.new) }
+    ensures within { result ≤ length room.new }
+    ensures room { length room.new ≡ length room.old }
+{
+    let _bad = replay_kept(grid, cert, flags);
+    list_leaves(flags, grid.n(), room)
+}

@@ -1,0 +1,1 @@
+-- One place more; and at the end all.

@@ -1,6 +1,0 @@
-pub mod Lead
-pub mod Steps
-pub mod Deferred
-pub mod Keys
-pub mod Stamps
-pub mod Table

@@ -1,5 +1,0 @@
-use Rattle.mesh_defs.specs.Triangle.{level_of}
-use Rattle.leaf_list.proofs.marks.+mark.Given as goal
-
-abbrev pub decreases-mark : goal.decreases-mark
-decreases-mark l = level_of l.t

@@ -1,8 +1,0 @@
-use Rattle.std.proofs.Common.{arith}
-use Rattle.leaf_list.proofs.OrderLemmas.{shifted_end}
-use Rattle.leaf_list.proofs.order.end.Goals as goal
-
-pub returns : goal.returns
-returns c =
-    shifted_end c.args.t c.number.result c.level.result (omega arith)
-    (omega arith) c.number.ensures.value c.level.ensures.value

@@ -1,4 +1,0 @@
-use Rattle.leaf_list.proofs.patch.+put_under.Given as goal
-
-abbrev pub decreases-put_under : goal.decreases-put_under
-decreases-put_under l = l.levels

@@ -1,3 +1,0 @@
-pub mod FlagLemmas
-pub mod LeastLemmas
-pub mod SweepLemmas

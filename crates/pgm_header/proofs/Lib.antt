@@ -1,5 +1,0 @@
-pub mod ReadingLemmas
-pub mod MachineLemmas
-pub mod AcceptedLemmas
-pub mod LawLemmas
-pub mod WrittenLemmas

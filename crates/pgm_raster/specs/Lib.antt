@@ -1,4 +1,0 @@
-pub mod RasterText
-pub mod Progress
-pub mod Laws
-pub mod Stage

@@ -1,0 +1,15 @@
+//! What a handle may own.
+
+use frame_loop::Engine;
+use roam_embed::{Fitter, Mosaic};
+
+/// What a handle owns.
+#[derive(Drop)]
+pub enum Kept {
+    /// An engine.
+    Engine(Engine),
+    /// The heights of a grid and a mesh of them.
+    Fitter(Fitter),
+    /// The bookkeeping of a terrain of tiles.
+    Mosaic(Mosaic),
+}

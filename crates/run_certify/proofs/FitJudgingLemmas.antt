@@ -1,0 +1,184 @@
+-- A certificate of a fitted mesh and a mesh are judged: what the calls of a check come to.
+use Rattle.std.proofs.Common.{◌≡◌, ◌≢◌, ℕ, ◌+◌, ◌≤◌, inl, inr, List, [], Some, None, Result, Ok, Err, IfOk, take}
+use Rattle.std.proofs.Common.{slice_get, refl}
+use Rattle.std.proofs.Common.{sym, ◌∙◌, ap, subst, arith}
+use Rattle.mesh_defs.specs.HeightField.{HeightField}
+use Rattle.roam_edge.specs.Shelf.{NamedFile, bytes_of}
+use Rattle.pgm_grid.specs.Progress.{grid_of}
+use Rattle.certificate_laws.specs.declared.fit_reason.FitVerdict.TheVariants as verdict
+use Rattle.certificate_laws.specs.FitCertificate.{FitCertificate}
+use Rattle.run_laws.specs.declared.status.Status.{Status}
+use Rattle.run_laws.specs.declared.status.Status.TheVariants.{Done, NoMemory, ReadFault}
+use Rattle.run_words.specs.Words.{Checking, Check, FitChecking, CheckFit, OnGrid}
+use Rattle.run_laws.specs.Act.{Told}
+use Rattle.run_laws.specs.Fit.{fit_text}
+use Rattle.run_laws.specs.ReportText.{certified_fit_line}
+use Rattle.run_laws.specs.Outcome.{Outcome, IsCompared, IsFitVerdictOutcome}
+use Rattle.run_laws.specs.Promise.{Seen, HasEnded, CommandNoMemory}
+use Rattle.run_laws.specs.Moment.{Moment}
+use Rattle.run_laws.specs.Leaving.{Runs, HasOpened, HasFailed, ReadsGrid, TellsLast, MeshHasRead}
+use Rattle.run_laws.proofs.ActLemmas.{stands-nothing}
+use Rattle.run_laws.proofs.GridLemmas.{file-fault, same-name}
+use Rattle.run_laws.proofs.RunLemmas.{read-failed, memory-spent, opens-then, fails-then, certified-runs, rejected-runs}
+use Rattle.run_laws.proofs.RunLemmas.{tells-as}
+use Rattle.run_certify.specs.declared.fit_verdict_report.Judgement.{Judgement}
+use Rattle.run_certify.specs.declared.fit_verdict_report.Judgement.TheVariants.{Certified, Rejected, BadLine, MeshDiffers}
+use Rattle.run_certify.specs.FitJudging.{fit_judged_text, fit_judged_status, fit_mesh_opens, judged_outcome}
+use Rattle.run_certify.specs.FitJudging.{IsFitJudged, IsFaultlessFitFile, IsSoundAs, FailsBehind}
+use Rattle.run_certify.specs.FitJudging.{FitJudgesNoMemory, FitJudgesFault}
+
+-- The triangles are those of a certificate without a fault, of so many that are off by so much.
+module _ (grid : HeightField) (faultless : List ℕ → Type 0) (count deviation : ℕ) (triangles : List ℕ)
+    (sound : IsSoundAs grid faultless count deviation)
+    (made : (mesh : List ℕ) → faultless mesh → triangles ≡ mesh) where
+  mesh-is : triangles ≡ sound.0
+  mesh-is = made sound.0 sound.1
+
+  -- what comparing a file with their text comes to is what the certificate leads to
+  pub verdict-judged : (files spacing : ℕ) (bytes : List ℕ) (end : Outcome) →
+      IsCompared (files + 1) bytes (fit_text spacing grid triangles) (certified_fit_line grid.n count deviation) end
+      → IsFitVerdictOutcome files spacing grid sound.0 bytes (verdict.Certified count deviation) end
+  verdict-judged files spacing bytes end compared =
+      subst (λ (l : List ℕ). IsCompared (files + 1) bytes (fit_text spacing grid l)
+      (certified_fit_line grid.n count deviation) end) mesh-is compared
+
+  -- a read of the file failed
+  pub fails-behind : (name : List ℕ) (spacing : ℕ) (before now : Moment) →
+      HasFailed before now 1 name (MeshHasRead (fit_text spacing grid triangles))
+      → FailsBehind name spacing grid faultless before now
+  fails-behind name spacing before now failed = (
+    sound.0,
+    sound.1,
+    subst (λ (l : List ℕ). HasFailed before now 1 name (MeshHasRead (fit_text spacing grid l))) mesh-is failed,
+  )
+
+-- what holds of a judgement, from what else does
+pub if-judged : {E : Type 0} (P Q : Judgement → Type 0) → ((judgement : Judgement) → P judgement → Q judgement)
+    → (r : Result Judgement E) → IfOk r P → IfOk r Q
+if-judged P Q goes (Ok judgement) is = goes judgement is
+if-judged P Q goes (Err stop) is = tt
+
+-- the file has the text of the mesh
+pub same-judged : (files n count deviation : ℕ) (mesh bytes : List ℕ) → mesh ≡ bytes
+    → IsCompared (files + 1) bytes mesh (certified_fit_line n count deviation)
+    (judged_outcome files n (Certified count deviation))
+same-judged files n count deviation mesh bytes same = inl (sym same, refl)
+
+-- the file differs from it first at this place
+pub differs-judged : (files n : ℕ) (mesh bytes line : List ℕ) (place : ℕ) → take place mesh ≡ take place bytes
+    → slice_get mesh place ≢ slice_get bytes place
+    → IsCompared (files + 1) bytes mesh line (judged_outcome files n (MeshDiffers place))
+differs-judged files n mesh bytes line place same differ =
+    inr (place, record { same = sym same; differ = λ e. differ (sym e) }, refl)
+
+-- commands that check are the same
+same-check : (name other : List ℕ) (c check : FitChecking) →
+    OnGrid name (CheckFit c) ≡ OnGrid other (CheckFit check) → c ≡ check
+same-check name other c check e = cc
+
+-- and none is a check of a mesh by a camera
+not-view : (name other : List ℕ) (c : FitChecking) (check : Checking) →
+    OnGrid name (CheckFit c) ≡ OnGrid other (Check check) → ⊥
+not-view name other c check e = cc
+
+-- the grid of one is that of the other
+same-found : (name other : List ℕ) (c check : FitChecking) (grid : HeightField) (files : List NamedFile)
+    → OnGrid name (CheckFit c) ≡ OnGrid other (CheckFit check)
+    → grid_of (bytes_of files name) ≡ Ok grid → grid_of (bytes_of files other) ≡ Ok grid
+same-found name other c check grid files e found =
+    let P : List ℕ → Type 0 = λ l. grid_of (bytes_of files l) ≡ Ok grid in
+    subst P (same-name name other (CheckFit c) (CheckFit check) e) found
+
+-- memory ran out behind the grid, with so many files opened
+behind-memory : (before : Told) (old new : Seen) (name : List ℕ) (c : FitChecking) (grid : HeightField) (count : ℕ)
+    → new.opens ≡ old.opens + count → 2 ≤ count → count ≤ 3
+    → ((files : List NamedFile) → old.files ≡ Some files → grid_of (bytes_of files name) ≡ Ok grid)
+    → (3 ≤ count → (files : List NamedFile) → old.files ≡ Some files → IsFaultlessFitFile c grid files)
+    → CommandNoMemory before before old new (OnGrid name (CheckFit c))
+behind-memory before old new name c grid count opens low high found faultless = record {
+  opened = count;
+  count = opens;
+  least = λ some. omega (arith, low);
+  most = high;
+  stands = stands-nothing before;
+  header = λ other job files e told one. absurd (omega (arith, one, low));
+  in_order = λ other check files e told two. absurd (not-view name other c check e);
+  fit_in_order = λ other check files e told two. (
+    grid,
+    same-found name other c check grid files e (found files told),
+    λ three. (let P : FitChecking → Type 0 = λ d. IsFaultlessFitFile d grid files in
+        subst P (same-check name other c check e) (faultless three files told)),
+  );
+  kept_make_in_order = λ other making files e told two. cc;
+  kept_in_order = λ other check files e told two. cc;
+}
+
+module _ (before middle now : Moment) (name : List ℕ) (c : FitChecking) (grid : HeightField)
+    (read : ReadsGrid before middle name grid) where
+  -- memory ran out behind the grid
+  pub check-memory : FitJudgesNoMemory c grid middle now →
+      Runs before now (Some (OnGrid name (CheckFit c))) NoMemory None
+  check-memory (inl one) =
+      let opened = opens-then before middle now 1 1 read.opened one in
+      memory-spent before now name (CheckFit c) 2 opened
+      (behind-memory _ _ _ name c grid 2 opened.opens (omega arith) (omega arith) read.is_grid
+      (λ three. absurd (omega (arith, three))))
+  check-memory (inr (two, faultless)) =
+      let opened = opens-then before middle now 1 2 read.opened two in
+      memory-spent before now name (CheckFit c) 3 opened
+      (behind-memory _ _ _ name c grid 3 opened.opens (omega arith) (omega arith) read.is_grid
+      (λ three files told. faultless files (read.opened.only.files ∙ told)))
+
+  -- a read failed behind the grid
+  pub check-fault : FitJudgesFault c grid middle now → Runs before now (Some (OnGrid name (CheckFit c))) ReadFault None
+  check-fault (inl one) =
+      let failed = fails-then before middle now 1 1 c.certificate _ read.opened one in
+      read-failed before now name (CheckFit c) 2 c.certificate _ failed (omega arith) (omega arith)
+      (record {
+        file = 1;
+        opened = failed.opens;
+        before_script = λ scripted. stands-nothing before.sinks;
+        at_file = λ files told.
+            let at = failed.stops files told in
+            file-fault _ _ now.shelf (OnGrid name (CheckFit c)) files 1 c.certificate [] _ at refl
+            (grid, read.is_grid files told, (at.has_read, refl)) (stands-nothing before.sinks);
+      })
+  check-fault (inr (cert, triangles, is, faultless, two)) =
+      let failed = fails-then before middle now 1 2 c.mesh _ read.opened two in
+      read-failed before now name (CheckFit c) 3 c.mesh _ failed (omega arith) (omega arith)
+      (record {
+        file = 2;
+        opened = failed.opens;
+        before_script = λ scripted. stands-nothing before.sinks;
+        at_file = λ files told.
+            let at = failed.stops files told in
+            file-fault _ _ now.shelf (OnGrid name (CheckFit c)) files 2 c.mesh [] _ at refl (
+              grid,
+              read.is_grid files told,
+              ((cert, triangles, is files (read.opened.only.files ∙ told), faultless, at.has_read), refl),
+            )
+            (stands-nothing before.sinks);
+      })
+
+module _ (before middle last now : Moment) (name : List ℕ) (c : FitChecking) (grid : HeightField)
+    (text : List ℕ) (meant status : Status)
+    (read : ReadsGrid before middle name grid) where
+  -- the line of a judgement ends a check
+  pub check-runs : (judgement : Judgement) → HasOpened middle last (1 + fit_mesh_opens judgement)
+      → (fit_judged_status judgement ≡ Done → HasEnded last.shelf)
+      → ((files : List NamedFile) → middle.shelf.files ≡ Some files → IsFitJudged c grid files judgement)
+      → text ≡ fit_judged_text grid.n judgement → meant ≡ fit_judged_status judgement →
+      TellsLast last now text meant status
+      → Runs before now (Some (OnGrid name (CheckFit c))) status None
+  check-runs (Certified triangles deviation) opened ended judged is_text is_end tells =
+      certified-runs before middle last now name (CheckFit c) grid 2 status read opened _ refl (ended refl) refl judged
+      (tells-as is_text is_end tells)
+  check-runs (Rejected why) opened ended judged is_text is_end tells =
+      rejected-runs before middle last now name (CheckFit c) grid 1 status read opened _
+      (omega arith) (omega arith) refl refl judged (tells-as is_text is_end tells)
+  check-runs (BadLine line) opened ended judged is_text is_end tells =
+      rejected-runs before middle last now name (CheckFit c) grid 1 status read opened _
+      (omega arith) (omega arith) refl refl judged (tells-as is_text is_end tells)
+  check-runs (MeshDiffers place) opened ended judged is_text is_end tells =
+      rejected-runs before middle last now name (CheckFit c) grid 2 status read opened _
+      (omega arith) (omega arith) refl refl judged (tells-as is_text is_end tells)

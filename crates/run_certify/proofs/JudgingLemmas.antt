@@ -1,0 +1,160 @@
+-- A certificate and a mesh are judged: what the calls of a check come to.
+use Rattle.std.proofs.Common.{◌≡◌, ℕ, ◌+◌, ◌*◌, ◌≤◌, inl, inr, List, [], ◌∷◌, Some, None, Ok, All, false, refl, ◌∙◌}
+use Rattle.std.proofs.Common.{subst, arith}
+use Rattle.std.specs.List.{AllByRecursion}
+use Rattle.std.proofs.lemmas.List.Elements.{recursion_from_All, All-from_recursion}
+use Rattle.mesh_defs.specs.HeightField.{HeightField}
+use Rattle.mesh_defs.specs.Triangle.{level_of, IsAddress}
+use Rattle.bintree_laws.proofs.LevelLemmas.{level-le}
+use Rattle.roam_edge.specs.Shelf.{NamedFile, bytes_of}
+use Rattle.pgm_grid.specs.Progress.{grid_of}
+use Rattle.certificate_laws.specs.declared.reason.Reject.{Reject}
+use Rattle.certificate_laws.specs.declared.reason.Reject.TheVariants.{BadLine, NotConforming, OverBudget, BadReason}
+use Rattle.certificate_laws.specs.declared.reason.Reject.TheVariants.{TooFewReasons, MeshDiffers}
+use Rattle.run_laws.specs.declared.status.Status.{Status}
+use Rattle.run_laws.specs.declared.status.Status.TheVariants.{Done, NoMemory, ReadFault}
+use Rattle.run_laws.specs.declared.status.Status.TheVariants as ends
+use Rattle.run_words.specs.Words.{Checking, Check, FitChecking, CheckFit, OnGrid}
+use Rattle.run_laws.specs.Act.{Told}
+use Rattle.run_laws.specs.ReportText.{rejection}
+use Rattle.run_laws.specs.Outcome.{text_outcome, IsJobOutcome}
+use Rattle.run_laws.specs.Promise.{Seen, HasEnded, CommandNoMemory}
+use Rattle.run_laws.specs.Moment.{Moment}
+use Rattle.run_laws.specs.Leaving.{Runs, HasOpened, ReadsGrid, TellsLast}
+use Rattle.run_laws.proofs.ActLemmas.{stands-nothing}
+use Rattle.run_laws.proofs.GridLemmas.{file-fault, same-name}
+use Rattle.run_laws.proofs.RunLemmas.{read-failed, memory-spent, opens-then, fails-then, certified-runs, rejected-runs}
+use Rattle.run_laws.proofs.RunLemmas.{tells-as}
+use Rattle.run_certify.specs.declared.verdict_report.Judgement.{Judgement}
+use Rattle.run_certify.specs.declared.verdict_report.Judgement.TheVariants.{Certified, Rejected}
+use Rattle.run_certify.specs.Judging.{judged_text, judged_status, mesh_opens, IsJudged, IsFaultlessFile, JudgesNoMemory}
+use Rattle.run_certify.specs.Judging.{JudgesFault}
+
+-- triangles of the grid have levels of the grid
+levels-recursion : (n : ℕ) (leaves : List ℕ) → AllByRecursion (IsAddress n) leaves →
+    AllByRecursion (λ a. level_of a ≤ 2 * n) leaves
+levels-recursion n [] are = tt
+levels-recursion n (a ∷ leaves) are = (level-le n a are.0, levels-recursion n leaves are.1)
+
+pub leaf-levels : (n : ℕ) (leaves : List ℕ) → All (IsAddress n) leaves → All (λ a. level_of a ≤ 2 * n) leaves
+leaf-levels n leaves are =
+    All-from_recursion (λ a. level_of a ≤ 2 * n) leaves
+    (levels-recursion n leaves (recursion_from_All (IsAddress n) leaves are))
+
+-- commands that check are the same
+same-check : (name other : List ℕ) (c check : Checking) → OnGrid name (Check c) ≡ OnGrid other (Check check) → c ≡ check
+same-check name other c check e = cc
+
+-- and none is a check of a fitted mesh
+not-fit : (name other : List ℕ) (c : Checking) (check : FitChecking) →
+    OnGrid name (Check c) ≡ OnGrid other (CheckFit check) → ⊥
+not-fit name other c check e = cc
+
+-- the grid of one is that of the other
+same-found : (name other : List ℕ) (c check : Checking) (grid : HeightField) (files : List NamedFile)
+    → OnGrid name (Check c) ≡ OnGrid other (Check check)
+    → grid_of (bytes_of files name) ≡ Ok grid → grid_of (bytes_of files other) ≡ Ok grid
+same-found name other c check grid files e found =
+    let P : List ℕ → Type 0 = λ l. grid_of (bytes_of files l) ≡ Ok grid in
+    subst P (same-name name other (Check c) (Check check) e) found
+
+-- memory ran out behind the grid, with so many files opened
+behind-memory : (before : Told) (old new : Seen) (name : List ℕ) (c : Checking) (grid : HeightField) (count : ℕ)
+    → new.opens ≡ old.opens + count → 2 ≤ count → count ≤ 3
+    → ((files : List NamedFile) → old.files ≡ Some files → grid_of (bytes_of files name) ≡ Ok grid)
+    → (3 ≤ count → (files : List NamedFile) → old.files ≡ Some files → IsFaultlessFile c grid files)
+    → CommandNoMemory before before old new (OnGrid name (Check c))
+behind-memory before old new name c grid count opens low high found faultless = record {
+  opened = count;
+  count = opens;
+  least = λ some. omega (arith, low);
+  most = high;
+  stands = stands-nothing before;
+  header = λ other job files e told one. absurd (omega (arith, one, low));
+  in_order = λ other check files e told two. (
+    grid,
+    same-found name other c check grid files e (found files told),
+    λ three. (let P : Checking → Type 0 = λ d. IsFaultlessFile d grid files in
+        subst P (same-check name other c check e) (faultless three files told)),
+  );
+  fit_in_order = λ other check files e told two. absurd (not-fit name other c check e);
+  kept_make_in_order = λ other making files e told two. cc;
+  kept_in_order = λ other check files e told two. cc;
+}
+
+module _ (before middle now : Moment) (name : List ℕ) (c : Checking) (grid : HeightField)
+    (read : ReadsGrid before middle name grid) where
+  -- memory ran out behind the grid
+  pub check-memory : JudgesNoMemory c grid middle now → Runs before now (Some (OnGrid name (Check c))) NoMemory None
+  check-memory (inl one) =
+      let opened = opens-then before middle now 1 1 read.opened one in
+      memory-spent before now name (Check c) 2 opened
+      (behind-memory _ _ _ name c grid 2 opened.opens (omega arith) (omega arith) read.is_grid
+      (λ three. absurd (omega (arith, three))))
+  check-memory (inr (two, faultless)) =
+      let opened = opens-then before middle now 1 2 read.opened two in
+      memory-spent before now name (Check c) 3 opened
+      (behind-memory _ _ _ name c grid 3 opened.opens (omega arith) (omega arith) read.is_grid
+      (λ three files told. faultless files (read.opened.only.files ∙ told)))
+
+  -- a read failed behind the grid
+  pub check-fault : JudgesFault c grid middle now → Runs before now (Some (OnGrid name (Check c))) ReadFault None
+  check-fault (inl one) =
+      let failed = fails-then before middle now 1 1 c.certificate _ read.opened one in
+      read-failed before now name (Check c) 2 c.certificate _ failed (omega arith) (omega arith)
+      (record {
+        file = 1;
+        opened = failed.opens;
+        before_script = λ scripted. stands-nothing before.sinks;
+        at_file = λ files told.
+            let at = failed.stops files told in
+            file-fault _ _ now.shelf (OnGrid name (Check c)) files 1 c.certificate [] _ at refl
+            (grid, read.is_grid files told, (at.has_read, refl)) (stands-nothing before.sinks);
+      })
+  check-fault (inr (cert, is, faultless, two)) =
+      let failed = fails-then before middle now 1 2 c.mesh _ read.opened two in
+      read-failed before now name (Check c) 3 c.mesh _ failed (omega arith) (omega arith)
+      (record {
+        file = 2;
+        opened = failed.opens;
+        before_script = λ scripted. stands-nothing before.sinks;
+        at_file = λ files told.
+            let at = failed.stops files told in
+            file-fault _ _ now.shelf (OnGrid name (Check c)) files 2 c.mesh [] _ at refl (
+              grid,
+              read.is_grid files told,
+              ((cert, is files (read.opened.only.files ∙ told), faultless, at.has_read), refl),
+            )
+            (stands-nothing before.sinks);
+      })
+
+module _ (before middle last now : Moment) (name : List ℕ) (c : Checking) (grid : HeightField)
+    (text : List ℕ) (meant status : Status)
+    (read : ReadsGrid before middle name grid) where
+  -- the line of a judgement ends a check
+  pub check-runs : (judgement : Judgement) → HasOpened middle last (1 + mesh_opens judgement)
+      → (judged_status judgement ≡ Done → HasEnded last.shelf)
+      → ((files : List NamedFile) → middle.shelf.files ≡ Some files → IsJudged c grid files judgement)
+      → text ≡ judged_text judgement → meant ≡ judged_status judgement → TellsLast last now text meant status
+      → Runs before now (Some (OnGrid name (Check c))) status None
+  check-runs (Certified camera triangles worst) opened ended judged is_text is_end tells =
+      certified-runs before middle last now name (Check c) grid 2 status read opened _ refl (ended refl) refl judged
+      (tells-as is_text is_end tells)
+  check-runs (Rejected why) opened ended judged is_text is_end tells =
+      rejected-runs before middle last now name (Check c) grid
+      (1 + mesh_opens (Rejected why)) status read opened _
+      (omega arith) (let most = two-most why in omega (arith, most)) refl refl
+      (λ files told. subst (λ (k : ℕ). IsJobOutcome (Check c) grid files (text_outcome (rejection why) ends.Rejected k))
+      (one-more (mesh_opens (Rejected why))) (judged files told))
+      (tells-as is_text is_end tells)
+    where
+      one-more : (k : ℕ) → 2 + k ≡ 1 + (1 + k)
+      one-more k = omega arith
+
+      two-most : (why : Reject) → 1 + mesh_opens (Rejected why) ≤ 2
+      two-most (BadLine line) = omega arith
+      two-most NotConforming = omega arith
+      two-most OverBudget = omega arith
+      two-most (BadReason index) = omega arith
+      two-most TooFewReasons = omega arith
+      two-most (MeshDiffers place) = omega arith

@@ -1,0 +1,28 @@
+use Rattle.std.proofs.Common.{Err, ◌∙◌, ap}
+use Rattle.run_words.specs.Words.{CheckFit}
+use Rattle.run_words.specs.FitView.{fit_checking_seen}
+use Rattle.run_certify.specs.FitJudging.{fit_judged_text}
+use Rattle.run_certify.proofs.FitJudgingLemmas.{check-runs, check-memory, check-fault}
+use Rattle.run_certify.proofs.fit_checking.run_fit_check.Goals as goal
+
+pub returns-in-Ok-judge-clause-runs : goal.returns-in-Ok-judge-clause-runs
+returns-in-Ok-judge-clause-runs g c =
+    let j = c.in-Ok-judge.judgement in
+    check-runs _ _ _ _ _ (fit_checking_seen c.args.words.now) c.in-Ok.grid c.as_slice.result.now c.status.result _
+    c.in-Ok.ensures.ok j c.in-Ok-judge.ensures.opened c.in-Ok-judge.ensures.ended c.in-Ok-judge.ensures.ok
+    (c.as_slice.ensures.value ∙ c.judgement_report.ensures
+    ∙ ap (λ k. fit_judged_text k j) c.n.ensures.value) c.status.ensures
+    c.end_with_text.ensures.tells
+
+pub returns-in-Err-NoMemory-clause-runs : goal.returns-in-Err-NoMemory-clause-runs
+returns-in-Err-NoMemory-clause-runs g c =
+    check-memory _ _ _ _ (fit_checking_seen c.args.words.now) c.in-Ok.grid c.in-Ok.ensures.ok
+    (c.in-Err-NoMemory.ensures.no_memory (ap Err c.in-Err-NoMemory.field-0-is))
+
+pub returns-in-Ok-clause-runs : goal.returns-in-Ok-clause-runs
+returns-in-Ok-clause-runs g c =
+    check-fault _ _ _ _ (fit_checking_seen c.args.words.now) c.in-Ok.grid c.in-Ok.ensures.ok
+    (c.in-Err-Failed.ensures.failed (ap Err c.in-Err-Failed.field-0-is))
+
+pub returns-clause-runs : goal.returns-clause-runs
+returns-clause-runs g c = c.in-Err.ensures.err (CheckFit (fit_checking_seen c.args.words.now))

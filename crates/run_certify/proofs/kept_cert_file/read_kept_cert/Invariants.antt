@@ -1,0 +1,30 @@
+use Rattle.std.proofs.Common.{◌≡◌, ◌+◌, ◌-◌, ◌*◌, false, length}
+use Rattle.roam_edge.specs.Fault.{next_count, IsInTime}
+use Rattle.roam_script.specs.declared.limits.TheConstants.{MOST_LINE_BYTES}
+use Rattle.certificate_laws.specs.declared.limits.TheConstants.{MOST_REASONS}
+use Rattle.run_laws.specs.Moment.{OnlyReads}
+use Rattle.run_certify.specs.KeptCertStage.{IsKeptStageCounted}
+use Rattle.run_certify.proofs.KeptCertStageLemmas.{IsReadingCert}
+use Rattle.run_certify.proofs.kept_cert_file.read_kept_cert.Given as goal
+
+-- the bytes that were read were taken, and the shelf has not failed
+abbrev pub invariant-pieces : goal.invariant-pieces
+invariant-pieces g l = record {
+  reading : IsReadingCert l.n (g.O.Outside.moment l.fn.outside).shelf.files
+      (g.O.Outside.moment l.outside).shelf.rest l.name l.stage;
+  level : l.stage.reader.rest.n ≡ l.n;
+  counted : IsKeptStageCounted l.stage;
+  open_file : (g.O.Outside.moment l.outside).shelf.ended ≡ false;
+  same : g.O.Outside.is_same l.fn.outside l.outside;
+  only : OnlyReads (g.O.Outside.moment l.fn.outside) (g.O.Outside.moment l.outside);
+  opens : (g.O.Outside.moment l.outside).shelf.opens ≡ next_count (g.O.Outside.moment l.fn.outside).shelf.opens;
+  faults : (g.O.Outside.moment l.outside).shelf_faults ≡ (g.O.Outside.moment l.fn.outside).shelf_faults;
+  in_time : IsInTime (g.O.Outside.moment l.fn.outside).shelf_late (g.O.Outside.moment l.fn.outside).shelf_faults
+      (g.O.Outside.moment l.outside).shelf_late;
+}
+
+-- each byte makes a line longer, or is the last of an accepted line
+abbrev pub decreases-pieces : goal.decreases-pieces
+decreases-pieces g l =
+    (MOST_LINE_BYTES + 1) * (3 + MOST_REASONS + MOST_REASONS + MOST_REASONS)
+    - ((MOST_LINE_BYTES + 1) * l.stage.lines + length l.stage.part.items)

@@ -1,3 +1,0 @@
-pub mod FittedLemmas
-mod KeptLemmas
-pub mod TextLemmas

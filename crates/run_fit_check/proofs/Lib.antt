@@ -1,3 +1,0 @@
-pub mod FitCertStageLemmas
-pub mod FitJudgingLemmas
-pub mod TextLemmas

@@ -1,2 +1,0 @@
-pub mod FitCertStage
-pub mod FitJudging

@@ -1,0 +1,4 @@
+pub mod LeastSeen
+pub mod StageView
+pub mod Taking
+pub mod FittedSeen

@@ -1,4 +1,0 @@
-pub mod Form
-pub mod Opened
-pub mod Prefix
-pub mod Watching

@@ -1,4 +1,0 @@
-pub mod StageLemmas
-pub mod LeastLemmas
-pub mod EndLemmas
-pub mod OnlyLemmas

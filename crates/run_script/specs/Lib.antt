@@ -1,3 +1,0 @@
-pub mod LeastSeen
-pub mod StageView
-pub mod Taking

@@ -1,6 +1,0 @@
-pub mod OrderLemmas
-pub mod EdgeLemmas
-pub mod StripLemmas
-pub mod TurnLemmas
-pub mod ExclusiveLemmas
-pub mod ExampleLemmas

@@ -1,2 +1,0 @@
-pub mod Strip
-pub mod Turn

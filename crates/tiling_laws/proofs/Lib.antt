@@ -1,8 +1,0 @@
-pub mod WayLemmas
-pub mod TurnLemmas
-pub mod BaseLemmas
-pub mod DescentLemmas
-pub mod OrientationLemmas
-pub mod ConformityLemmas
-pub mod ConverseLemmas
-pub mod PermutedLemmas

@@ -1,2 +1,0 @@
-pub mod VertexLemmas
-pub mod WeightedLemmas
