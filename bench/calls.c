@@ -31,7 +31,7 @@ struct block rattle_realloc(void *at, size_t size, size_t next, size_t align) {
 }
 void rattle_dealloc(void *at) { held -= malloc_usable_size(at), free(at); }
 
-/* The grid of `roam try N 1`, as docs/FORMATS.md has it. */
+/* The grid of `roam try N 1`, as docs/REFERENCE.md has it. */
 static uint64_t mixed(uint64_t z) { return z * 6364136223846793005u + (z >> 32) * (z & 0xFFFFFFFFu) + 1442695040888963407u; }
 static uint64_t lattice(unsigned octave, uint64_t i, uint64_t j) { return mixed(mixed(mixed(mixed(1) + octave) + i) + j); }
 static uint64_t point(unsigned octave, uint64_t i, uint64_t j) { return mixed(lattice(octave, i, j)) >> 48; }

@@ -34,8 +34,10 @@ enum roam_answer {
     ROAM_BAD_CHANGE = 9,      /* dz beyond -65535 .. 65535 */
     ROAM_WORN = 10,           /* 1000000 frames were made: call roam_renew; or, for good, the camera's way or the counts are at their end */
     ROAM_NO_ROOM = 11,        /* the array has too few places */
-    ROAM_IS_EMPTY = 12,       /* the handle has no engine */
-    ROAM_BAD_TOLERANCE = 13   /* a tolerance above 65535999 thousandths */
+    ROAM_IS_EMPTY = 12,       /* the handle is empty */
+    ROAM_BAD_TOLERANCE = 13,  /* a tolerance above 65535999 thousandths, or not one for each height */
+    ROAM_BAD_MESH = 14,       /* the addresses are not those of a conforming mesh of the grid, depth first */
+    ROAM_SHRUNK = 15          /* the tile had a border point that is not among these */
 };
 
 /* Owns an engine, or is empty. The fields are the library's. A handle that nobody has written is nearly always taken as an empty
@@ -172,6 +174,109 @@ void roam_changes(const uint32_t *before, size_t befores, const uint32_t *after,
                   uint32_t *come, size_t come_room, roam_changes_note *out);
 
 int32_t roam_state(roam_handle *h, roam_state_note *out);
+
+/* Fitters. A fitter owns the heights of one grid and a mesh of it; it has no engine, no camera and no budget. It is for meshes for a
+ * tolerance that have to have points of the caller's as vertices: summits, roads, and what a neighbouring tile has on a common side
+ * (two tiles of one size that have the same vertices there meet without a crack). Rules and form are those of roam_handle; each
+ * function takes a handle of another kind as an empty one.
+ *
+ * In these calls `required` has places in the array of heights, any of them, in any order and as often as you like; a corner of the
+ * grid is a vertex of every mesh. Where `tolerance_count` is 0, `thousandths` (of a unit of height) is the tolerance of all points.
+ * Else it is the count of the heights, each point has its own tolerance in `tolerances`, `thousandths` is not looked at, and
+ * 0xFFFFFFFF says of a point that it does not count: no data, sea, outside of an area. */
+typedef struct roam_fitter {
+    uint64_t mark;
+    void *at;
+} roam_fitter;
+
+/* Copies the heights, rows from the far side as roam_open takes them. The mesh is the two halves of the square. All memory of a
+ * fitter is taken here, 6 bytes a point for heights, required points and tolerances, 2 for the triangles that may be split, and 16
+ * a point that are written as far as the mesh needs them, 8 for each triangle. ROAM_BAD_GRID, ROAM_NO_MEMORY. A full handle lets go
+ * of what it had, unless the call fails. */
+int32_t roam_fitter_open(roam_fitter *f, const uint16_t *heights, size_t count);
+int32_t roam_fitter_close(roam_fitter *f);
+
+/* The mesh of the fewest triangles within the tolerance in which each required point is a vertex becomes the mesh; writes how many
+ * triangles it has. Nothing is measured: roam_fitter_deviation does that. ROAM_OUTSIDE_GRID: a place that is no height's.
+ * ROAM_BAD_TOLERANCE: one above 65535999 (and not 0xFFFFFFFF, where each point has its own), or a `tolerance_count` that is
+ * neither 0 nor the count of the heights. */
+int32_t roam_fitter_fit(roam_fitter *f, uint32_t thousandths, const uint32_t *tolerances, size_t tolerance_count,
+                        const uint32_t *required, size_t required_count, uint32_t *triangles);
+
+/* The same, going on from the mesh that is there: what it splits stays split. Where that was the answer of roam_fitter_fit or of this
+ * call for the same tolerances, or the same mesh restored, it is the mesh of roam_fitter_fit for all that was required in these
+ * calls. Costs what is newly split, and a walk over the mesh. */
+int32_t roam_fitter_more(roam_fitter *f, uint32_t thousandths, const uint32_t *tolerances, size_t tolerance_count,
+                         const uint32_t *required, size_t required_count, uint32_t *triangles);
+
+/* As roam_indices and roam_leaves, of the fitter's mesh; 3 and 1 times the triangles that were written always suffice. */
+int32_t roam_fitter_indices(roam_fitter *f, uint32_t *out, size_t places, size_t *triangles);
+int32_t roam_fitter_leaves(roam_fitter *f, uint32_t *out, size_t places, size_t *triangles);
+
+/* Writes the vertices of the mesh on the border of the grid but for its four corners, as places in the array of heights, in rising
+ * order, and how many they are. 4 (side - 2) places always suffice. */
+int32_t roam_fitter_border(roam_fitter *f, uint32_t *out, size_t places, size_t *count);
+
+/* Tells how far the heights are from the mesh at a grid point, at most, exactly, over all points, those that do not count too. Costs
+ * a step a grid point. */
+int32_t roam_fitter_deviation(roam_fitter *f, roam_deviation_note *out);
+
+/* The mesh of these addresses becomes the mesh, as roam_fitter_leaves (or roam_leaves) wrote them for a grid of this side: so one
+ * fitter goes on with many tiles. Nothing is measured. ROAM_BAD_MESH: they are not a mesh of the grid, listed depth first. */
+int32_t roam_fitter_restore(roam_fitter *f, const uint32_t *leaves, size_t count);
+
+/* Opens a fitter, fits, writes the indices, tells of the mesh, and closes it. ROAM_NO_ROOM: `places` is below 3 times the triangles of
+ * the mesh that was found. */
+int32_t roam_fit_with(const uint16_t *heights, size_t count, uint32_t thousandths, const uint32_t *tolerances,
+                      size_t tolerance_count, const uint32_t *required, size_t required_count, uint32_t *out, size_t places,
+                      roam_fit_note *told);
+
+/* Mosaics: a terrain of tiles that meet. Each tile is a grid of its own, of one side for all, and shares a row of points with its
+ * neighbours. A mosaic keeps which border points each tile's mesh has, and tells which tile has to be fitted next and with which
+ * points; when none is left, the tiles' meshes are one mesh without cracks. Where each tile is fitted with just what is required
+ * of it, that is the mesh of fewest triangles within the tolerance of all that are as fine as the tiles, in whatever order the
+ * tiles come. Any number of workers may fit tiles, late or twice; a mosaic takes one call at a time. Column 0 is the left one, row
+ * 0 the near one (least y). The rules for handles are those of roam_handle. */
+typedef struct roam_mosaic {
+    uint64_t mark;
+    void *at;
+} roam_mosaic;
+
+typedef struct roam_tile_note {
+    uint32_t column, row; /* 0 where no tile waits */
+    uint32_t waits;       /* 1, or 0: no tile has to be fitted */
+    uint32_t spare;       /* 0 */
+} roam_tile_note;
+
+typedef struct roam_required_note {
+    size_t count;   /* how many points are required */
+    uint32_t lacks; /* 1: the tile's mesh lacks one of them, so it has to be fitted; else 0 */
+    uint32_t spare; /* 0 */
+} roam_required_note;
+
+/* Opens a mosaic of columns x rows tiles of `side` points a side, of which none has a mesh. ROAM_BAD_GRID: side is not 2^n + 1 with n
+ * from 1 to 11, or columns or rows are 0 or above 65536. All memory is taken here: a bit for each border point of each tile, and
+ * 5 bytes for each border point of one. A full handle lets go of what it had, unless the call fails. */
+int32_t roam_mosaic_open(roam_mosaic *m, uint32_t columns, uint32_t rows, uint32_t side);
+
+/* Lets go of the mosaic; the handle is empty then. Answers ROAM_OK, or ROAM_IS_EMPTY if it was empty before. */
+int32_t roam_mosaic_close(roam_mosaic *m);
+
+/* Tells the next tile that has to be fitted, the black ones of a chessboard (column + row even) before the others, so that these are
+ * fitted once with all that their neighbours have. The search goes on behind the last tile told, round and round: calls without a
+ * put between them tell the tiles for as many workers as there are. Costs a look at each border point of each tile that is passed. */
+int32_t roam_mosaic_next(roam_mosaic *m, roam_tile_note *out);
+
+/* Writes the places, in the tile's heights, of the points that its mesh has to have: its centre, and the border points that its
+ * neighbours' meshes have. 4 (side - 1) places always suffice. ROAM_OUTSIDE_GRID: there is no such tile. */
+int32_t roam_mosaic_required(roam_mosaic *m, uint32_t column, uint32_t row, uint32_t *out, size_t places, roam_required_note *told);
+
+/* Keeps the border points of the tile's mesh, by their places in the tile's heights, in any order, repeats allowed, as
+ * roam_fitter_border writes them. That the mesh has the centre is taken for granted, and that it has the points that every mesh
+ * with these has on the same side. A mesh that was found with less required than is by now is taken: it may be late.
+ * ROAM_OUTSIDE_GRID: there is no such tile, or a place is not that of a point on the border, or is that of a corner. ROAM_SHRUNK: the
+ * mesh that was put before had a border point that is not among these. */
+int32_t roam_mosaic_put(roam_mosaic *m, uint32_t column, uint32_t row, const uint32_t *border, size_t count);
 
 #ifdef __cplusplus
 }

@@ -1,12 +1,15 @@
-// roam.hpp: the engine of roam.h for C++17, as a class that owns one and moves.
+// roam.hpp: the calls of roam.h for C++17: an engine, a fitter and a mosaic, as classes that own one and move.
 //
 // A call that is refused throws roam::error, which says the call and the answer. With ROAM_ANSWERS defined nothing is
 // thrown: each call gives its roam_answer, and what it finds goes out through its last parameter.
-// What roam.h asks of C is kept by the class but for points 3, 6 and 7: one call at a time, an order of threads, no signal handler.
+// What roam.h asks of C is kept by the classes but for points 3, 6 and 7: one call at a time, an order of threads, no signal
+// handler.
 #ifndef ROAM_HPP
 #define ROAM_HPP
 #include "roam.h"
 #include <algorithm>
+#include <array>
+#include <cmath>
 #include <iterator>
 #include <stdexcept>
 #include <string>
@@ -22,8 +25,10 @@ inline const char *text_of(int32_t answer) noexcept {
         "a coordinate of the camera is beyond 2^30", "a slope of the plane is beyond 2^20, or its offset beyond 2^50",
         "six planes are in force, or more than six are given", "a point is outside the grid, or the area is empty",
         "the change is beyond 65535", "the engine has made 1000000 frames: renew it; or its camera has gone 2^61 units",
-        "the array has too few places", "there is no engine", "the tolerance is above 65535999 thousandths"};
-    return answer >= 0 && answer <= ROAM_BAD_TOLERANCE ? texts[answer] : "an unknown answer";
+        "the array has too few places", "the handle is empty",
+        "a tolerance is above 65535999 thousandths, or there is not one for each point",
+        "the addresses are no mesh of this grid, depth first", "the tile had a border point that is not among these"};
+    return answer >= 0 && answer <= ROAM_SHRUNK ? texts[answer] : "an unknown answer";
 }
 
 #ifdef ROAM_ANSWERS
@@ -42,44 +47,99 @@ inline void told(int32_t answer, const char *call) {
 }
 #endif
 
-/// An engine over a grid of heights, or none. Coordinates and units are those of roam.h.
-///
-/// No member is const: each call uses the engine, so two threads may not make two calls at once.
-class engine {
-    roam_handle h = ROAM_EMPTY;
+/// The left, right, bottom and top plane of a view, for engine::look: from where the camera stands, where it looks (a direction of
+/// any length, neither straight up nor down), the degrees that it sees from left to right, and the picture's width and height.
+/// Both fields of view go up to 170 degrees; look refuses the planes of others, of no direction, and of a place beyond 2^30 with
+/// ROAM_BAD_PLANE.
+inline std::array<roam_plane, 4> frustum(int64_t x, int64_t y, int64_t z, double dx, double dy, double dz, double degrees,
+                                         double width = 4, double height = 3) noexcept {
+    const double degree = std::acos(-1.0) / 180;
+    const double flat = std::hypot(dx, dy), length = std::hypot(flat, dz);
+    const double across = std::tan(degrees / 2 * degree), along = across * height / width;
+    const double forward[] = {dx / length, dy / length, dz / length}, right[] = {dy / flat, -dx / flat, 0};
+    const double up[] = {-forward[0] * dz / flat, -forward[1] * dz / flat, flat / length};
+    const auto near = [](int64_t place) { return -(1 << 30) <= place && place <= 1 << 30; };
+    const bool seen = near(x) && near(y) && near(z) && flat > 0 && std::isfinite(length) && degrees > 0 && degrees <= 170 &&
+                      along > 0 && along <= std::tan(85 * degree);
+    std::array<roam_plane, 4> planes;
+    for (size_t k = 0; k < planes.size(); ++k) {
+        const double *axis = k < 2 ? right : up, reach = k < 2 ? across : along, sign = k % 2 == 0 ? 1 : -1;
+        int64_t slopes[3] = {INT64_MAX, 0, 0};
+        for (int i = 0; seen && i < 3; ++i) slopes[i] = std::llround(50000 * (reach * forward[i] + sign * axis[i]));
+        const int64_t offset = seen ? -(slopes[0] * x + slopes[1] * y + slopes[2] * z) : 0;
+        planes[k] = {slopes[0], slopes[1], slopes[2], offset};
+    }
+    return planes;
+}
+
+/// Owns what a handle of this kind owns, or nothing.
+template <class Handle, int32_t (*close_of)(Handle *)> class owner {
+protected:
+    Handle h = ROAM_EMPTY;
     template <class T> static T *some(T *at) noexcept { // never null
         static T none{};
         return at ? at : &none;
     }
-    using list = int32_t (*)(roam_handle *, uint32_t *, size_t, size_t *);
+    template <class T> static size_t size(const T *at, size_t count) noexcept { return at ? count : 0; }
+    using list = int32_t (*)(Handle *, uint32_t *, size_t, size_t *);
     result listed(list call, uint32_t *out, size_t places, size_t &count, const char *name) {
-        return told(call(&h, some(out), out ? places : 0, &count), name);
+        return told(call(&h, some(out), size(out, places), &count), name);
     }
+#ifndef ROAM_ANSWERS
+    void fill(list call, std::vector<uint32_t> &out, size_t each, size_t most, const char *name) {
+        size_t count = 0;
+        out.resize(each * most);
+        listed(call, out.data(), out.size(), count, name);
+        out.resize(each * count);
+    }
+    template <class Note> Note noted(int32_t (*call)(Handle *, Note *), const char *name) {
+        Note out;
+        told(call(&h, &out), name);
+        return out;
+    }
+    /// What a call answers that is made until the vector has room enough.
+    template <class Call> static int32_t with_room(std::vector<uint32_t> &out, const Call &write) {
+        out.resize(std::max(out.capacity(), size_t{64}));
+        int32_t answer = write();
+        while (answer == ROAM_NO_ROOM) {
+            out.resize(2 * out.size());
+            answer = write();
+        }
+        return answer;
+    }
+#endif
 
 public:
-    engine() noexcept = default;
-    engine(engine &&o) noexcept : h(std::exchange(o.h, roam_handle ROAM_EMPTY)) {}
-    engine &operator=(engine o) noexcept { // by a move alone: what was open goes with o
+    owner() noexcept = default;
+    owner(owner &&o) noexcept : h(std::exchange(o.h, Handle ROAM_EMPTY)) {}
+    owner &operator=(owner o) noexcept { // by a move alone: what was open goes with o
         std::swap(h, o.h);
         return *this;
     }
-    engine(const engine &) = delete;
-    ~engine() { close(); }
+    ~owner() { close(); }
+    void close() noexcept { (void)close_of(&h); }
+};
+
+/// An engine over a grid of heights, or none. Coordinates and units are those of roam.h.
+///
+/// No member is const: each call uses the engine, so two threads may not make two calls at once.
+class engine : public owner<roam_handle, roam_close> {
+public:
+    engine() noexcept = default;
 
     /// Opens it over heights; all memory is taken here. What was open is closed, unless this is refused.
     result open(const uint16_t *heights, size_t count, uint32_t budget, uint32_t spacing) {
-        return told(roam_open(&h, some(heights), heights ? count : 0, budget, spacing), "open");
+        return told(roam_open(&h, some(heights), size(heights, count), budget, spacing), "open");
     }
     /// The same of a vector, an array or a span of heights.
     template <class Heights> result open(const Heights &heights, uint32_t budget, uint32_t spacing) {
         return open(std::data(heights), std::size(heights), budget, spacing);
     }
-    void close() noexcept { (void)roam_close(&h); }
 
     result camera(int64_t x, int64_t y, int64_t z) { return told(roam_camera(&h, x, y, z), "camera"); }
     result add_plane(int64_t a, int64_t b, int64_t c, int64_t d) { return told(roam_add_plane(&h, a, b, c, d), "add_plane"); }
     result look(const roam_plane *planes, size_t count) { // in the place of those before: for a view that turns
-        return told(roam_look(&h, some(planes), planes ? count : 0), "look");
+        return told(roam_look(&h, some(planes), size(planes, count)), "look");
     }
     template <class Planes> result look(const Planes &planes) { return look(std::data(planes), std::size(planes)); }
     result renew() { return told(roam_renew(&h), "renew"); }
@@ -99,13 +159,13 @@ public:
     result compact(uint32_t *out, size_t places, size_t &n) { return listed(roam_compact, out, places, n, "compact"); }
     result strip(uint32_t *out, size_t places, size_t &n) { return listed(roam_strip, out, places, n, "strip"); }
     result changed(uint32_t *gone, size_t gone_places, uint32_t *come, size_t come_places, roam_changes_note &n) {
-        return told(roam_changed(&h, some(gone), gone ? gone_places : 0, some(come), come ? come_places : 0, &n), "changed");
+        return told(roam_changed(&h, some(gone), size(gone, gone_places), some(come), size(come, come_places), &n), "changed");
     }
     result fit(uint32_t thousandths, uint32_t budget, uint32_t *out, size_t places, roam_fit_note &found) {
-        return told(roam_fit(&h, thousandths, budget, some(out), out ? places : 0, &found), "fit");
+        return told(roam_fit(&h, thousandths, budget, some(out), size(out, places), &found), "fit");
     }
     result certificate(int64_t x, int64_t y, int64_t z, char *out, size_t bytes, size_t &length) {
-        return told(roam_certificate(&h, x, y, z, some(out), out ? bytes : 0, &length), "certificate");
+        return told(roam_certificate(&h, x, y, z, some(out), size(out, bytes), &length), "certificate");
     }
 
 #ifndef ROAM_ANSWERS
@@ -140,18 +200,132 @@ public:
         out.resize(length);
         return out;
     }
+#endif
+};
+
+/// What is asked of a mesh: one tolerance for all points, in thousandths of a unit of height, or one for each point, 0xFFFFFFFF
+/// where it does not count; and the points that have to be vertices, as places in the heights.
+struct request {
+    uint32_t thousandths = 0; // not looked at where there are tolerances
+    const uint32_t *tolerances = nullptr;
+    size_t tolerance_count = 0;
+    const uint32_t *required = nullptr;
+    size_t required_count = 0;
+};
+
+/// Heights of one grid and a mesh of it, or nothing. Points are places in the heights.
+class fitter : public owner<roam_fitter, roam_fitter_close> {
+public:
+    fitter() noexcept = default;
+
+    /// Copies the heights; all memory is taken here. The mesh is the two halves of the square.
+    result open(const uint16_t *heights, size_t count) {
+        return told(roam_fitter_open(&h, some(heights), size(heights, count)), "open");
+    }
+    template <class Heights> result open(const Heights &heights) {
+        return open(std::data(heights), std::size(heights));
+    }
+
+    /// The mesh of the fewest triangles that is within the tolerance and has the required points becomes the mesh.
+    result fit(const request &it, uint32_t &triangles) { return fitted(roam_fitter_fit, it, triangles, "fit"); }
+    /// The same, going on from the mesh that is there.
+    result more(const request &it, uint32_t &triangles) { return fitted(roam_fitter_more, it, triangles, "more"); }
+    result indices(uint32_t *out, size_t places, size_t &n) {
+        return listed(roam_fitter_indices, out, places, n, "indices");
+    }
+    result leaves(uint32_t *out, size_t places, size_t &n) {
+        return listed(roam_fitter_leaves, out, places, n, "leaves");
+    }
+    result border(uint32_t *out, size_t places, size_t &n) { // the points that are vertices, but for the four corners
+        return listed(roam_fitter_border, out, places, n, "border");
+    }
+    result deviation(roam_deviation_note &out) { return told(roam_fitter_deviation(&h, &out), "deviation"); }
+    /// The mesh of these addresses, as `leaves` wrote them, becomes the mesh.
+    result restore(const uint32_t *leaves, size_t count) {
+        return told(roam_fitter_restore(&h, some(leaves), size(leaves, count)), "restore");
+    }
+    /// What `open`, `fit` and `indices` do, with no fitter left behind.
+    static result fit_with(const uint16_t *heights, size_t count, const request &it, uint32_t *out, size_t places,
+                           roam_fit_note &found) {
+        return told(roam_fit_with(some(heights), size(heights, count), it.thousandths, some(it.tolerances),
+                                  size(it.tolerances, it.tolerance_count), some(it.required),
+                                  size(it.required, it.required_count), some(out), size(out, places), &found),
+                    "fit_with");
+    }
+
+#ifndef ROAM_ANSWERS
+    template <class Heights> explicit fitter(const Heights &heights) { open(heights); }
+    /// One tolerance for all points; answers how many triangles the mesh has.
+    uint32_t fit(uint32_t thousandths, const std::vector<uint32_t> &required = {}) {
+        uint32_t triangles = 0;
+        fit(request{thousandths, nullptr, 0, required.data(), required.size()}, triangles);
+        return triangles;
+    }
+    uint32_t more(uint32_t thousandths, const std::vector<uint32_t> &required = {}) {
+        uint32_t triangles = 0;
+        more(request{thousandths, nullptr, 0, required.data(), required.size()}, triangles);
+        return triangles;
+    }
+    roam_deviation_note deviation() { return noted(roam_fitter_deviation, "deviation"); }
+    /// The same as vectors, made as long as is needed. Kept from tile to tile, they hardly take memory.
+    void indices(std::vector<uint32_t> &out) { fill(roam_fitter_indices, out, 3, "indices"); }
+    void leaves(std::vector<uint32_t> &out) { fill(roam_fitter_leaves, out, 1, "leaves"); }
+    void border(std::vector<uint32_t> &out) { fill(roam_fitter_border, out, 1, "border"); }
+    void restore(const std::vector<uint32_t> &leaves) { restore(leaves.data(), leaves.size()); }
+#endif
 
 private:
-    template <class Note> Note noted(int32_t (*call)(roam_handle *, Note *), const char *name) {
-        Note out;
-        told(call(&h, &out), name);
-        return out;
+    using fitting = int32_t (*)(roam_fitter *, uint32_t, const uint32_t *, size_t, const uint32_t *, size_t, uint32_t *);
+    result fitted(fitting call, const request &it, uint32_t &triangles, const char *name) {
+        return told(call(&h, it.thousandths, some(it.tolerances), size(it.tolerances, it.tolerance_count),
+                         some(it.required), size(it.required, it.required_count), &triangles), name);
     }
-    void fill(list call, std::vector<uint32_t> &out, size_t each, size_t most, const char *name) {
+#ifndef ROAM_ANSWERS
+    void fill(list call, std::vector<uint32_t> &out, size_t each, const char *name) {
         size_t count = 0;
-        out.resize(each * most);
-        listed(call, out.data(), out.size(), count, name);
+        const auto write = [&] { return call(&h, out.data(), out.size(), &count); };
+        told(with_room(out, write), name);
         out.resize(each * count);
+    }
+#endif
+};
+
+/// The rounds of a terrain of tiles that are fitted one by one, or nothing: which tile has to be fitted next, and what its
+/// mesh has to have. Column 0 is the left one, row 0 the near one; points are places in the heights of a tile.
+class mosaic : public owner<roam_mosaic, roam_mosaic_close> {
+public:
+    mosaic() noexcept = default;
+
+    /// So many tiles of `side` points a side, none of which has a mesh yet. All memory is taken here.
+    result open(uint32_t columns, uint32_t rows, uint32_t side) {
+        return told(roam_mosaic_open(&h, columns, rows, side), "open");
+    }
+    result next(roam_tile_note &out) { return told(roam_mosaic_next(&h, &out), "next"); }
+    result required(uint32_t column, uint32_t row, uint32_t *out, size_t places, roam_required_note &n) {
+        return told(roam_mosaic_required(&h, column, row, some(out), size(out, places), &n), "required");
+    }
+    result put(uint32_t column, uint32_t row, const uint32_t *border, size_t count) {
+        return told(roam_mosaic_put(&h, column, row, some(border), size(border, count)), "put");
+    }
+
+#ifndef ROAM_ANSWERS
+    mosaic(uint32_t columns, uint32_t rows, uint32_t side) { open(columns, rows, side); }
+    /// Whether a tile has to be fitted, and which.
+    bool next(uint32_t &column, uint32_t &row) {
+        const roam_tile_note n = noted(roam_mosaic_next, "next");
+        if (n.waits) column = n.column, row = n.row;
+        return n.waits != 0;
+    }
+    /// The points that a tile's mesh has to have; answers whether it lacks one.
+    bool required(uint32_t column, uint32_t row, std::vector<uint32_t> &out) {
+        roam_required_note n{};
+        const auto write = [&] { return roam_mosaic_required(&h, column, row, out.data(), out.size(), &n); };
+        told(with_room(out, write), "required");
+        out.resize(n.count);
+        return n.lacks != 0;
+    }
+    void put(uint32_t column, uint32_t row, const std::vector<uint32_t> &border) {
+        put(column, row, border.data(), border.size());
     }
 #endif
 };

@@ -1,13 +1,14 @@
-// The engine of roam.h for C#, by P/Invoke: libroam.so has to be where the loader finds it. Coordinates, units and ranges are
-// those of roam.h; a refused call throws a RoamException with its answer, and has changed nothing. An engine is used by
-// one thread at a time, whichever it is: a lock, where one is wanted, is the caller's. One that is not disposed of keeps its memory.
+// The calls of roam.h for C#, by P/Invoke: libroam.so has to be where the loader finds it. Coordinates, units and ranges are
+// those of roam.h; a refused call throws a RoamException with its answer, and has changed nothing. An engine, a fitter or a
+// mosaic is used by one thread at a time, whichever it is: a lock, where one is wanted, is the caller's. One that is not
+// disposed of keeps its memory.
 using System;
 using System.Runtime.InteropServices;
 
 namespace Roam {
     public enum Answer {
         Ok, NoMemory, BadGrid, BadBudget, BadSpacing, BadCamera, BadPlane, TooManyPlanes, OutsideGrid, BadChange, Worn, NoRoom, IsEmpty,
-        BadTolerance
+        BadTolerance, BadMesh, Shrunk
     }
 
     public sealed class RoamException : Exception {
@@ -52,96 +53,201 @@ namespace Roam {
         public long A, B, C, D;
     }
 
-    public sealed class Engine : IDisposable {
-        [StructLayout(LayoutKind.Sequential)]
-        struct Handle { ulong mark; IntPtr at; }
-        Handle h;
+    [StructLayout(LayoutKind.Sequential)]
+    struct Handle { ulong mark; IntPtr at; }
 
-        static class C {
-            const string Library = "libroam.so.1";
-            [DllImport(Library)] public static extern int roam_open(ref Handle h, ushort[] heights, UIntPtr count, uint budget, uint spacing);
-            [DllImport(Library)] public static extern int roam_close(ref Handle h);
-            [DllImport(Library)] public static extern int roam_camera(ref Handle h, long x, long y, long z);
-            [DllImport(Library)] public static extern int roam_add_plane(ref Handle h, long a, long b, long c, long d);
-            [DllImport(Library)] public static extern int roam_clear_planes(ref Handle h);
-            [DllImport(Library)] public static extern int roam_look(ref Handle h, Plane[] planes, UIntPtr count);
-            [DllImport(Library)] public static extern int roam_renew(ref Handle h);
-            [DllImport(Library)] public static extern int roam_budget(ref Handle h, uint triangles);
-            [DllImport(Library)] public static extern int roam_set(ref Handle h, uint x, uint y, ushort height);
-            [DllImport(Library)] public static extern int roam_raise(ref Handle h, uint x0, uint y0, uint x1, uint y1, int dz);
-            [DllImport(Library)] public static extern int roam_frame(ref Handle h, out Note note);
-            [DllImport(Library)] public static extern int roam_indices(ref Handle h, [Out] uint[] to, UIntPtr places, out UIntPtr triangles);
-            [DllImport(Library)] public static extern int roam_leaves(ref Handle h, [Out] uint[] to, UIntPtr places, out UIntPtr triangles);
-            [DllImport(Library)] public static extern int roam_changed(ref Handle h, [Out] uint[] gone, UIntPtr gonePlaces, [Out] uint[] come, UIntPtr comePlaces, out Counts counts);
-            [DllImport(Library)] public static extern int roam_state(ref Handle h, out State state);
-            [DllImport(Library)] public static extern int roam_positions(ref Handle h, [Out] uint[] to, UIntPtr places, out UIntPtr vertices);
-            [DllImport(Library)] public static extern int roam_compact(ref Handle h, [Out] uint[] to, UIntPtr places, out UIntPtr triangles);
-            [DllImport(Library)] public static extern int roam_strip(ref Handle h, [Out] uint[] to, UIntPtr places, out UIntPtr triangles);
-            [DllImport(Library)] public static extern int roam_deviation(ref Handle h, out Deviation deviation);
-            [DllImport(Library)] public static extern int roam_fit(ref Handle h, uint thousandths, uint budget, [Out] uint[] to, UIntPtr places, out Found found);
-            [DllImport(Library)] public static extern int roam_certificate(ref Handle h, long x, long y, long z, [Out] byte[] to, UIntPtr room, out UIntPtr length);
-        }
+    [StructLayout(LayoutKind.Sequential)]
+    struct TileNote { public uint Column, Row, Waits, Spare; }
 
-        static void Must(int answer) { if (answer != 0) throw new RoamException((Answer)answer); }
-        static T[] There<T>(T[] array, string name) { // never null, and never without an element
+    [StructLayout(LayoutKind.Sequential)]
+    struct RequiredNote { public UIntPtr Count; public uint Lacks, Spare; }
+
+    static class Calls {
+        const string Library = "libroam.so.1";
+        [DllImport(Library)] public static extern int roam_open(ref Handle h, ushort[] heights, UIntPtr count, uint budget, uint spacing);
+        [DllImport(Library)] public static extern int roam_close(ref Handle h);
+        [DllImport(Library)] public static extern int roam_camera(ref Handle h, long x, long y, long z);
+        [DllImport(Library)] public static extern int roam_add_plane(ref Handle h, long a, long b, long c, long d);
+        [DllImport(Library)] public static extern int roam_clear_planes(ref Handle h);
+        [DllImport(Library)] public static extern int roam_look(ref Handle h, Plane[] planes, UIntPtr count);
+        [DllImport(Library)] public static extern int roam_renew(ref Handle h);
+        [DllImport(Library)] public static extern int roam_budget(ref Handle h, uint triangles);
+        [DllImport(Library)] public static extern int roam_set(ref Handle h, uint x, uint y, ushort height);
+        [DllImport(Library)] public static extern int roam_raise(ref Handle h, uint x0, uint y0, uint x1, uint y1, int dz);
+        [DllImport(Library)] public static extern int roam_frame(ref Handle h, out Note note);
+        [DllImport(Library)] public static extern int roam_indices(ref Handle h, [Out] uint[] to, UIntPtr places, out UIntPtr triangles);
+        [DllImport(Library)] public static extern int roam_leaves(ref Handle h, [Out] uint[] to, UIntPtr places, out UIntPtr triangles);
+        [DllImport(Library)] public static extern int roam_changed(ref Handle h, [Out] uint[] gone, UIntPtr gonePlaces, [Out] uint[] come, UIntPtr comePlaces, out Counts counts);
+        [DllImport(Library)] public static extern int roam_state(ref Handle h, out State state);
+        [DllImport(Library)] public static extern int roam_positions(ref Handle h, [Out] uint[] to, UIntPtr places, out UIntPtr vertices);
+        [DllImport(Library)] public static extern int roam_compact(ref Handle h, [Out] uint[] to, UIntPtr places, out UIntPtr triangles);
+        [DllImport(Library)] public static extern int roam_strip(ref Handle h, [Out] uint[] to, UIntPtr places, out UIntPtr triangles);
+        [DllImport(Library)] public static extern int roam_deviation(ref Handle h, out Deviation deviation);
+        [DllImport(Library)] public static extern int roam_fit(ref Handle h, uint thousandths, uint budget, [Out] uint[] to, UIntPtr places, out Found found);
+        [DllImport(Library)] public static extern int roam_certificate(ref Handle h, long x, long y, long z, [Out] byte[] to, UIntPtr room, out UIntPtr length);
+        [DllImport(Library)] public static extern int roam_fitter_open(ref Handle h, ushort[] heights, UIntPtr count);
+        [DllImport(Library)] public static extern int roam_fitter_close(ref Handle h);
+        [DllImport(Library)] public static extern int roam_fitter_fit(ref Handle h, uint thousandths, uint[] tolerances, UIntPtr toleranceCount, uint[] required, UIntPtr requiredCount, out uint triangles);
+        [DllImport(Library)] public static extern int roam_fitter_more(ref Handle h, uint thousandths, uint[] tolerances, UIntPtr toleranceCount, uint[] required, UIntPtr requiredCount, out uint triangles);
+        [DllImport(Library)] public static extern int roam_fitter_indices(ref Handle h, [Out] uint[] to, UIntPtr places, out UIntPtr triangles);
+        [DllImport(Library)] public static extern int roam_fitter_leaves(ref Handle h, [Out] uint[] to, UIntPtr places, out UIntPtr triangles);
+        [DllImport(Library)] public static extern int roam_fitter_border(ref Handle h, [Out] uint[] to, UIntPtr places, out UIntPtr count);
+        [DllImport(Library)] public static extern int roam_fitter_deviation(ref Handle h, out Deviation deviation);
+        [DllImport(Library)] public static extern int roam_fitter_restore(ref Handle h, uint[] leaves, UIntPtr count);
+        [DllImport(Library)] public static extern int roam_fit_with(ushort[] heights, UIntPtr count, uint thousandths, uint[] tolerances, UIntPtr toleranceCount, uint[] required, UIntPtr requiredCount, [Out] uint[] to, UIntPtr places, out Found found);
+        [DllImport(Library)] public static extern int roam_mosaic_open(ref Handle h, uint columns, uint rows, uint side);
+        [DllImport(Library)] public static extern int roam_mosaic_close(ref Handle h);
+        [DllImport(Library)] public static extern int roam_mosaic_next(ref Handle h, out TileNote tile);
+        [DllImport(Library)] public static extern int roam_mosaic_required(ref Handle h, uint column, uint row, [Out] uint[] to, UIntPtr places, out RequiredNote note);
+        [DllImport(Library)] public static extern int roam_mosaic_put(ref Handle h, uint column, uint row, uint[] border, UIntPtr count);
+
+        public static void Must(int answer) { if (answer != 0) throw new RoamException((Answer)answer); }
+        public static T[] There<T>(T[] array, string name) { // never null, and never without an element
             if (array == null) throw new ArgumentNullException(name);
             return array.Length > 0 ? array : new T[1];
         }
-
-        /// Opens an engine over side x side heights, rows from the far side to the near one. All memory is taken here.
-        public Engine(ushort[] heights, uint budget, uint spacing) {
-            Must(C.roam_open(ref h, There(heights, "heights"), (UIntPtr)heights.Length, budget, spacing));
-        }
-        public void Dispose() { C.roam_close(ref h); }
-
-        public void Camera(long x, long y, long z) { Must(C.roam_camera(ref h, x, y, z)); }
-        public void AddPlane(long a, long b, long c, long d) { Must(C.roam_add_plane(ref h, a, b, c, d)); }
-        public void ClearPlanes() { Must(C.roam_clear_planes(ref h)); }
-        public void Look(params Plane[] planes) { Must(C.roam_look(ref h, There(planes, "planes"), (UIntPtr)planes.Length)); }
-        public void Renew() { Must(C.roam_renew(ref h)); }
-        public void Budget(uint triangles) { Must(C.roam_budget(ref h, triangles)); }
-        public void Set(uint x, uint y, ushort height) { Must(C.roam_set(ref h, x, y, height)); }
-        public void Raise(uint x0, uint y0, uint x1, uint y1, int dz) { Must(C.roam_raise(ref h, x0, y0, x1, y1, dz)); }
-        public Note Frame() { Note note; Must(C.roam_frame(ref h, out note)); return note; }
-        public State State() { State state; Must(C.roam_state(ref h, out state)); return state; }
-
-        public Deviation Deviation() { Deviation deviation; Must(C.roam_deviation(ref h, out deviation)); return deviation; }
-
-        delegate int Call(ref Handle h, uint[] to, UIntPtr places, out UIntPtr count);
-        int Fill(Call call, uint[] to) {
+        public delegate int Call(ref Handle h, uint[] to, UIntPtr places, out UIntPtr count);
+        public static int Fill(Call call, ref Handle h, uint[] to) {
             UIntPtr count;
             Must(call(ref h, There(to, "to"), (UIntPtr)to.Length, out count));
             return (int)count;
         }
+    }
+
+    public sealed class Engine : IDisposable {
+        Handle h;
+
+        /// Opens an engine over side x side heights, rows from the far side to the near one. All memory is taken here.
+        public Engine(ushort[] heights, uint budget, uint spacing) {
+            Calls.Must(Calls.roam_open(ref h, Calls.There(heights, "heights"), (UIntPtr)heights.Length, budget, spacing));
+        }
+        public void Dispose() { Calls.roam_close(ref h); }
+
+        public void Camera(long x, long y, long z) { Calls.Must(Calls.roam_camera(ref h, x, y, z)); }
+        public void AddPlane(long a, long b, long c, long d) { Calls.Must(Calls.roam_add_plane(ref h, a, b, c, d)); }
+        public void ClearPlanes() { Calls.Must(Calls.roam_clear_planes(ref h)); }
+        public void Look(params Plane[] planes) { Calls.Must(Calls.roam_look(ref h, Calls.There(planes, "planes"), (UIntPtr)planes.Length)); }
+        public void Renew() { Calls.Must(Calls.roam_renew(ref h)); }
+        public void Budget(uint triangles) { Calls.Must(Calls.roam_budget(ref h, triangles)); }
+        public void Set(uint x, uint y, ushort height) { Calls.Must(Calls.roam_set(ref h, x, y, height)); }
+        public void Raise(uint x0, uint y0, uint x1, uint y1, int dz) { Calls.Must(Calls.roam_raise(ref h, x0, y0, x1, y1, dz)); }
+        public Note Frame() { Note note; Calls.Must(Calls.roam_frame(ref h, out note)); return note; }
+        public State State() { State state; Calls.Must(Calls.roam_state(ref h, out state)); return state; }
+
+        public Deviation Deviation() { Deviation deviation; Calls.Must(Calls.roam_deviation(ref h, out deviation)); return deviation; }
+
         /// Writes three places in the heights for each triangle, and answers how many triangles there are.
-        public int Indices(uint[] to) { return Fill(C.roam_indices, to); }
+        public int Indices(uint[] to) { return Calls.Fill(Calls.roam_indices, ref h, to); }
         /// The same in the order of one strip.
-        public int Strip(uint[] to) { return Fill(C.roam_strip, to); }
+        public int Strip(uint[] to) { return Calls.Fill(Calls.roam_strip, ref h, to); }
         /// Writes the addresses of the triangles, in the order of the indices.
-        public int Leaves(uint[] to) { return Fill(C.roam_leaves, to); }
+        public int Leaves(uint[] to) { return Calls.Fill(Calls.roam_leaves, ref h, to); }
         /// Writes the addresses that the last frame took out of the mesh and those that it put in, and answers how many they are.
         public Counts Changed(uint[] gone, uint[] come) {
             Counts counts;
-            Must(C.roam_changed(ref h, There(gone, "gone"), (UIntPtr)gone.Length, There(come, "come"), (UIntPtr)come.Length, out counts));
+            Calls.Must(Calls.roam_changed(ref h, Calls.There(gone, "gone"), (UIntPtr)gone.Length, Calls.There(come, "come"), (UIntPtr)come.Length, out counts));
             return counts;
         }
         /// Writes x, y and z of each vertex of the mesh, and answers how many vertices there are.
-        public int Positions(uint[] to) { return Fill(C.roam_positions, to); }
+        public int Positions(uint[] to) { return Calls.Fill(Calls.roam_positions, ref h, to); }
         /// Writes three places among these vertices for each triangle.
-        public int Compact(uint[] to) { return Fill(C.roam_compact, to); }
+        public int Compact(uint[] to) { return Calls.Fill(Calls.roam_compact, ref h, to); }
 
         /// Writes the indices of the mesh of fewest triangles for a tolerance, or of the best one of the budget.
         public Found Fit(uint thousandths, uint budget, uint[] to) {
             Found found;
-            Must(C.roam_fit(ref h, thousandths, budget, There(to, "to"), (UIntPtr)to.Length, out found));
+            Calls.Must(Calls.roam_fit(ref h, thousandths, budget, Calls.There(to, "to"), (UIntPtr)to.Length, out found));
             return found;
         }
         /// The certificate of the best mesh from a place, as text.
         public string Certificate(long x, long y, long z) {
             var text = new byte[48 + 30 * (long)State().Budget];
             UIntPtr length;
-            Must(C.roam_certificate(ref h, x, y, z, text, (UIntPtr)text.Length, out length));
+            Calls.Must(Calls.roam_certificate(ref h, x, y, z, text, (UIntPtr)text.Length, out length));
             return System.Text.Encoding.ASCII.GetString(text, 0, (int)length);
+        }
+    }
+
+    /// Heights of one grid and a mesh of it. Points are places in the heights; tolerances are in thousandths of a unit of height.
+    public sealed class Fitter : IDisposable {
+        Handle h;
+        static readonly uint[] None = new uint[0];
+
+        /// Copies side x side heights, rows from the far side to the near one. All memory is taken here; the mesh is the two
+        /// halves of the square.
+        public Fitter(ushort[] heights) {
+            Calls.Must(Calls.roam_fitter_open(ref h, Calls.There(heights, "heights"), (UIntPtr)heights.Length));
+        }
+        public void Dispose() { Calls.roam_fitter_close(ref h); }
+
+        delegate int Fitting(ref Handle h, uint thousandths, uint[] tolerances, UIntPtr toleranceCount, uint[] required, UIntPtr requiredCount, out uint triangles);
+        uint Fitted(Fitting call, uint thousandths, uint[] tolerances, uint[] required) {
+            uint triangles;
+            Calls.Must(call(ref h, thousandths, Calls.There(tolerances, "tolerances"), (UIntPtr)tolerances.Length,
+                        Calls.There(required, "required"), (UIntPtr)required.Length, out triangles));
+            return triangles;
+        }
+        /// The mesh of the fewest triangles within the tolerance that has the required points as vertices becomes the mesh; answers
+        /// how many triangles it has.
+        public uint Fit(uint thousandths, params uint[] required) { return Fitted(Calls.roam_fitter_fit, thousandths, None, required); }
+        /// The same with a tolerance for each point, 0xFFFFFFFF where it does not count.
+        public uint FitWithin(uint[] tolerances, params uint[] required) {
+            return Fitted(Calls.roam_fitter_fit, uint.MaxValue, tolerances, required); // an empty array is refused
+        }
+        /// The same as Fit and FitWithin, going on from the mesh that is there.
+        public uint More(uint thousandths, params uint[] required) { return Fitted(Calls.roam_fitter_more, thousandths, None, required); }
+        public uint MoreWithin(uint[] tolerances, params uint[] required) {
+            return Fitted(Calls.roam_fitter_more, uint.MaxValue, tolerances, required);
+        }
+
+        /// Writes three places in the heights for each triangle, and answers how many triangles there are.
+        public int Indices(uint[] to) { return Calls.Fill(Calls.roam_fitter_indices, ref h, to); }
+        /// Writes the addresses of the triangles, in the order of the indices.
+        public int Leaves(uint[] to) { return Calls.Fill(Calls.roam_fitter_leaves, ref h, to); }
+        /// Writes the points on the border that are vertices, but for the four corners, and answers how many there are.
+        public int Border(uint[] to) { return Calls.Fill(Calls.roam_fitter_border, ref h, to); }
+        public Deviation Deviation() { Deviation deviation; Calls.Must(Calls.roam_fitter_deviation(ref h, out deviation)); return deviation; }
+        /// The mesh of these addresses, as Leaves wrote them, becomes the mesh.
+        public void Restore(uint[] leaves) { Calls.Must(Calls.roam_fitter_restore(ref h, Calls.There(leaves, "leaves"), (UIntPtr)leaves.Length)); }
+
+        /// What a Fitter's Fit and Indices do, with none left behind; no tolerances: thousandths is that of all points.
+        public static Found FitWith(ushort[] heights, uint thousandths, uint[] tolerances, uint[] required, uint[] to) {
+            Found found;
+            Calls.Must(Calls.roam_fit_with(Calls.There(heights, "heights"), (UIntPtr)heights.Length, thousandths,
+                                   Calls.There(tolerances, "tolerances"), (UIntPtr)tolerances.Length, Calls.There(required, "required"),
+                                   (UIntPtr)required.Length, Calls.There(to, "to"), (UIntPtr)to.Length, out found));
+            return found;
+        }
+    }
+
+    /// The rounds of a terrain of tiles that are fitted one by one: which tile has to be fitted next, and what its mesh has to have.
+    /// Column 0 is the left one, row 0 the near one; points are places in the heights of a tile.
+    public sealed class Mosaic : IDisposable {
+        Handle h;
+
+        /// So many tiles of side x side points, none of which has a mesh yet. All memory is taken here.
+        public Mosaic(uint columns, uint rows, uint side) { Calls.Must(Calls.roam_mosaic_open(ref h, columns, rows, side)); }
+        public void Dispose() { Calls.roam_mosaic_close(ref h); }
+
+        /// Whether a tile has to be fitted, and which.
+        public bool Next(out uint column, out uint row) {
+            TileNote tile;
+            Calls.Must(Calls.roam_mosaic_next(ref h, out tile));
+            column = tile.Column;
+            row = tile.Row;
+            return tile.Waits != 0;
+        }
+        /// Writes the points that a tile's mesh has to have, and answers how many; lacks: whether it lacks one of them.
+        public int Required(uint column, uint row, uint[] to, out bool lacks) {
+            RequiredNote note;
+            Calls.Must(Calls.roam_mosaic_required(ref h, column, row, Calls.There(to, "to"), (UIntPtr)to.Length, out note));
+            lacks = note.Lacks != 0;
+            return (int)note.Count;
+        }
+        /// Keeps the first `count` points of `border`, as Border wrote them, as those of the tile's mesh.
+        public void Put(uint column, uint row, uint[] border, int count) {
+            if (count < 0 || count > Calls.There(border, "border").Length) throw new ArgumentOutOfRangeException("count");
+            Calls.Must(Calls.roam_mosaic_put(ref h, column, row, Calls.There(border, "border"), (UIntPtr)count));
         }
     }
 }

@@ -5,7 +5,10 @@
 //! distance of the ground. Heights are whole numbers in a unit of yours; `spacing` of them are a grid step. World coordinates
 //! count these units, and (0, 0) is the near left grid point.
 //!
-//! What `roam.h` asks of C is kept by the types: one owner, one call at a time (`&mut self`; an engine may move to another
+//! A terrain that is larger than one grid is cut into tiles: a [`Fitter`] finds the mesh of one tile for which points are
+//! required, and a [`Mosaic`] tells which points these are, until all meshes are one mesh without cracks.
+//!
+//! What `roam.h` asks of C is kept by the types: one owner, one call at a time (`&mut self`; each may move to another
 //! thread, and is not shared), slices as long as they say. It is for Linux on x86-64, with a Rust of 1.63 or newer.
 
 use std::{error, fmt, ptr};
@@ -15,6 +18,21 @@ mod c {
     pub struct Handle {
         pub mark: u64,
         pub at: *mut u8,
+    }
+    #[repr(C)]
+    #[derive(Default)]
+    pub struct TileNote {
+        pub column: u32,
+        pub row: u32,
+        pub waits: u32,
+        pub spare: u32,
+    }
+    #[repr(C)]
+    #[derive(Default)]
+    pub struct RequiredNote {
+        pub count: usize,
+        pub lacks: u32,
+        pub spare: u32,
     }
     extern "C" {
         pub fn roam_open(h: *mut Handle, heights: *const u16, count: usize, budget: u32, spacing: u32) -> i32;
@@ -36,6 +54,32 @@ mod c {
         pub fn roam_fit(h: *mut Handle, thousandths: u32, budget: u32, out: *mut u32, places: usize, told: *mut super::FitNote) -> i32;
         pub fn roam_certificate(h: *mut Handle, x: i64, y: i64, z: i64, out: *mut u8, room: usize, length: *mut usize) -> i32;
         pub fn roam_state(h: *mut Handle, out: *mut super::State) -> i32;
+        pub fn roam_fitter_open(f: *mut Handle, heights: *const u16, count: usize) -> i32;
+        pub fn roam_fitter_close(f: *mut Handle) -> i32;
+        pub fn roam_fitter_fit(
+            f: *mut Handle, thousandths: u32, tolerances: *const u32, tolerance_count: usize, required: *const u32,
+            required_count: usize, triangles: *mut u32,
+        ) -> i32;
+        pub fn roam_fitter_more(
+            f: *mut Handle, thousandths: u32, tolerances: *const u32, tolerance_count: usize, required: *const u32,
+            required_count: usize, triangles: *mut u32,
+        ) -> i32;
+        pub fn roam_fitter_indices(f: *mut Handle, out: *mut u32, places: usize, count: *mut usize) -> i32;
+        pub fn roam_fitter_leaves(f: *mut Handle, out: *mut u32, places: usize, count: *mut usize) -> i32;
+        pub fn roam_fitter_border(f: *mut Handle, out: *mut u32, places: usize, count: *mut usize) -> i32;
+        pub fn roam_fitter_deviation(f: *mut Handle, out: *mut super::Deviation) -> i32;
+        pub fn roam_fitter_restore(f: *mut Handle, leaves: *const u32, count: usize) -> i32;
+        pub fn roam_fit_with(
+            heights: *const u16, count: usize, thousandths: u32, tolerances: *const u32, tolerance_count: usize,
+            required: *const u32, required_count: usize, out: *mut u32, places: usize, told: *mut super::FitNote,
+        ) -> i32;
+        pub fn roam_mosaic_open(m: *mut Handle, columns: u32, rows: u32, side: u32) -> i32;
+        pub fn roam_mosaic_close(m: *mut Handle) -> i32;
+        pub fn roam_mosaic_next(m: *mut Handle, out: *mut TileNote) -> i32;
+        pub fn roam_mosaic_required(
+            m: *mut Handle, column: u32, row: u32, out: *mut u32, places: usize, told: *mut RequiredNote,
+        ) -> i32;
+        pub fn roam_mosaic_put(m: *mut Handle, column: u32, row: u32, border: *const u32, count: usize) -> i32;
     }
 }
 
@@ -54,6 +98,8 @@ pub enum Error {
     Worn,
     NoRoom,
     BadTolerance,
+    BadMesh,
+    Shrunk,
 }
 
 impl fmt::Display for Error {
@@ -70,7 +116,9 @@ impl fmt::Display for Error {
             Error::BadChange => "the change is beyond 65535",
             Error::Worn => "the engine has made 1000000 frames: renew it; or its camera has gone 2^61 units",
             Error::NoRoom => "the array has too few places",
-            Error::BadTolerance => "the tolerance is above 65535999 thousandths",
+            Error::BadTolerance => "a tolerance is above 65535999 thousandths, or there is not one for each point",
+            Error::BadMesh => "the addresses are no mesh of this grid, depth first",
+            Error::Shrunk => "the tile had a border point that is not among these",
         })
     }
 }
@@ -91,6 +139,8 @@ fn told(answer: i32) -> Result<(), Error> {
         10 => Error::Worn,
         11 => Error::NoRoom,
         13 => Error::BadTolerance,
+        14 => Error::BadMesh,
+        15 => Error::Shrunk,
         _ => unreachable!("libroam answers {answer}"),
     })
 }
@@ -160,6 +210,9 @@ pub struct Changes {
 }
 
 type List = unsafe extern "C" fn(*mut c::Handle, *mut u32, usize, *mut usize) -> i32;
+type Fit = unsafe extern "C" fn(*mut c::Handle, u32, *const u32, usize, *const u32, usize, *mut u32) -> i32;
+
+const EMPTY: c::Handle = c::Handle { mark: 0, at: ptr::null_mut() };
 
 /// An engine over a copy of a grid of heights.
 pub struct Engine {
@@ -175,7 +228,7 @@ impl Engine {
     /// Opens an engine over (2^n + 1)^2 heights, n from 1 to 11: rows from the far side to the near one, each from left to
     /// right. `budget` is the most triangles of a mesh, from 2 to 1,048,576; all memory is taken here.
     pub fn open(heights: &[u16], budget: u32, spacing: u32) -> Result<Self, Error> {
-        let mut it = Engine { handle: c::Handle { mark: 0, at: ptr::null_mut() }, most: budget, side: 0 };
+        let mut it = Engine { handle: EMPTY, most: budget, side: 0 };
         // SAFETY: the handle is empty, and the slice is valid for its length.
         told(unsafe { c::roam_open(&mut it.handle, heights.as_ptr(), heights.len(), budget, spacing) })?;
         it.side = it.state().side;
@@ -311,5 +364,196 @@ impl Drop for Engine {
     fn drop(&mut self) {
         // SAFETY: the handle has no other owner, and nothing calls it again.
         unsafe { c::roam_close(&mut self.handle) };
+    }
+}
+
+/// How far the surface may be from a mesh, in thousandths of a unit of height, up to 65,535,999.
+#[derive(Clone, Copy, Debug)]
+pub enum Tolerance<'a> {
+    /// One for all grid points.
+    Common(u32),
+    /// One for each grid point, as the heights stand; a point with [`Tolerance::NONE`] does not count.
+    Own(&'a [u32]),
+}
+
+impl<'a> Tolerance<'a> {
+    /// For a point at which every height will do: no data, sea, outside an area.
+    pub const NONE: u32 = u32::MAX;
+
+    /// As C takes it. With one for each point the first number is not looked at, unless there are none: then it is refused.
+    fn parts(self) -> (u32, &'a [u32]) {
+        match self {
+            Tolerance::Common(thousandths) => (thousandths, &[]),
+            Tolerance::Own(tolerances) => (u32::MAX, tolerances),
+        }
+    }
+}
+
+/// Heights of one grid and a mesh of it. Points are places in the heights.
+pub struct Fitter {
+    handle: c::Handle,
+    side: usize,
+    /// Of the mesh.
+    triangles: usize,
+}
+
+// SAFETY: a handle may move to another thread, and each call takes `&mut self`.
+unsafe impl Send for Fitter {}
+
+impl Fitter {
+    /// Copies (2^n + 1)^2 heights, n from 1 to 11: rows from the far side to the near one, each from left to right. All
+    /// memory is taken here; the mesh is the two halves of the square.
+    pub fn open(heights: &[u16]) -> Result<Self, Error> {
+        let side = (1..=11).map(|n| (1 << n) + 1).find(|side| side * side == heights.len()).unwrap_or(0);
+        let mut it = Fitter { handle: EMPTY, side, triangles: 2 };
+        // SAFETY: the handle is empty, and the slice is valid for its length.
+        told(unsafe { c::roam_fitter_open(&mut it.handle, heights.as_ptr(), heights.len()) })?;
+        Ok(it)
+    }
+
+    fn fitted(&mut self, call: Fit, tolerance: Tolerance, required: &[u32]) -> Result<usize, Error> {
+        let (mut triangles, (thousandths, own)) = (0, tolerance.parts());
+        let (tolerances, places) = (own.as_ptr(), required.as_ptr());
+        // SAFETY: the slices are valid for their lengths.
+        let handle = &mut self.handle;
+        told(unsafe { call(handle, thousandths, tolerances, own.len(), places, required.len(), &mut triangles) })?;
+        self.triangles = triangles as usize;
+        Ok(self.triangles)
+    }
+
+    /// The mesh of the fewest triangles within the tolerance that has these points as vertices becomes the mesh; answers
+    /// how many triangles it has.
+    pub fn fit(&mut self, tolerance: Tolerance, required: &[u32]) -> Result<usize, Error> {
+        self.fitted(c::roam_fitter_fit, tolerance, required)
+    }
+
+    /// The same, going on from the mesh that is there, which keeps what it has split. Where that was found for the same
+    /// tolerance, the mesh is that of `fit` for all points that were required; it costs what is split newly.
+    pub fn more(&mut self, tolerance: Tolerance, required: &[u32]) -> Result<usize, Error> {
+        self.fitted(c::roam_fitter_more, tolerance, required)
+    }
+
+    /// What a call writes that is never refused, as a full handle has room enough for the greatest mesh.
+    fn list(&mut self, call: List, each: usize, most: usize) -> Vec<u32> {
+        let (mut out, mut count) = (vec![0; each * most], 0);
+        // SAFETY: the vector is valid for its length.
+        let answer = unsafe { call(&mut self.handle, out.as_mut_ptr(), out.len(), &mut count) };
+        debug_assert_eq!(answer, 0, "room for the whole list always suffices");
+        out.truncate(each * count);
+        out
+    }
+
+    /// Three places in the heights for each triangle: apex and the ends of the base, counterclockwise from above.
+    pub fn indices(&mut self) -> Vec<u32> {
+        self.list(c::roam_fitter_indices, 3, self.triangles)
+    }
+
+    /// The address of each triangle, in the same order.
+    pub fn leaves(&mut self) -> Vec<u32> {
+        self.list(c::roam_fitter_leaves, 1, self.triangles)
+    }
+
+    /// The points on the border that are vertices, but for the four corners, in rising order.
+    pub fn border(&mut self) -> Vec<u32> {
+        self.list(c::roam_fitter_border, 1, 4 * (self.side - 2))
+    }
+
+    /// How far the heights are from the mesh at a grid point, at most.
+    pub fn deviation(&mut self) -> Deviation {
+        let mut out = Deviation::default();
+        let answer = unsafe { c::roam_fitter_deviation(&mut self.handle, &mut out) };
+        debug_assert_eq!(answer, 0, "a full handle is not refused");
+        out
+    }
+
+    /// The mesh of these addresses, as `leaves` gave them for a grid of this side, becomes the mesh.
+    pub fn restore(&mut self, leaves: &[u32]) -> Result<(), Error> {
+        // SAFETY: the slice is valid for its length.
+        told(unsafe { c::roam_fitter_restore(&mut self.handle, leaves.as_ptr(), leaves.len()) })?;
+        self.triangles = leaves.len();
+        Ok(())
+    }
+}
+
+impl Drop for Fitter {
+    fn drop(&mut self) {
+        // SAFETY: the handle has no other owner, and nothing calls it again.
+        unsafe { c::roam_fitter_close(&mut self.handle) };
+    }
+}
+
+/// What a [`Fitter`] finds for these heights, in one call: the indices of the mesh, and what it is.
+pub fn fit_with(heights: &[u16], tolerance: Tolerance, required: &[u32]) -> Result<(Vec<u32>, FitNote), Error> {
+    let finest = 6 * heights.len(); // more than three places for each of 2 (side - 1)^2 triangles
+    let (mut out, mut note, (thousandths, own)) = (vec![0; finest], FitNote::default(), tolerance.parts());
+    // SAFETY: slices and vector are valid for their lengths.
+    told(unsafe {
+        c::roam_fit_with(
+            heights.as_ptr(), heights.len(), thousandths, own.as_ptr(), own.len(), required.as_ptr(), required.len(),
+            out.as_mut_ptr(), out.len(), &mut note,
+        )
+    })?;
+    out.truncate(3 * note.triangles as usize);
+    Ok((out, note))
+}
+
+/// A tile of a terrain: column 0 is the left one, row 0 the near one.
+#[derive(Clone, Copy, Debug, PartialEq, Eq)]
+pub struct Tile {
+    pub column: u32,
+    pub row: u32,
+}
+
+/// The rounds of a terrain of tiles that are fitted one by one: which tile has to be fitted next, and what its mesh has to
+/// have. Points are places in the heights of a tile.
+pub struct Mosaic {
+    handle: c::Handle,
+    side: usize,
+}
+
+// SAFETY: a handle may move to another thread, and each call takes `&mut self`.
+unsafe impl Send for Mosaic {}
+
+impl Mosaic {
+    /// So many tiles, up to 65,536 each way, of `side` points a side, none of which has a mesh yet. All memory is taken here.
+    pub fn open(columns: u32, rows: u32, side: u32) -> Result<Self, Error> {
+        let mut it = Mosaic { handle: EMPTY, side: side as usize };
+        // SAFETY: the handle is empty.
+        told(unsafe { c::roam_mosaic_open(&mut it.handle, columns, rows, side) })?;
+        Ok(it)
+    }
+
+    /// The next tile that has to be fitted, those with an even sum of column and row first; none where all meshes are one
+    /// mesh without cracks. Calls without a `put` between go round all that have to be.
+    #[allow(clippy::should_implement_trait)] // what is put changes what comes
+    pub fn next(&mut self) -> Option<Tile> {
+        let mut note = c::TileNote::default();
+        let answer = unsafe { c::roam_mosaic_next(&mut self.handle, &mut note) };
+        debug_assert_eq!(answer, 0, "a full handle is not refused");
+        (note.waits != 0).then(|| Tile { column: note.column, row: note.row })
+    }
+
+    /// What the tile's mesh has to have, its centre and the border points that its neighbours have; and whether it lacks one.
+    pub fn required(&mut self, tile: Tile) -> Result<(Vec<u32>, bool), Error> {
+        let (mut out, mut note) = (vec![0; 4 * (self.side - 1)], c::RequiredNote::default());
+        let (handle, places) = (&mut self.handle, out.len());
+        // SAFETY: the vector is valid for its length.
+        told(unsafe { c::roam_mosaic_required(handle, tile.column, tile.row, out.as_mut_ptr(), places, &mut note) })?;
+        out.truncate(note.count);
+        Ok((out, note.lacks != 0))
+    }
+
+    /// Keeps the border points of the tile's mesh, as [`Fitter::border`] gave them.
+    pub fn put(&mut self, tile: Tile, border: &[u32]) -> Result<(), Error> {
+        let handle = &mut self.handle;
+        // SAFETY: the slice is valid for its length.
+        told(unsafe { c::roam_mosaic_put(handle, tile.column, tile.row, border.as_ptr(), border.len()) })
+    }
+}
+
+impl Drop for Mosaic {
+    fn drop(&mut self) {
+        // SAFETY: the handle has no other owner, and nothing calls it again.
+        unsafe { c::roam_mosaic_close(&mut self.handle) };
     }
 }
