@@ -25,7 +25,8 @@ HEIGHTS = (np.arange(SIDE * SIDE) * 7919 % 211).astype(np.uint16)
 def test_structures_and_calls_are_those_of_the_header(tmp_path):
     pairs = {"roam_handle": _library.Handle, "roam_frame_note": _library.FrameNote, "roam_plane": _library.Plane,
              "roam_changes_note": _library.ChangesNote, "roam_deviation_note": _library.DeviationNote,
-             "roam_fit_note": _library.FitNote, "roam_state_note": _library.StateNote}
+             "roam_fit_note": _library.FitNote, "roam_state_note": _library.StateNote, "roam_fitter": _library.Handle,
+             "roam_mosaic": _library.Handle, "roam_tile_note": _library.TileNote, "roam_required_note": _library.RequiredNote}
     lines = [f'printf("{name} {field} %zu %zu\\n", offsetof({name}, {field}), sizeof((({name} *)0)->{field}));'
              for name, it in pairs.items() for field, *_ in it._fields_]
     lines += [f'printf("{name} - %zu 0\\n", sizeof({name}));' for name in pairs]
@@ -48,8 +49,9 @@ def test_the_ranges_are_those_of_the_header():
     assert f"above {engine.MOST_TRIANGLES}" in said and f"above {engine.MOST_SPACING} " in said
     assert f"above {engine.MOST_TOLERANCE} thousandths" in said and "2^30" in said and "2^20" in said and "2^50" in said
     answers = dict(re.findall(r"ROAM_(\w+) = (\d+)", said))
-    assert [int(answers[it]) for it in ("NO_MEMORY", "TOO_MANY_PLANES", "WORN", "IS_EMPTY")] == [
-        engine.NO_MEMORY, engine.TOO_MANY_PLANES, engine.WORN, engine.IS_EMPTY]
+    from calfrewin import _owner
+    named = ("NO_MEMORY", "TOO_MANY_PLANES", "WORN", "IS_EMPTY", "BAD_MESH", "SHRUNK")
+    assert [int(answers[it]) for it in named] == [getattr(_owner, it) for it in named]
 
 
 @pytest.mark.parametrize("number", range(100))
@@ -112,9 +114,9 @@ def test_out_is_written_into_and_heights_are_not_copied():
         assert np.array_equal(corners[..., 2], heights.reshape(-1)[engine.indices()])
         assert np.array_equal(corners[..., 0], engine.indices() % 65 * 30)
     # A C-contiguous uint16 array is read where it lies; all else is copied once.
-    from calfrewin.engine import _whole_heights
-    assert np.shares_memory(_whole_heights(heights), heights)
-    assert np.array_equal(_whole_heights(np.asfortranarray(heights)), heights)
+    from calfrewin.engine import whole_heights
+    assert np.shares_memory(whole_heights(heights), heights)
+    assert np.array_equal(whole_heights(np.asfortranarray(heights)), heights)
 
 
 def test_a_worn_engine_says_so_and_is_renewed():

@@ -103,8 +103,12 @@ def test_halved_tells_how_far_the_others_are(n, seed):
     numbers = np.random.default_rng(seed).integers(-500, 500, (side, side)).astype(np.int32)
     is_vertex = np.zeros((side, side), bool)
     is_vertex[::2, ::2] = True
-    points, away = tiles.halved(numbers, 0.5)
-    assert away == 0.5 * np.abs(surface(numbers, is_vertex) - numbers).max() and np.array_equal(points, numbers[::2, ::2])
+    off = np.abs(surface(numbers, is_vertex) - numbers)
+    points, away = tiles.halved(tiles.Points(numbers, None), 0.5)
+    assert away == 0.5 * off.max() and np.array_equal(points.numbers, numbers[::2, ::2])
+    counts = np.random.default_rng(seed + 1).random(numbers.shape) < 0.5
+    points, away = tiles.halved(tiles.Points(numbers, counts), 0.5)
+    assert away == 0.5 * off[counts].max(initial=0) and np.array_equal(points.counts, counts[::2, ::2])
 
 
 @given(st.integers(1, 6), st.integers(0, 10 ** 6), st.floats(0.1, 50))

@@ -4,12 +4,15 @@
     mesh.vertices, mesh.triangles                  # numpy arrays of shape (n, 3) and (m, 3)
     mesh.save("my.glb")
 
-`Engine` makes the best mesh for a moving camera, `view` for one. `calfrewin.raster` reads what rasterio reads, by windows;
-`calfrewin.export` writes; `calfrewin.tiles` makes 3D Tiles of terrain of any size. Importing this package imports numpy alone.
+`Engine` makes the best mesh for a moving camera, `view` for one; `Fitter` and `Mosaic` make meshes that meet side by side.
+`calfrewin.raster` reads what rasterio reads, by windows; `calfrewin.export` writes; `calfrewin.tiles` makes 3D Tiles of terrain
+of any size. Importing this package imports numpy alone.
 """
 from ._version import __version__
 from .engine import SIDES, Changes, Engine, Fit, Note, State, Worn, changes
+from .fitter import ANY, Fitter, Mosaic, Required, fit_with
 from .mesh import Mesh, fit, surface, view
+from .planes import frustum
 
-__all__ = ["SIDES", "Changes", "Engine", "Fit", "Mesh", "Note", "State", "Worn", "__version__", "changes", "fit",
-           "surface", "view"]
+__all__ = ["ANY", "SIDES", "Changes", "Engine", "Fit", "Fitter", "Mesh", "Mosaic", "Note", "Required", "State", "Worn",
+           "__version__", "changes", "fit", "fit_with", "frustum", "surface", "view"]

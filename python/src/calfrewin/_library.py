@@ -8,7 +8,8 @@ import platform
 from ctypes import POINTER, c_char_p, c_int32, c_int64, c_size_t, c_uint16, c_uint32, c_uint64, c_void_p
 from typing import Any
 
-__all__ = ["ChangesNote", "DeviationNote", "FitNote", "FrameNote", "Handle", "Plane", "StateNote", "calls", "path"]
+__all__ = ["ChangesNote", "DeviationNote", "FitNote", "FrameNote", "Handle", "Plane", "RequiredNote", "StateNote", "TileNote",
+           "calls", "path"]
 
 
 class Handle(ctypes.Structure):
@@ -41,9 +42,18 @@ class StateNote(ctypes.Structure):
                 ("most", c_uint32), ("budget", c_uint32), ("planes", c_uint32)]
 
 
+class TileNote(ctypes.Structure):
+    _fields_ = [(name, c_uint32) for name in ("column", "row", "waits", "spare")]
+
+
+class RequiredNote(ctypes.Structure):
+    _fields_ = [("count", c_size_t), ("lacks", c_uint32), ("spare", c_uint32)]
+
+
 _HANDLE, _COUNT, _ARRAY = POINTER(Handle), POINTER(c_size_t), c_void_p
 _PLACE = [c_int64, c_int64, c_int64]
 _LIST = [_HANDLE, _ARRAY, c_size_t, _COUNT]
+_WITHIN = [c_uint32, _ARRAY, c_size_t, _ARRAY, c_size_t]  # a tolerance for all, those of points, required points
 CALLS = {
     "open": [_HANDLE, _ARRAY, c_size_t, c_uint32, c_uint32],
     "close": [_HANDLE],
@@ -67,6 +77,21 @@ CALLS = {
     "changed": [_HANDLE, _ARRAY, c_size_t, _ARRAY, c_size_t, POINTER(ChangesNote)],
     "changes": [_ARRAY, c_size_t, _ARRAY, c_size_t, _ARRAY, c_size_t, _ARRAY, c_size_t, POINTER(ChangesNote)],
     "state": [_HANDLE, POINTER(StateNote)],
+    "fitter_open": [_HANDLE, _ARRAY, c_size_t],
+    "fitter_close": [_HANDLE],
+    "fitter_fit": [_HANDLE, *_WITHIN, POINTER(c_uint32)],
+    "fitter_more": [_HANDLE, *_WITHIN, POINTER(c_uint32)],
+    "fitter_indices": _LIST,
+    "fitter_leaves": _LIST,
+    "fitter_border": _LIST,
+    "fitter_deviation": [_HANDLE, POINTER(DeviationNote)],
+    "fitter_restore": [_HANDLE, _ARRAY, c_size_t],
+    "fit_with": [_ARRAY, c_size_t, *_WITHIN, _ARRAY, c_size_t, POINTER(FitNote)],
+    "mosaic_open": [_HANDLE, c_uint32, c_uint32, c_uint32],
+    "mosaic_close": [_HANDLE],
+    "mosaic_next": [_HANDLE, POINTER(TileNote)],
+    "mosaic_required": [_HANDLE, c_uint32, c_uint32, _ARRAY, c_size_t, POINTER(RequiredNote)],
+    "mosaic_put": [_HANDLE, c_uint32, c_uint32, _ARRAY, c_size_t],
 }
 HERE = pathlib.Path(__file__).resolve().parent
 PLACES = (

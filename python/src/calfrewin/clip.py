@@ -5,7 +5,7 @@ edge gets one new vertex, whichever of its triangles is asked, so no cracks come
 """
 from __future__ import annotations
 
-from typing import Callable, NamedTuple, Optional
+from typing import Any, Callable, NamedTuple, Optional
 
 import numpy as np
 import numpy.typing as npt
@@ -34,9 +34,9 @@ def compact(indices: Numbers, size: int) -> tuple[npt.NDArray[np.int64], Numbers
     """
     is_used = np.zeros(size, bool)
     is_used[indices.reshape(-1)] = True
-    number = np.cumsum(is_used, dtype=np.uint32)
-    number -= 1
-    return np.flatnonzero(is_used), number[indices]
+    places, number = np.flatnonzero(is_used), np.empty(size, np.uint32)
+    number[places] = np.arange(len(places), dtype=np.uint32)
+    return places, number[indices]
 
 
 def with_triangles(mesh: GridMesh, triangles: Numbers) -> GridMesh:
@@ -45,7 +45,7 @@ def with_triangles(mesh: GridMesh, triangles: Numbers) -> GridMesh:
     return GridMesh(mesh.column[places], mesh.row[places], mesh.number[places], triangles)
 
 
-def grid_mesh(indices: Numbers, numbers: npt.NDArray[np.uint16], last_column: float, last_row: float) -> GridMesh:
+def grid_mesh(indices: Numbers, numbers: npt.NDArray[Any], last_column: float, last_row: float) -> GridMesh:
     """The mesh of an engine's indices, as far as the last column and row go.
 
     Args:
@@ -53,13 +53,22 @@ def grid_mesh(indices: Numbers, numbers: npt.NDArray[np.uint16], last_column: fl
         numbers: side x side numbers, the grid.
         last_column, last_row: where the mesh is to end, above 0; it may be between two points.
     """
+    return as_far_as(points_mesh(indices, numbers), last_column, last_row, numbers.shape[0] - 1)
+
+
+def points_mesh(indices: Numbers, numbers: npt.NDArray[Any]) -> GridMesh:
+    """The mesh of an engine's indices: its vertices by columns and rows of the grid, in the order of their places."""
     side = numbers.shape[0]
     places, triangles = compact(indices, side * side)
     row, column = np.divmod(places, side)
-    found = GridMesh(column.astype(np.float64), row.astype(np.float64),
-                     numbers.reshape(-1)[places].astype(np.float64), triangles)
-    if last_column >= side - 1 and last_row >= side - 1:
+    return GridMesh(column.astype(np.float64), row.astype(np.float64), numbers.reshape(-1)[places].astype(np.float64), triangles)
+
+
+def as_far_as(found: GridMesh, last_column: float, last_row: float, steps: int) -> GridMesh:
+    """A mesh over `steps` x `steps` cells as far as the last column and row go."""
+    if last_column >= steps and last_row >= steps:
         return found
+    triangles = found.triangles
     # Of each triangle, by its corners: whether one is beyond an end, and whether one is before it, along both ways.
     flags = ((found.column > last_column) * BEYOND_COLUMN + (found.row > last_row) * BEYOND_ROW
              + (found.column < last_column) * BEFORE_COLUMN + (found.row < last_row) * BEFORE_ROW).astype(np.uint8)

@@ -16,13 +16,26 @@ from . import __version__
 from .export import GLOBE, KINDS
 from .formats import ENCODINGS
 
-Progress = Callable[[int, int], None]
+Progress = Callable[..., None]
 # Options that have no meaning for the other kind of OUT.
 OF_A_FILE = {name: f"--{name}" for name in (
-    "triangles", "camera", "window", "bounds", "every", "measure", "mask", "crs", "origin", "texture", "uv", "quantize", "base",
+    "camera", "window", "bounds", "every", "measure", "mask", "crs", "origin", "texture", "uv", "quantize", "base",
     "size")}
-OF_A_FOLDER = {"zoom": "--zoom", "scheduler": "--dask"}
+OF_A_FOLDER = {"zoom": "--zoom", "skirts": "--skirts", "certify": "--certify"}
+OF_TILES = {"triangles": "--triangles", "skirts": "--skirts", "certify": "--certify"}  # and not of quantized-mesh
+MOST_POINTS = 2049  # a side, of one mesh
 MUCH_FILLED = 0.05  # of the points: above this it warns
+SETTINGS = {"help_option_names": ["-h", "--help"], "max_content_width": 120}
+# Words of more than one command.
+BAND = click.option("--band", type=int, default=1, show_default=True)
+ENCODING = click.option("--encoding", type=click.Choice(ENCODINGS), help="For pictures whose colours are heights.")
+NODATA = click.option("--nodata", type=float, help="The number that stands for no height, where IN does not say.")
+SPACING = click.option("--spacing", metavar="METRES", type=click.FloatRange(0, min_open=True),
+                       help="Metres from point to point, where IN does not say.")
+WORKERS = click.option("--workers", metavar="N", type=click.IntRange(1), default=1, show_default=True,
+                       help="Processes for tiles.")
+AS_JSON = click.option("--json", "as_json", is_flag=True, help="The report as one line of JSON.")
+QUIET = click.option("--quiet", "-q", is_flag=True, help="No progress.")
 
 
 @dataclass(frozen=True)
@@ -57,6 +70,7 @@ class Words:
     kind: Optional[str]
     zoom: Optional[int]
     skirts: bool
+    certify: bool
     workers: int
     scheduler: Optional[str]
     measure: bool
@@ -81,9 +95,9 @@ def numbers(kind: Callable[[str], Any], names: str) -> Callable[[click.Context, 
 
 
 @contextlib.contextmanager
-def stage(label: str, words: Words) -> Iterator[Optional[Progress]]:
+def stage(label: str, quiet: bool) -> Iterator[Optional[Progress]]:
     """A progress bar on standard error where that is a terminal, else one line."""
-    if words.quiet:
+    if quiet:
         yield None
         return
     if not sys.stderr.isatty():
@@ -91,14 +105,14 @@ def stage(label: str, words: Words) -> Iterator[Optional[Progress]]:
         yield None
         return
     with click.progressbar(length=1, label=label, file=sys.stderr, width=30) as bar:
-        def tell(done: int, total: int) -> None:
-            bar.length = total
+        def tell(done: int, total: int, text: str = "") -> None:
+            bar.length, bar.label = total, f"{label}: {text}" if text else label
             bar.update(done - bar.pos)
         yield tell
         tell(1, 1)
 
 
-@click.command("mesh", context_settings={"help_option_names": ["-h", "--help"], "max_content_width": 120})
+@click.command("mesh", context_settings=SETTINGS)
 @click.argument("source", metavar="IN")
 @click.argument("out", metavar="OUT")
 @click.option("--error", metavar="METRES", type=click.FloatRange(0),
@@ -116,15 +130,14 @@ def stage(label: str, words: Words) -> Iterator[Optional[Progress]]:
               help="Takes every Nth point; without it as few are left out as 2049 points "
               "a side need.")
 @click.option("--measure", is_flag=True, help="Reads IN once more and tells the error at all its points, those left out too.")
-@click.option("--band", type=int, default=1, show_default=True)
-@click.option("--encoding", type=click.Choice(ENCODINGS), help="For pictures whose colours are heights.")
+@BAND
+@ENCODING
 @click.option("--mask", type=click.Path(exists=True, dir_okay=False), help="A file of polygons (.geojson, or what fiona reads): "
               "only what lies within.")
-@click.option("--nodata", type=float, help="The number that stands for no height, where IN does not say.")
+@NODATA
 @click.option("--fill", metavar="METRES", type=float,
               help="The height of points without one; without it they are filled from their edges.")
-@click.option("--spacing", metavar="METRES", type=click.FloatRange(0, min_open=True),
-              help="Metres from point to point, where IN does not say.")
+@SPACING
 @click.option("--unit", metavar="METRES", type=click.FloatRange(0, min_open=True),
               help="Heights are rounded to multiples of it; without it the "
               "finest that their range allows.")
@@ -149,13 +162,16 @@ def stage(label: str, words: Words) -> Iterator[Optional[Progress]]:
               help="OUT is a folder of 3D Tiles with so many points a side [513]; of quantized-mesh [129].")
 @click.option("--format", "kind", type=click.Choice(["3dtiles", "quantized-mesh"]), help="What a folder OUT holds [3dtiles].")
 @click.option("--zoom", type=click.IntRange(0, 22), help="The finest zoom of quantized-mesh; without it as fine as IN.")
-@click.option("--skirts/--no-skirts", default=True, show_default=True, help="Walls down from the borders of tiles.")
-@click.option("--workers", metavar="N", type=click.IntRange(1), default=1, show_default=True, help="Processes for tiles.")
+@click.option("--skirts", is_flag=True, help="Tiles with walls down from their borders, which hide cracks; without it borders "
+              "match, and there are none.")
+@click.option("--certify", is_flag=True, help="Writes a certificate for each tile: that no mesh of the whole has fewer "
+              "triangles.")
+@WORKERS
 @click.option("--dask", "scheduler", metavar="ADDRESS", help="Makes tiles on the workers of this scheduler, as "
               "tcp://127.0.0.1:8786.")
 @click.option("--overwrite", is_flag=True, help="Replaces OUT where it is there.")
-@click.option("--json", "as_json", is_flag=True, help="The report as one line of JSON.")
-@click.option("--quiet", "-q", is_flag=True, help="No progress.")
+@AS_JSON
+@QUIET
 @click.version_option(__version__)
 def mesh(**words: Any) -> None:
     """Meshes of few triangles of the heights of IN, with a proved error.
@@ -173,19 +189,30 @@ def mesh(**words: Any) -> None:
     try:
         report = run(asked)
     except KeyboardInterrupt:
-        raise click.ClickException(f"interrupted; {asked.out} is as it was") from None
-    except (ValueError, TypeError, OSError, MemoryError, ImportError) as why:
+        raise click.ClickException(f"interrupted; {_left(asked)}") from None
+    except (ValueError, TypeError, OSError, MemoryError, ImportError, RuntimeError) as why:
         raise click.ClickException(str(why) or type(why).__name__) from None
     click.echo(json.dumps(report) if asked.as_json else told(report))
 
 
+def _left(words: Words) -> str:
+    """What an interrupted call has left."""
+    kept = pathlib.Path(words.out, ".calfrewin")
+    return f"{words.out} has what is done, and the same call goes on" if kept.exists() else f"{words.out} is as it was"
+
+
 def main() -> None:
-    """`calfrewin`, and `python3 -m calfrewin`: `fly` is a word of its own, and everything else makes a mesh."""
+    """`calfrewin`, and `python3 -m calfrewin`: `fly`, `check` and `certify` are words of their own, everything else makes a
+    mesh."""
     # A window of a raster wants no more than some rows; GDAL takes a twentieth of the memory if nothing is said.
     os.environ.setdefault("GDAL_CACHEMAX", "64")
     if sys.argv[1:2] == ["fly"]:
         from .fly import fly
         fly(sys.argv[2:], prog_name="calfrewin fly")
+    if sys.argv[1:2] == ["check"]:
+        check(sys.argv[2:], prog_name="calfrewin check")
+    if sys.argv[1:2] == ["certify"]:
+        certify(sys.argv[2:], prog_name="calfrewin certify")
     mesh(prog_name="calfrewin")
 
 
@@ -227,6 +254,9 @@ def _refuse(words: Words, is_folder: bool) -> None:
         "one of --window and --bounds is wanted": words.window is not None and words.bounds is not None,
     }
     options = OF_A_FILE if is_folder else OF_A_FOLDER
+    for_mesh = [option for name, option in OF_TILES.items() if words.kind == "quantized-mesh" and getattr(words, name)]
+    wrong[f"{' and '.join(for_mesh)}: for 3D Tiles, and not for quantized-mesh"] = bool(for_mesh)
+    wrong["--skirts has no certificate: its tiles do not meet"] = words.skirts and words.certify
     given = [option for name, option in options.items() if (it := getattr(words, name)) is not None and it is not False]
     given += ["--exaggerate"] if is_folder and words.exaggerate != 1 else []
     of = "one file, and OUT is a folder of tiles" if is_folder else "a folder of tiles, and OUT is one file"
@@ -242,24 +272,19 @@ def _refuse(words: Words, is_folder: bool) -> None:
 
 def folder(raster: Any, words: Words) -> dict[str, Any]:
     """A folder of tiles."""
-    with stage("making tiles", words) as progress:
+    with stage("making tiles", words.quiet) as progress:
         if words.kind == "quantized-mesh":
             from .quantized import terrain
             found = terrain(raster, words.out, zoom=words.zoom, side=words.tile or 129, normals=words.normals, progress=progress)
             return {"out": words.out, "kind": words.kind} | found
-        if words.error is None:
-            raise click.UsageError("tiles want --error METRES")
         from . import tiles
-        client, out = None, words.out
-        if words.scheduler:
-            from dataclasses import replace
-            from distributed import Client
-            client = Client(words.scheduler)  # type: ignore[no-untyped-call]
-            out = os.path.abspath(out)
-            raster = replace(raster, path=raster.path if "://" in raster.path else os.path.abspath(raster.path))
-        plan = tiles.plan_of(raster, out, error=words.error, tile=words.tile or 513, unit=words.unit, fill=words.fill or 0.0,
-                             normals=words.normals, skirts=words.skirts)
-        found = tiles.build(plan, client=client, workers=words.workers, progress=progress)
+        client, out = client_of(words), words.out
+        if client:
+            out, raster = os.path.abspath(out), raster.absolute()
+        plan = tiles.plan_of(raster, out, error=words.error, tile=words.tile or 513, unit=words.unit, fill=words.fill,
+                             normals=words.normals, skirts=words.skirts, certify=words.certify)
+        found = tiles.build(plan, client=client, workers=words.workers, triangles=words.triangles, overwrite=words.overwrite,
+                            progress=progress)
         return {"out": os.path.join(out, "tileset.json"), "kind": "3dtiles"} | found
 
 
@@ -270,6 +295,11 @@ def one(raster: Any, words: Words) -> dict[str, Any]:
     from .export import save
     window = raster.window_of(words.bounds) if words.bounds else raster.window(by_rows(words.window))
     crs = words.crs or systems.metres_crs(raster.crs, raster.transform, raster.shape)
+    if is_joined(words, window, crs):
+        return joined(raster, words, window, crs)
+    if words.scheduler or words.workers > 1:
+        raise click.UsageError("--workers and --dask: for tiles, and for a .glb of more than 2049 points a side with --error or "
+                               "--triangles; OUT is one mesh")
     camera = words.camera
     if camera and crs and raster.crs and crs != raster.crs:
         x, y = systems.flat_transformer(crs, raster.crs).transform(*camera[:2])
@@ -279,12 +309,12 @@ def one(raster: Any, words: Words) -> dict[str, Any]:
         from .mask import mask_of
         polygons = mask_of(words.mask, raster.crs)
     texture = pathlib.Path(words.texture).read_bytes() if words.texture else None
-    with stage(f"reading {words.source}, {window.columns} x {window.rows} points, and meshing", words) as progress:
+    with stage(f"reading {words.source}, {window.columns} x {window.rows} points, and meshing", words.quiet) as progress:
         found = r.fit_raster(raster, error=words.error, triangles=words.triangles, window=window, every=words.every,
                              fill=words.fill, unit=words.unit, camera=camera, globe=crs == GLOBE, polygons=polygons,
                              progress=progress)
     made = found.mesh
-    with stage(f"writing {words.out}", words):
+    with stage(f"writing {words.out}", words.quiet):
         report = save(made, words.out, crs=crs, origin=words.origin, normals=words.normals, uv=words.uv, texture=texture,
                       quantize=words.quantize, base=words.base, size=words.size, exaggerate=words.exaggerate)
     covered = made.cells() * found.every ** 2 / ((raster.shape[0] - 1) * (raster.shape[1] - 1))
@@ -293,9 +323,99 @@ def one(raster: Any, words: Words) -> dict[str, Any]:
     if crs and made.crs and crs not in (made.crs, GLOBE):
         report["sideways"] = round(systems.sideways(made, crs), 3)
     if words.measure:
-        with stage(f"measuring {words.source}", words) as progress:
+        with stage(f"measuring {words.source}", words.quiet) as progress:
             report["error_at_all_points"] = r.measured(raster, found, progress)
     return report
+
+
+def is_joined(words: Words, window: Any, crs: Optional[str]) -> bool:
+    """Whether a file is made of tiles that are joined: a plain .glb of all points, where these are too many for one mesh."""
+    other = (words.camera, words.every, words.mask, words.texture, words.base, words.size)
+    return (pathlib.PurePath(words.out).suffix.lower() == ".glb" and max(window.rows, window.columns) > MOST_POINTS
+            and all(it is None for it in other) and not words.uv and not words.quantize and crs != GLOBE)
+
+
+def joined(raster: Any, words: Words, window: Any, crs: Optional[str]) -> dict[str, Any]:
+    """One file of tiles that are joined."""
+    from .join import join
+    client = client_of(words)
+    part = (raster.absolute() if client else raster).part(window)
+    with stage(f"meshing {words.source}, {window.columns} x {window.rows} points", words.quiet) as progress:
+        report = join(part, os.path.abspath(words.out) if client else words.out, error=words.error, triangles=words.triangles,
+                      crs=crs, origin=words.origin, normals=words.normals, exaggerate=words.exaggerate, unit=words.unit,
+                      fill=words.fill, client=client, workers=words.workers, overwrite=words.overwrite, progress=progress)
+    cells = report.pop("cells")
+    return report | {"out": words.out, "points": list(part.shape), "of": list(raster.shape), "every": 1, "filled": 0,
+                     "covered": round(cells / ((raster.shape[0] - 1) * (raster.shape[1] - 1)), 4)}
+
+
+def client_of(words: Words) -> Any:
+    """A client of the scheduler, if one is named."""
+    if not words.scheduler:
+        return None
+    from distributed import Client
+    return Client(words.scheduler)  # type: ignore[no-untyped-call]
+
+
+def of_tiles(command: Any) -> Any:
+    """The words of a command that looks at a folder of tiles."""
+    for words in (QUIET, AS_JSON, WORKERS, SPACING, NODATA, ENCODING, BAND):
+        command = words(command)
+    return click.argument("folder", metavar="TILES", type=click.Path(exists=True, file_okay=False))(command)
+
+
+def looked(label: str, quiet: bool, source: Optional[str], reading: dict[str, Any],
+           look: Callable[[Any, Optional[Progress]], dict[str, Any]]) -> dict[str, Any]:
+    """What `look` finds beside a raster, if one is named."""
+    from .raster import open_raster
+    try:
+        raster = None if source is None else open_raster(source, **reading)
+        with stage(label, quiet) as progress:
+            return look(raster, progress)
+    except (ValueError, TypeError, KeyError, OSError, MemoryError, ImportError, RuntimeError) as why:
+        raise click.ClickException(str(why) or type(why).__name__) from None
+
+
+def end(found: dict[str, Any], as_json: bool, kind: str, told: str) -> None:
+    """Tells what was found, and ends with status 1 where something is wrong."""
+    if as_json:
+        click.echo(json.dumps(found))
+    else:
+        for line in found["wrong"]:
+            click.echo(f"{kind}: {line}")
+        click.echo(told)
+    sys.exit(1 if found["wrong"] else 0)
+
+
+@click.command("check", context_settings=SETTINGS)
+@click.option("--raster", "source", metavar="IN", required=True, help="What the tiles were made of.")
+@click.option("--error", metavar="METRES", type=click.FloatRange(0), help="What the finest tiles are to be within; without it "
+              "what they tell.")
+@of_tiles
+def check(folder: str, source: str, error: Optional[float], workers: int, as_json: bool, quiet: bool, **reading: Any) -> None:
+    """Checks 3D Tiles beside the raster that they were made of, by code that shares nothing with what makes them: each point is
+    covered once, no mixture of levels has a crack, and every point of IN is within the error that is told."""
+    from .check import check as look
+    found = looked(f"checking {folder}", quiet, source, reading, lambda raster, progress: look(
+        folder, raster, workers=workers, error=error, progress=progress))
+    end(found, as_json, "wrong", "{folder}: {tiles} tiles, {triangles} triangles in the finest, {points} points measured, the "
+        "finest are off by at most {off:.6g} m, {verdict}; {seconds} s".format(
+            folder=folder, verdict="and more is wrong" if found["wrong"] else "without a crack or a hole", **found))
+
+
+@click.command("certify", context_settings=SETTINGS)
+@click.option("--raster", "source", metavar="IN", help="What the tiles were made of; without it what they name.")
+@of_tiles
+def certify(folder: str, source: Optional[str], workers: int, as_json: bool, quiet: bool, **reading: Any) -> None:
+    """Checks the certificates of 3D Tiles that were made with --certify, tile by tile and then side by side, by code that shares
+    nothing with what makes them: no mesh as fine as the tiles that is as near to the heights of IN has fewer triangles."""
+    from .certify import certify as look
+    found = looked(f"checking the certificates of {folder}", quiet, source, reading, lambda raster, progress: look(
+        folder, raster, workers=workers, progress=progress))
+    verdict = "not certified" if found["wrong"] else (
+        "certified: none within {tolerance:.6g} m of the heights, in units of {unit:g} m, has fewer".format(**found))
+    end(found, as_json, "refused", "{folder}: {tiles} tiles, {triangles} triangles, in {rounds} rounds; {verdict}; {seconds} s"
+        .format(folder=folder, verdict=verdict, **found))
 
 
 def by_rows(window: Optional[tuple[int, int, int, int]]) -> Optional[tuple[int, int, int, int]]:

@@ -8,18 +8,20 @@ from __future__ import annotations
 import ctypes
 import math
 import operator
-import threading
 from ctypes import byref, c_size_t
 from fractions import Fraction
-from types import TracebackType
-from typing import Any, NamedTuple, Optional, Sequence, SupportsFloat, Type, Union
+from typing import Any, NamedTuple, Optional, Sequence, SupportsFloat, Union
 
 import numpy as np
 import numpy.typing as npt
 
 from . import _library as c
 from ._library import calls
+from ._owner import IS_EMPTY, NO_MEMORY, TOO_MANY_PLANES, WORN, Owner, Worn
 from ._types import Numbers
+
+__all__ = ["IS_EMPTY", "NO_MEMORY", "TOO_MANY_PLANES", "WORN", "Changes", "Engine", "Fit", "Note", "SIDES", "State", "Whole",
+           "Worn", "changes", "thousandths_of", "whole", "whole_heights"]
 
 Whole = Union[int, "np.integer[Any]"]
 
@@ -27,11 +29,6 @@ Whole = Union[int, "np.integer[Any]"]
 SIDES = tuple(2 ** n + 1 for n in range(1, 12))
 MOST_TRIANGLES, MOST_SPACING, MOST_COORDINATE, MOST_PLANES = 1_048_576, 1024, 1 << 30, 6
 MOST_SLOPE, MOST_OFFSET, MOST_HEIGHT, MOST_TOLERANCE, MOST_BUDGET = 1 << 20, 1 << 50, 65_535, 65_535_999, (1 << 32) - 1
-NO_MEMORY, TOO_MANY_PLANES, WORN, IS_EMPTY = 1, 7, 10, 12
-
-
-class Worn(RuntimeError):
-    """The engine has made 1,000,000 frames: call renew(); or its camera has gone 2^61 units."""
 
 
 class Note(NamedTuple):
@@ -104,7 +101,17 @@ def _plane(a: Whole, b: Whole, c_: Whole, d: Whole) -> list[int]:
     return [*slopes, whole("d", d, -MOST_OFFSET, MOST_OFFSET)]
 
 
-def _whole_heights(heights: npt.ArrayLike) -> npt.NDArray[np.uint16]:
+def thousandths_of(tolerance: float) -> int:
+    """A tolerance in thousandths, by the decimals that a float prints as; what is finer is rounded down.
+
+    >>> thousandths_of(0.29)
+    290
+    """
+    exact = math.floor(Fraction(str(tolerance)) * 1000) if math.isfinite(tolerance) else tolerance
+    return whole("tolerance in thousandths", exact, 0, MOST_TOLERANCE)
+
+
+def whole_heights(heights: npt.ArrayLike) -> npt.NDArray[np.uint16]:
     """The heights as uint16 in rows: the same array where it is one already, else a copy."""
     found = np.asarray(heights)
     if found.dtype != np.uint16:
@@ -120,7 +127,7 @@ def _whole_heights(heights: npt.ArrayLike) -> npt.NDArray[np.uint16]:
     return np.ascontiguousarray(found, np.uint16)
 
 
-class Engine:
+class Engine(Owner):
     """An engine over a copy of a grid of heights, within a `with` block or until `close`.
 
     Args:
@@ -145,60 +152,17 @@ class Engine:
     ((4, 3), [4, 6, 8])
     """
 
+    _kind, _prefix = "engine", ""
+    _told = {TOO_MANY_PLANES: "planes: six are in force, and there may be no more"}
+
     def __init__(self, heights: npt.ArrayLike, budget: Whole, spacing: Whole = 1) -> None:
-        self._handle, self._lock = c.Handle(), threading.Lock()
-        self._reference = byref(self._handle)
+        super().__init__()
         most = whole("budget", budget, 2, MOST_TRIANGLES)
         step = whole("spacing", spacing, 1, MOST_SPACING)
-        grid = _whole_heights(heights)
+        grid = whole_heights(heights)
         self._call("open", grid.ctypes.data, grid.size, most, step)
         # Of the last frame's mesh: at first the two base triangles.
         self._most, self._side, self._triangles, self._vertices = most, math.isqrt(grid.size), 2, 4
-
-    def _call(self, name: str, *words: Any) -> None:
-        """One call, and its answer as an exception. Two at a time on one handle would be a race in C."""
-        if not self._lock.acquire(False):
-            raise RuntimeError("another thread is using this engine: give each its own, or share a lock")
-        try:
-            answer = calls[name](self._reference, *words)
-        finally:
-            self._lock.release()
-        if answer == 0:
-            return
-        if answer == NO_MEMORY:
-            raise MemoryError("out of memory")
-        if answer == WORN:
-            raise Worn(Worn.__doc__)
-        told = {TOO_MANY_PLANES: "planes: six are in force, and there may be no more", IS_EMPTY: "the engine is closed"}
-        raise ValueError(told.get(answer, f"roam_{name} refused its arguments with answer {answer}"))
-
-    def close(self) -> None:
-        """Lets go of the engine and its memory; closing twice does nothing.
-
-        >>> engine = Engine([[0] * 3] * 3, 2)
-        >>> engine.close(); engine.close()
-        >>> engine.frame()
-        Traceback (most recent call last):
-        ValueError: the engine is closed
-        """
-        if not self._lock.acquire(False):
-            raise RuntimeError("another thread is using this engine, so it cannot be closed")
-        try:
-            calls["close"](self._reference)
-        finally:
-            self._lock.release()
-
-    def __enter__(self) -> Engine:
-        return self
-
-    def __exit__(self, kind: Optional[Type[BaseException]], why: Optional[BaseException],
-                 where: Optional[TracebackType]) -> None:
-        self.close()
-
-    # What it calls is bound here: as the interpreter ends, the names of modules go.
-    def __del__(self, close: Any = calls["close"], reference: Any = byref) -> None:
-        if hasattr(self, "_handle"):  # not where the arguments were too few
-            close(reference(self._handle))
 
     def __repr__(self) -> str:
         try:
@@ -308,21 +272,6 @@ class Engine:
         self._triangles, self._vertices = note.triangles, note.vertices
         return Note(*(getattr(note, name) for name in Note._fields))
 
-    def _list(self, name: str, out: Optional[Numbers], count: int, each: int) -> Numbers:
-        """What a call writes: rows of `each` numbers, into `out` or into an array of its own of `count` rows."""
-        places = each * count
-        if out is None:
-            out = np.empty(places, np.uint32)
-        elif not (isinstance(out, np.ndarray) and out.dtype == np.uint32 and out.flags.c_contiguous
-                  and out.flags.writeable):
-            raise TypeError("out has to be a writable, C-contiguous array of numpy.uint32")
-        elif out.size < places:
-            raise ValueError(f"out has {out.size} places, and has to have at least {places}")
-        written = c_size_t()
-        self._call(name, out.ctypes.data, out.size, byref(written))
-        found = out.reshape(-1)[:each * written.value]
-        return found if each == 1 else found.reshape(-1, each)
-
     def indices(self, out: Optional[Numbers] = None) -> Numbers:
         """Shape (triangles, 3): places in the heights of the last frame's mesh: apex and the ends of the base,
         counterclockwise from above.
@@ -402,9 +351,7 @@ class Engine:
         >>> len(engine.fit(9).triangles), len(engine.fit(8.9).triangles), engine.fit(0, budget=3).deviation
         (2, 4, Fraction(9, 1))
         """
-        # By the decimals that a float prints as, so that 0.29 is 290 thousandths and not 289.
-        exact = math.floor(Fraction(str(tolerance)) * 1000) if math.isfinite(tolerance) else tolerance
-        thousandths = whole("tolerance in thousandths", exact, 0, MOST_TOLERANCE)
+        thousandths = thousandths_of(tolerance)
         finest = 2 * (self._side - 1) ** 2
         most = finest if budget is None else whole("budget", budget, 2, MOST_BUDGET)
         out, note = np.empty(3 * min(most, finest), np.uint32), c.FitNote()

@@ -35,3 +35,9 @@ def write_bytes(path: str, *data: Any) -> None:
         with open(room, "wb") as file:
             file.writelines(data)
     whole_file(path, write)
+
+
+def move(path: str, goal: str) -> None:
+    """Puts a file that is whole in the place of `goal`, on the same file system."""
+    os.chmod(path, 0o666 & ~_UMASK)
+    os.replace(path, os.path.realpath(goal))

@@ -8,7 +8,7 @@ from __future__ import annotations
 
 import json
 import struct
-from typing import Any, Optional, Sequence
+from typing import Any, NamedTuple, Optional, Sequence
 
 import numpy as np
 import numpy.typing as npt
@@ -17,6 +17,7 @@ FLOAT, UNSIGNED_SHORT, UNSIGNED_INT, BYTE = 5126, 5123, 5125, 5120
 ARRAY_BUFFER, ELEMENT_ARRAY_BUFFER = 34962, 34963
 CLAMP_TO_EDGE, LINEAR, LINEAR_MIPMAP_LINEAR = 33071, 9729, 9987
 TRIANGLES = 4
+COLOR = (0.72, 0.69, 0.62, 1.0)
 PICTURES = {b"\x89PNG": "image/png", b"\xff\xd8": "image/jpeg"}  # by their first bytes
 Array = npt.NDArray[Any]
 
@@ -77,7 +78,7 @@ class Buffer:
 def glb(positions: Array, triangles: Array, *, normals: Optional[Array] = None, uv: Optional[Array] = None,
         matrix: Optional[Sequence[float]] = None, translation: Optional[Sequence[float]] = None,
         scale: Optional[Sequence[float]] = None, image: Optional[bytes] = None,
-        color: Sequence[float] = (0.72, 0.69, 0.62, 1.0), extras: Optional[dict[str, Any]] = None) -> list[Any]:
+        color: Sequence[float] = COLOR, extras: Optional[dict[str, Any]] = None) -> list[Any]:
     """A GLB, in pieces of bytes that are never put together in memory.
 
     Args:
@@ -100,20 +101,15 @@ def glb(positions: Array, triangles: Array, *, normals: Optional[Array] = None, 
     if uv is not None:
         attributes["TEXCOORD_0"] = buffer.attribute(np.asarray(uv, "<f4"), FLOAT)
     index = buffer.indices(triangles, len(positions))
-    # A material is of metal where nothing else is said, and dark in viewers.
-    paint: dict[str, Any] = {"baseColorFactor": list(color), "metallicFactor": 0.0, "roughnessFactor": 1.0}
     node: dict[str, Any] = {"mesh": 0}
     for name, value in (("matrix", matrix), ("translation", translation), ("scale", scale)):
         if value is not None:
             node[name] = [float(number) for number in value]
     if extras:
         node["extras"] = extras
-    primitive = {"attributes": attributes, "indices": index, "material": 0, "mode": TRIANGLES}
-    head: dict[str, Any] = {
-        "asset": {"version": "2.0", "generator": "calfrewin"},
-        "scene": 0, "scenes": [{"nodes": [0]}], "nodes": [node], "meshes": [{"primitives": [primitive]}],
-        "materials": [{"pbrMetallicRoughness": paint, "doubleSided": False}],
-    }
+    head = _head(attributes, index, node)
+    paint = head["materials"][0]["pbrMetallicRoughness"]
+    paint["baseColorFactor"] = list(color)
     if image is not None:
         kind = next((kind for begin, kind in PICTURES.items() if image.startswith(begin)), None)
         if kind is None:
@@ -136,11 +132,67 @@ def _bytes_of_normals(buffer: Buffer, normals: Array, scale: Optional[Sequence[f
     return buffer.attribute(np.rint(bent * 127).astype(np.int8), BYTE, normalized=True)
 
 
+class Layout(NamedTuple):
+    """Where the parts of a GLB lie that is written piece by piece."""
+    positions: int  #: the first byte of each: three floats of 32 bits a vertex
+    normals: int  #: the same, or where they would be
+    indices: int  #: three uint32 a triangle
+    size: int
+    head: bytes
+
+
+ROOM = 1 << 14  # bytes, for numbers of the JSON that are not known before all is written
+
+
+def layout(vertices: int, triangles: int, has_normals: bool, bounds: Array, extras: dict[str, Any]) -> Layout:
+    """The head of a GLB of one mesh, and where its parts lie: that depends on the counts alone.
+
+    Args:
+        bounds: the least and the greatest of each coordinate, shape (2, 3).
+        extras: of the node; `bounds` and these take less than 16 KB.
+    """
+    each = 12 * vertices
+    views = [{"buffer": 0, "byteOffset": at, "byteLength": each, "byteStride": 12, "target": ARRAY_BUFFER}
+             for at in range(0, 2 * each if has_normals else each, each)]
+    views.append({"buffer": 0, "byteOffset": each * len(views), "byteLength": 12 * triangles, "target": ELEMENT_ARRAY_BUFFER})
+    accessors: list[dict[str, Any]] = [
+        {"bufferView": 0, "componentType": FLOAT, "count": vertices, "type": "VEC3", "min": bounds[0].tolist(),
+         "max": bounds[1].tolist()},
+        {"bufferView": 1, "componentType": FLOAT, "count": vertices, "type": "VEC3"},
+        {"bufferView": len(views) - 1, "componentType": UNSIGNED_INT, "count": 3 * triangles, "type": "SCALAR"}]
+    if not has_normals:
+        del accessors[1]
+    attributes = {"POSITION": 0, "NORMAL": 1} if has_normals else {"POSITION": 0}
+    length = each * (len(views) - 1) + 12 * triangles
+    head = _head(attributes, len(accessors) - 1, {"mesh": 0, "extras": extras}) | {
+        "accessors": accessors, "bufferViews": views, "buffers": [{"byteLength": length}]}
+    text = json.dumps(head, separators=(",", ":")).encode()
+    begin = 12 + 8 + ROOM + 8
+    _refuse_long(begin + length)
+    if len(text) > ROOM:
+        raise ValueError(f"what a GLB tells of itself takes {len(text)} bytes, and may take {ROOM}")
+    return Layout(begin, begin + each, begin + each * (len(views) - 1), begin + length, b"".join((
+        struct.pack("<4sII", b"glTF", 2, begin + length), struct.pack("<I4s", ROOM, b"JSON"), text.ljust(ROOM),
+        struct.pack("<I4s", length, b"BIN\0"))))
+
+
+def _head(attributes: dict[str, int], indices: int, node: dict[str, Any]) -> dict[str, Any]:
+    # A material is of metal where nothing else is said, and dark in viewers.
+    paint: dict[str, Any] = {"baseColorFactor": list(COLOR), "metallicFactor": 0.0, "roughnessFactor": 1.0}
+    primitive = {"attributes": attributes, "indices": indices, "material": 0, "mode": TRIANGLES}
+    return {"asset": {"version": "2.0", "generator": "calfrewin"}, "scene": 0, "scenes": [{"nodes": [0]}], "nodes": [node],
+            "meshes": [{"primitives": [primitive]}], "materials": [{"pbrMetallicRoughness": paint, "doubleSided": False}]}
+
+
+def _refuse_long(size: int) -> None:
+    if size >= 1 << 32:
+        raise ValueError(f"a GLB of {size} bytes is more than its 32-bit length can say: give a greater error, or make tiles")
+
+
 def _chunks(head: dict[str, Any], buffer: Buffer) -> list[Any]:
     text = json.dumps(head, separators=(",", ":")).encode()
     text += b" " * (-len(text) % 4)
     size = 12 + 8 + len(text) + 8 + buffer.length
-    if size >= 1 << 32:
-        raise ValueError(f"a GLB of {size} bytes is more than its 32-bit length can say: give a greater error, or make tiles")
+    _refuse_long(size)
     return [struct.pack("<4sII", b"glTF", 2, size), struct.pack("<I4s", len(text), b"JSON"), text,
             struct.pack("<I4s", buffer.length, b"BIN\0"), *buffer.parts]

@@ -43,7 +43,12 @@ def ground_normals(mesh: Mesh, crs: Optional[str] = None, exaggerate: float = 1.
     """
     if mesh.grid is None:
         raise ValueError("the mesh has no grid of its own: it was made for the globe, or not by fit and view")
-    right, down = (rise * np.float32(exaggerate) for rise in _rises(mesh, mesh.grid))
+    return normals_by_rises(mesh, *_rises(mesh, mesh.grid), crs, exaggerate)
+
+
+def normals_by_rises(mesh: Mesh, right: Normals, down: Normals, crs: Optional[str] = None, exaggerate: float = 1.0) -> Normals:
+    """The same, from how much the ground rises by a step along columns and along rows at each vertex."""
+    right, down = (rise * np.float32(exaggerate) for rise in (right, down))
     level, by_right, by_down = (part.astype(np.float32) for part in _steps(mesh, crs))
     found = [level[axis] + right * by_right[axis] + down * by_down[axis] for axis in range(3)]
     length = np.sqrt(found[0] * found[0] + found[1] * found[1] + found[2] * found[2])

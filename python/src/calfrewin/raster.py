@@ -51,6 +51,7 @@ class Raster:
     offset: float
     dtype: str
     encoding: Optional[str] = None  #: terrain-rgb or terrarium, where colours are heights
+    corner: tuple[int, int] = (0, 0)  #: row and column of the file's points that are (0, 0) here
 
     @property
     def is_whole(self) -> bool:
@@ -59,10 +60,10 @@ class Raster:
 
     def heights(self, row: int, column: int, rows: int, columns: int) -> npt.NDArray[Any]:
         """Shape (rows, columns): metres, float32 (float64 from wide types), NaN where there is none."""
-        numbers = self._numbers(row, column, rows, columns)
+        numbers = self._numbers(self.corner[0] + row, self.corner[1] + column, rows, columns)
         is_wide = numbers.dtype.itemsize > (4 if numbers.dtype.kind == "f" else 2)
         kind = np.float64 if is_wide else np.float32
-        heights = numbers.astype(kind)
+        heights = numbers.astype(kind, copy=False)
         if self.nodata is not None and not math.isnan(self.nodata):
             heights[numbers == self.nodata] = np.nan
         if (self.factor, self.offset) != (1, 0):
@@ -71,7 +72,7 @@ class Raster:
 
     def _numbers(self, row: int, column: int, rows: int, columns: int) -> npt.NDArray[Any]:
         if self.form != "gdal":
-            return formats.array_of_file(self.path, self.form)[row:row + rows, column:column + columns]
+            return np.array(formats.array_of_file(self.path, self.form)[row:row + rows, column:column + columns])
         bands = [1, 2, 3] if self.encoding else self.band
         from rasterio.errors import RasterioError, RasterioIOError
         try:
@@ -79,6 +80,22 @@ class Raster:
         except (RasterioError, RasterioIOError) as why:
             raise Unreadable(f"{self.path} cannot be read to its end: {why}") from None
         return formats.decoded(self.encoding, found) if self.encoding else np.asarray(found)
+
+    def part(self, window: Optional[Sequence[int]]) -> Raster:
+        """A window of it as a raster of its own."""
+        row, column, rows, columns = self.window(window)
+        a, b, c, d, e, f = self.transform
+        return replace(self, shape=(rows, columns), corner=(self.corner[0] + row, self.corner[1] + column),
+                       transform=(a, b, a * column + b * row + c, d, e, d * column + e * row + f))
+
+    def absolute(self) -> Raster:
+        """The same under a name that holds in any folder."""
+        return self if "://" in self.path else replace(self, path=os.path.abspath(self.path))
+
+    def stamps(self) -> tuple[tuple[str, int, int], ...]:
+        """The files that the heights come from, each with when it was written and its size; of a URL nothing is known."""
+        paths = _dataset(self.path).files if self.form == "gdal" else [self.path]
+        return tuple((path, *formats.stamp(path)) for path in sorted(paths))
 
     def strips(self, window: Window, every: int = 1,
                progress: Optional[Progress] = None) -> Iterator[tuple[int, npt.NDArray[Any]]]:

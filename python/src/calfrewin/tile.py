@@ -5,23 +5,30 @@ is cut as often as the earth is round. Vertices are brought to the earth exactly
 """
 from __future__ import annotations
 
+import hashlib
 import os
 import time
-from typing import NamedTuple
+from typing import NamedTuple, Optional
 
 import numpy as np
 import numpy.typing as npt
 
 from . import files
 from ._types import Flags, Floats, Numbers
-from .clip import grid_mesh
-from .engine import MOST_HEIGHT, Engine
+from .blocks import Multiples, Points
+from .clip import GridMesh, as_far_as, points_mesh, with_triangles
+from .engine import MOST_TOLERANCE
+from .fitter import ANY, Fitter
 from .glb import glb, y_up
+from .ground import Ground, ground_of
+from .mesh import surface
+from .shapes import have_any
+from .sides import Sides, required_of, sides_of, with_fans
 from .systems import GEODETIC, Curvature, geocentric, transformer
 from .tileset import Frame, Plan, Tile, name
 
-Multiples = npt.NDArray[np.int32]  #: heights as whole multiples of the plan's unit
 MARGIN = 1e-8  # radians, around a region
+WHOLE = 1e-6  # of a unit: what is off by less is a multiple, but for the last bits of a float
 Y_UP = np.array([[1, 0, 0, 0], [0, 0, 1, 0], [0, -1, 0, 0], [0, 0, 0, 1]], float)  # takes axes with z up to those of glTF
 
 
@@ -36,13 +43,29 @@ class Place(NamedTuple):
     earth: Curvature
 
 
+class TileMesh(NamedTuple):
+    """A mesh of a tile of level 0."""
+    indices: Numbers
+    border: Numbers  #: its vertices on the border
+    error: float  #: how far the tile's points are from it at most, in metres, with the rounding
+
+
+class Part(NamedTuple):
+    """What a tile is made of."""
+    points: Points  #: side x side of its level
+    away: float = 0.0  #: how far points of the raster that the level leaves out are from the finest mesh of its own, at most
+    shows: Optional[Flags] = None  #: near which of its points the raster has heights; None: all
+    sides: Optional[Sides] = None  #: above level 0: which vertices its borders get
+    mesh: Optional[TileMesh] = None  #: at level 0: its mesh, where that is made already
+
+
 class Fitted(NamedTuple):
     """A tile's mesh over its own grid."""
     row: Floats  #: of each vertex, in steps of the level from the tile's first point
     column: Floats
     height: Floats  #: over the sea, in metres
     triangles: Numbers
-    error: float
+    error: float  #: how far points of the raster are from it at most, in metres
 
 
 class Placed(NamedTuple):
@@ -62,54 +85,120 @@ def place_of(plan: Plan, level: int, row: int, column: int) -> Place:
     return Place(level, row, column, last_row, last_column, middle, plan.curvature(*middle, level))
 
 
-def write_tile(plan: Plan, level: int, row: int, column: int, numbers: Multiples, away: float,
-               seconds: dict[str, float]) -> Tile:
-    """Meshes and writes the tile of these points.
+class Written(NamedTuple):
+    """What a tile hands to the one above."""
+    tile: Optional[Tile]  #: None where there was nothing to write
+    sides: Optional[Sides]  #: its border, where tiles match
+
+
+def write_tile(plan: Plan, level: int, row: int, column: int, part: Part, seconds: dict[str, float]) -> Written:
+    """Meshes and writes the tile of these points; where no triangle has a point of the raster's, there is no file.
 
     Args:
-        numbers: side x side points of the level.
-        away: how far points of the raster that the level leaves out are from the finest mesh of its points, at most.
         seconds: by stage, to which this tile's are added.
     """
     place, began = place_of(plan, level, row, column), time.perf_counter()
-    mesh = _fitted(plan, place, numbers)
+    mesh, sides = _fitted(plan, place, part)
     met = time.perf_counter()
-    error, skirt = mesh.error + away, 2 * (plan.error * 2 ** level + away) if plan.skirts else 0.0
+    if not len(mesh.triangles):
+        return Written(None, sides)
+    skirt = 2 * (plan.error * 2 ** level + part.away) if plan.skirts else 0.0
     frame = plan.frame(*place.middle)
     placed = _on_earth(plan, place, mesh, frame, skirt)
-    pieces = _glb(plan, place, mesh, placed, numbers, frame, error)
+    pieces = _glb(plan, place, mesh, placed, part.points.numbers, frame, mesh.error)
     done = time.perf_counter()
     path = os.path.join(plan.out, name(plan, level, row, column))
     os.makedirs(os.path.dirname(path), exist_ok=True)
+    digest = hashlib.blake2b(digest_size=32)
+    for piece in pieces.data:
+        digest.update(piece)
     files.write_bytes(path, *pieces.data)
     for stage, spent in (("mesh", met - began), ("place", done - met), ("write", time.perf_counter() - done)):
         seconds[stage] = seconds.get(stage, 0.0) + spent
-    return Tile(level, row, column, error, float(placed.over.min()) - skirt, float(placed.over.max()), placed.region,
-                pieces.triangles, sum(memoryview(piece).nbytes for piece in pieces.data))
+    return Written(Tile(level, row, column, mesh.error, float(placed.over.min()) - skirt, float(placed.over.max()), placed.region,
+                        pieces.triangles, sum(memoryview(piece).nbytes for piece in pieces.data), digest.hexdigest()), sides)
 
 
-def _fitted(plan: Plan, place: Place, numbers: Multiples) -> Fitted:
-    step = float(1 << place.level)
-    x, y = (np.arange(plan.steps + 1) - last / 2 for last in (place.last_column, place.last_row))
-    # What is linear of the drop makes no difference to a mesh.
-    ground = numbers * plan.unit + place.earth.drop(step * x[None, :], step * y[:, None])
-    low = float(ground.min())
-    unit = max(plan.unit, (float(ground.max()) - low) / (MOST_HEIGHT - 1))
-    grid = np.rint((ground - low) / unit).astype(np.uint16)
-    rounding = unit / 2 + plan.unit / 2
-    with Engine(grid, 2) as engine:
-        found = engine.fit(max(0.0, (plan.error * 2 ** place.level - rounding) / unit))
-    column, row, number, triangles = grid_mesh(found.triangles, grid, place.last_column, place.last_row)
-    drop = place.earth.drop(step * (column - place.last_column / 2), step * (row - place.last_row / 2))
-    height = number * unit + low - drop
-    # At the raster's points heights are those of all tiles, to the last bit, so that equal border vertices are equal.
-    is_point = (column == np.floor(column)) & (row == np.floor(row)) & (column <= plan.steps) & (row <= plan.steps)
-    nearest = (np.minimum(at.astype(np.int64), plan.steps) for at in (row, column))
-    exact = numbers[tuple(nearest)] * plan.unit
-    height = np.where(is_point & (np.abs(exact - height) <= rounding), exact, height)
+def _fitted(plan: Plan, place: Place, part: Part) -> tuple[Fitted, Optional[Sides]]:
+    points, sides = part.points, part.sides
+    if part.mesh is not None:
+        indices, error = part.mesh.indices, part.mesh.error
+        sides = sides_of(part.mesh.border, points.numbers)
+    else:
+        ground = ground_of(plan, place.level, place.row, place.column, points)
+        with Fitter(ground.grid) as fitter:
+            if sides is None:
+                fitter.fit(ground.tolerances(plan.error * 2 ** place.level, points))
+            else:
+                _fit_within(fitter, plan, place, part, ground)
+            indices = fitter.indices()
+            error = off_by(fitter, indices, ground, points) + part.away
+            rounding = ground.rounding
+    mesh = shown(indices, points, part.shows)
+    if part.sides is not None:
+        mesh, count = with_fans(mesh, part.sides, place.level, plan.steps), len(mesh.column)
+        # A fan is off its triangle by no more than points left out may be, and so is the triangle off these.
+        error = max(error, rounding + 2 * part.away if len(mesh.column) > count else 0.0)
+    column, row, height, triangles = cut(plan, place, with_triangles(mesh, mesh.triangles))
     if np.linalg.det(place.earth.jacobian) > 0:  # columns and rows as east and north turn the other way
         triangles = triangles[:, ::-1]
-    return Fitted(row, column, height, triangles, float(found.deviation) * unit + rounding)
+    return Fitted(row, column, height, triangles, error), sides
+
+
+def off_by(fitter: Fitter, indices: Optional[Numbers], ground: Ground, points: Points) -> float:
+    """How far the points of a tile that count are from its mesh at most, in metres, with the rounding."""
+    if points.counts is None:
+        off = float(fitter.deviation())
+    else:
+        is_vertex = np.zeros(ground.grid.shape, bool)
+        is_vertex.reshape(-1)[fitter.indices() if indices is None else indices] = True
+        off = float(np.abs(surface(ground.grid, is_vertex) - ground.grid).max(where=points.counts, initial=0.0))
+    return off * ground.unit + ground.rounding
+
+
+def shown(indices: Numbers, points: Points, shows: Optional[Flags]) -> GridMesh:
+    """The triangles of a fitter's mesh that have a point near which there are heights; numbers are the plan's multiples."""
+    return points_mesh(indices if shows is None else indices[have_any(indices, shows)], points.numbers)
+
+
+def _fit_within(fitter: Fitter, plan: Plan, place: Place, part: Part, ground: Ground) -> None:
+    """Fits a tile of a coarser level, whose borders have the finest level's vertices and no others.
+
+    They never get others where all tiles have one form of curvature and the plan's unit; where not, a greater error helps.
+    """
+    assert part.sides is not None
+    required = required_of(part.sides, place.level, plan.steps)
+    error, counts = plan.error * 2 ** place.level, part.points.counts
+    while True:
+        one = ground.tolerance(max(error, ground.rounding))
+        fitter.fit(one / 1000 if counts is None else np.where(counts, np.uint32(one), np.uint32(ANY)), required)
+        more = np.setdiff1d(fitter.border(), required, assume_unique=True)
+        # Beyond the last tiles of the finest level nothing is shown, and borders may have what the rest asks for.
+        row, column = (it * (1 << place.level) for it in np.divmod(more, plan.steps + 1))
+        rows, columns = (plan.steps * (count - (at << place.level)) for count, at in
+                         zip(plan.count(0), (place.row, place.column)))
+        if not ((row <= rows) & (column <= columns)).any():
+            return
+        if one == MOST_TOLERANCE:
+            raise RuntimeError("the finest tiles have other borders than each other: begin anew with --overwrite")
+        error *= 1.5
+
+
+def cut(plan: Plan, place: Place, mesh: GridMesh) -> GridMesh:
+    """A mesh of multiples as far as the raster goes, with heights in metres for numbers; edges are straight on the round
+    earth."""
+    if min(place.last_column, place.last_row) >= plan.steps:
+        return mesh._replace(number=mesh.number * plan.unit)
+    step = float(1 << place.level)
+
+    def drop(it: GridMesh) -> Floats:
+        return place.earth.drop(step * (it.column - place.last_column / 2), step * (it.row - place.last_row / 2)) / plan.unit
+
+    found = as_far_as(mesh._replace(number=mesh.number + drop(mesh)), place.last_column, place.last_row, plan.steps)
+    number = found.number - drop(found)
+    # At the raster's points heights are those of all tiles, to the last bit, so that equal border vertices are equal.
+    nearest = np.rint(number)
+    return found._replace(number=np.where(np.abs(number - nearest) < WHOLE, nearest, number) * plan.unit)
 
 
 def _on_earth(plan: Plan, place: Place, mesh: Fitted, frame: Frame, skirt: float) -> Placed:
@@ -151,12 +240,24 @@ def _glb(plan: Plan, place: Place, mesh: Fitted, placed: Placed, numbers: Multip
 
 def _normals(plan: Plan, place: Place, mesh: Fitted, numbers: Multiples) -> Floats:
     """Of the ground at each vertex, east, north and up."""
-    down, right = np.gradient(numbers.astype(np.float32) * np.float32(plan.unit))
-    at = np.rint(mesh.row).astype(np.int64), np.rint(mesh.column).astype(np.int64)
-    slope = np.column_stack((right[at], down[at])) @ np.linalg.inv(place.earth.jacobian * (1 << place.level))
+    slope = np.column_stack(rises(numbers, np.rint(mesh.row).astype(np.int64), np.rint(mesh.column).astype(np.int64), plan.unit))
+    slope = slope @ np.linalg.inv(place.earth.jacobian * (1 << place.level))
     normals: Floats = np.column_stack((-slope, np.ones(len(slope))))
     normals /= np.linalg.norm(normals, axis=1, keepdims=True)
     return normals
+
+
+def rises(numbers: Multiples, row: npt.NDArray[np.int64], column: npt.NDArray[np.int64], unit: float) -> tuple[Floats, Floats]:
+    """How much the ground rises by a step along columns and along rows at some points: central differences, at ends one-sided.
+
+    >>> [it.tolist() for it in rises(np.array([[0, 4], [6, 8]], np.int32), np.array([0]), np.array([1]), 0.5)]
+    [[2.0], [2.0]]
+    """
+    last_row, last_column = (count - 1 for count in numbers.shape)
+    left, right = np.maximum(column - 1, 0), np.minimum(column + 1, last_column)
+    top, bottom = np.maximum(row - 1, 0), np.minimum(row + 1, last_row)
+    return ((numbers[row, right] - numbers[row, left]) / (right - left) * unit,
+            (numbers[bottom, column] - numbers[top, column]) / (bottom - top) * unit)
 
 
 def border(row: Floats, column: Floats, last_row: float, last_column: float) -> npt.NDArray[np.int64]:

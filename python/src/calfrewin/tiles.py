@@ -1,113 +1,226 @@
 """3D Tiles 1.1 of a raster of any size: a quadtree of GLB files and tileset.json, made in blocks, here or on a cluster.
 
-A task reads one block of 2^depth x 2^depth tiles, makes all tiles over it, and gives the points of its top to the task
-above. Tasks are functions of their arguments and of the file, and files are renamed into place; so a task that is run
-twice, or again after its worker was lost, does no harm, and gives the same bytes.
+First rounds (`rounds`) fit the finest tiles until their borders match. Then a task takes one block of 2^depth x 2^depth
+tiles, writes all tiles over it, and keeps the points of its top for the task above. Tasks are functions of their arguments
+and of files, and files are renamed into place; so a task that is run twice, or again after its worker was lost, does no harm,
+and gives the same bytes.
 """
 from __future__ import annotations
 
+import hashlib
 import json
 import os
 import shutil
 import time
 from dataclasses import dataclass, field
-from typing import Any, Callable, Iterable, Optional
+from typing import Any, Callable, Optional
 
 import numpy as np
-import numpy.typing as npt
 
 from . import files
-from .raster import Progress
-from .tile import Multiples, write_tile
-from .tileset import Plan, Tile, plan_of, tileset
+from ._types import Flags
+from .blocks import BlockPoints, Multiples, Points, keep, load, refuse_changed
+from .reasons import certify
+from .rounds import Block, BlockMeshes, Tell, settle
+from .run import locked
+from .search import least_error
+from .sides import Side, Sides, joined_sides
+from .tile import Part, write_tile
+from .tileset import Plan, Tile, name, plan_of, tileset
+from .workers import Workers, workers_of
 
 __all__ = ["Plan", "build", "plan_of"]
 
-HOLE = np.int32(-(1 << 31))
-REACH = 64  # points, over which holes are filled from their edges
 PAGE = os.path.join(os.path.dirname(os.path.abspath(__file__)), "viewer", "tiles.html")
 THREE = "/usr/share/javascript/three"  # Debian's libjs-three, and what of it the page wants
 SCRIPTS = ("three.min.js", "examples/js/controls/OrbitControls.js", "examples/js/loaders/GLTFLoader.js")
 LICENCE = "/usr/share/doc/libjs-three/copyright"
 Task = tuple[int, int, int]  # level, row and column of the tile that is its top
+Progress = Callable[..., None]  #: how much is done, of how much, and what there is to say
 
 
 @dataclass
-class Done:
-    """What a task hands to the one above."""
+class Top:
+    """What the tile above is made of: of a tile, what it shows at half as many points."""
+    points: Points
+    shows: Optional[Flags]  #: near which of these the raster has heights; None: all
+    away: float  #: how far any point of the raster is from the finest mesh of `points`, at most
+    sides: Optional[Sides]  #: its borders, where tiles match
+
+
+@dataclass
+class Made:
+    """What a task has made."""
+    digest: str  #: of what it was made of
     tiles: list[Tile] = field(default_factory=list)
-    points: Optional[Multiples] = None  #: every second point of the top tile
-    away: float = 0.0  #: how far any point of the raster is from the finest mesh of `points`, at most
     seconds: dict[str, float] = field(default_factory=dict)  #: by stage
 
 
-def block(plan: Plan, level: int, row: int, column: int) -> Done:
-    """Reads what a tile covers once, and makes it and all tiles below it."""
-    began = time.perf_counter()
-    points = _read(plan, level, row, column)
-    done = Done(seconds={"read": time.perf_counter() - began})
-    if points is not None:
-        done.points, done.away = _made(plan, done, points, level, row, column, level)
-    return done
+def block(plan: Plan, level: int, row: int, column: int, state: str) -> Made:
+    """Writes a tile and all tiles below it, from the points of the block and its meshes; `state` names these."""
+    digest = _digest(plan, [state])
+    found = _made(plan, (level, row, column), digest)
+    if found is not None:
+        return found
+    made, began = Made(digest), time.perf_counter()
+    whole = BlockPoints(plan, row, column)
+    meshes = BlockMeshes(plan, (row, column), state) if state else None
+    made.seconds["read"] = time.perf_counter() - began
+    _keep(plan, made, (level, row, column), _over(plan, made, whole, meshes, level, row, column, level))
+    return made
 
 
-def _made(plan: Plan, done: Done, points: Multiples, top: int, row: int, column: int,
-          level: int) -> tuple[Optional[Multiples], float]:
-    """Makes the tile (row, column) of a level, over `points` of level 0, and all below it: its every second point, and how
-    far all others are."""
+def _over(plan: Plan, made: Made, whole: BlockPoints, meshes: Optional[BlockMeshes], top: int, row: int, column: int,
+          level: int) -> Optional[Top]:
+    """Writes the tile (row, column) of a level, over the points of a block, and all below it."""
     rows, columns = plan.count(level)
     if row >= rows or column >= columns:
-        return None, 0.0
-    if level == 0:
-        side, mask = plan.steps, (1 << top) - 1
-        i, j = (row & mask) * side, (column & mask) * side
-        own, away = points[i:i + side + 1, j:j + side + 1], 0.0
-    else:
-        below = [_made(plan, done, points, top, 2 * row + down, 2 * column + right, level - 1)
+        return None
+    if level > 0:
+        below = [_over(plan, made, whole, meshes, top, 2 * row + down, 2 * column + right, level - 1)
                  for down in (0, 1) for right in (0, 1)]
-        own, away = joined([numbers for numbers, _ in below]), max(it for _, it in below)
-    done.tiles.append(write_tile(plan, level, row, column, own, away, done.seconds))
-    half, more = halved(own, plan.unit)
-    return half, away + more
+        return _written(plan, made, level, row, column, _part(plan, below, level))
+    mask = (1 << top) - 1
+    i, j = row & mask, column & mask
+    own = whole.tile(i, j)
+    return _written(plan, made, level, row, column, Part(own, 0.0, own.counts, None, meshes.tile(i, j) if meshes else None))
 
 
-def join(plan: Plan, level: int, row: int, column: int, below: list[Done]) -> Done:
-    """The tile over four, from what they have told: nothing of the file is read."""
-    done = Done([tile for it in below for tile in it.tiles])
-    for it in below:
-        for stage, spent in it.seconds.items():
-            done.seconds[stage] = done.seconds.get(stage, 0.0) + spent
-    if all(it.points is None for it in below):
-        return done
-    numbers, away = joined([it.points for it in below]), max(it.away for it in below)
-    numbers = np.where(numbers == HOLE, np.int32(round(plan.fill / plan.unit)), numbers)
-    done.tiles.append(write_tile(plan, level, row, column, numbers, away, done.seconds))
-    done.points, more = halved(numbers, plan.unit)
-    done.away = away + more
-    return done
+def join(plan: Plan, level: int, row: int, column: int, below: dict[int, str]) -> Made:
+    """Writes the tile over four, from what their tasks have kept: nothing of the raster is read.
+
+    Args:
+        below: the digests of these, by their places, row by row.
+    """
+    digest = _digest(plan, [f"{place} {it}" for place, it in below.items()])
+    found = _made(plan, (level, row, column), digest)
+    if found is not None:
+        return found
+    made = Made(digest)
+    tops = [_top(plan, (level - 1, 2 * row + place // 2, 2 * column + place % 2)) if place in below else None
+            for place in range(4)]
+    _keep(plan, made, (level, row, column), _written(plan, made, level, row, column, _part(plan, tops, level)))
+    return made
 
 
-def halved(numbers: Multiples, unit: float) -> tuple[Multiples, float]:
-    """Every second point, and how far the others are from the finest mesh of these, at most.
+def _written(plan: Plan, made: Made, level: int, row: int, column: int, part: Part) -> Top:
+    tile, sides = write_tile(plan, level, row, column, part, made.seconds)
+    if tile is not None:
+        made.tiles.append(tile)
+    half, more = halved(part.points, plan.unit)
+    return Top(half, None if part.shows is None else _near(part.shows), part.away + more, sides)
 
-    >>> points, away = halved(np.array([[0, 4, 0], [0, 0, 0], [0, 0, 0]], np.int32), 0.5)
-    >>> points.tolist(), away
+
+def _part(plan: Plan, below: list[Optional[Top]], level: int) -> Part:
+    """What a tile is made of, from its quarters, row by row."""
+    numbers = joined([None if it is None else it.points.numbers for it in below])
+    counts, shows = (_joined_flags([None if it is None else (flags, it.points.numbers.shape) for it, flags in zip(below, all_)])
+                     for all_ in ([it.points.counts if it else None for it in below], [it.shows if it else None for it in below]))
+    sides = None
+    if not plan.skirts:
+        sides = joined_sides([it.sides if it else None for it in below], numbers, plan.steps << level >> 1)
+    return Part(Points(numbers, counts), max(it.away for it in below if it is not None), shows, sides)
+
+
+def _near(flags: Flags) -> Flags:
+    """At every second point, whether a flag is set there or at a point beside it."""
+    wide = np.pad(flags, 1)
+    across = wide[:, :-2] | wide[:, 1:-1] | wide[:, 2:]
+    found: Flags = (across[:-2] | across[1:-1] | across[2:])[::2, ::2]
+    return found
+
+
+def _joined_flags(parts: list[Any]) -> Optional[Flags]:
+    """The flags of four quarters, none set where one is missing; None where all are set."""
+    if all(part is not None and part[0] is None for part in parts):
+        return None
+    half = next(part[1][0] for part in parts if part is not None) - 1
+    found = np.zeros((2 * half + 1, 2 * half + 1), bool)
+    for place, part in enumerate(parts):
+        if part is not None:
+            row, column = half * (place // 2), half * (place % 2)
+            found[row:row + half + 1, column:column + half + 1] |= True if part[0] is None else part[0]
+    return found
+
+
+def _path(plan: Plan, task: Task) -> str:
+    return os.path.join(plan.run, "made", "_".join(map(str, task)))
+
+
+def _digest(plan: Plan, made_of: list[str]) -> str:
+    return hashlib.sha256("\n".join([plan.digest, *made_of]).encode()).hexdigest()
+
+
+def _keep(plan: Plan, made: Made, task: Task, top: Optional[Top]) -> None:
+    """Keeps what the task above wants, and what was written."""
+    assert top is not None
+    arrays: dict[str, Any] = {"numbers": top.points.numbers, "away": np.array(top.away)}
+    arrays |= {key: it for key, it in (("counts", top.points.counts), ("shows", top.shows)) if it is not None}
+    for place, side in enumerate(top.sides or ()):
+        arrays |= {f"at{place}": side.at, f"number{place}": side.number}
+    text = json.dumps({"digest": made.digest, "tiles": [vars(tile) for tile in made.tiles]})
+    keep(_path(plan, task), arrays | {"made": np.frombuffer(text.encode(), np.uint8)})
+
+
+def _top(plan: Plan, task: Task) -> Top:
+    kept = load(_path(plan, task))
+    if kept is None:
+        raise OSError(f"{_path(plan, task)} is damaged: begin anew with --overwrite")
+    sides = tuple(Side(kept[f"at{place}"], kept[f"number{place}"]) for place in range(4)) if "at0" in kept else None
+    return Top(Points(kept["numbers"], kept.get("counts")), kept.get("shows"), float(kept["away"]),
+               (sides[0], sides[1], sides[2], sides[3]) if sides else None)
+
+
+def _made(plan: Plan, task: Task, digest: str) -> Optional[Made]:
+    """What an earlier run has made of the same, where all its files are there as they were written."""
+    refuse_changed(plan)
+    kept = load(_path(plan, task))
+    if kept is None:
+        return None
+    said = json.loads(kept["made"].tobytes())
+    tiles = [Tile(**it | {"region": tuple(it["region"])}) for it in said["tiles"]]
+    if said["digest"] != digest or not all(_is_written(plan, tile) for tile in tiles):
+        return None
+    return Made(digest, tiles)
+
+
+def _is_written(plan: Plan, tile: Tile) -> bool:
+    try:
+        with open(os.path.join(plan.out, name(plan, tile.level, tile.row, tile.column)), "rb") as file:
+            return hashlib.blake2b(file.read(), digest_size=32).hexdigest() == tile.digest
+    except FileNotFoundError:
+        return False
+
+
+def halved(own: Points, unit: float) -> tuple[Points, float]:
+    """Every second point, and how far the others that count are from the finest mesh of these, at most.
+
+    >>> points, away = halved(Points(np.array([[0, 4, 0], [0, 0, 0], [0, 0, 0]], np.int32), None), 0.5)
+    >>> points.numbers.tolist(), away
     ([[0, 0], [0, 0]], 2.0)
     """
-    even = numbers[::2, ::2]
-    count = even.shape[0] - 1
-    is_even = np.add.outer(np.arange(count), np.arange(count)) % 2 == 0
-    diagonal = np.where(is_even, even[:-1, :-1] + even[1:, 1:], even[1:, :-1] + even[:-1, 1:])
-    left_out = ((numbers[::2, 1::2], even[:, :-1] + even[:, 1:]), (numbers[1::2, ::2], even[:-1] + even[1:]),
-                (numbers[1::2, 1::2], diagonal))
-    return np.ascontiguousarray(even), max(int(np.abs(2 * own - ends).max()) for own, ends in left_out) / 2 * unit
+    numbers, counts = own
+    even = np.ascontiguousarray(numbers[::2, ::2])
+    # Middles of edges, and of squares, whose diagonals turn from one to the next.
+    falling, rising = even[:-1, :-1] + even[1:, 1:], even[:-1, 1:] + even[1:, :-1]
+    falling[::2, 1::2], falling[1::2, ::2] = rising[::2, 1::2], rising[1::2, ::2]
+    most = 0
+    for at, ends in ((np.s_[::2, 1::2], even[:, :-1] + even[:, 1:]), (np.s_[1::2, ::2], even[:-1] + even[1:]),
+                     (np.s_[1::2, 1::2], falling)):
+        ends -= numbers[at]
+        ends -= numbers[at]
+        low, high = (ends.min(), ends.max()) if counts is None else (
+            ends.min(where=counts[at], initial=0), ends.max(where=counts[at], initial=0))
+        most = max(most, -int(low), int(high))
+    half = Points(even, None if counts is None else np.ascontiguousarray(counts[::2, ::2]))
+    return half, most / 2 * unit
 
 
 def joined(parts: list[Optional[Multiples]]) -> Multiples:
     """The points of four quarters, row by row, that share their border; what is missing to the right or below repeats its
     neighbour's edge."""
     half = next(len(part) for part in parts if part is not None) - 1
-    found = np.full((2 * half + 1, 2 * half + 1), HOLE, np.int32)
+    found = np.zeros((2 * half + 1, 2 * half + 1), np.int32)
     for place, part in enumerate(parts):
         if part is not None:
             row, column = half * (place // 2), half * (place % 2)
@@ -120,113 +233,82 @@ def joined(parts: list[Optional[Multiples]]) -> Multiples:
     return found
 
 
-def _read(plan: Plan, level: int, row: int, column: int) -> Optional[Multiples]:
-    """The points of all that a tile of a level covers, or None where the raster has none there."""
-    span = plan.steps << level
-    rows, columns = plan.raster.shape
-    top, left = row * span, column * span
-    if top >= rows - 1 and row or left >= columns - 1 and column:
-        return None
-    height, width = min(span + 1, rows - top), min(span + 1, columns - left)
-    heights = plan.raster.heights(top, left, height, width)
-    holes = np.isnan(heights)
-    if holes.all():
-        return None
-    if holes.any():
-        heights = _filled(plan, top, left, height, width)
-    numbers = np.rint(heights / plan.unit).astype(np.int32)
-    return np.pad(numbers, ((0, span + 1 - height), (0, span + 1 - width)), mode="edge")
-
-
-def _filled(plan: Plan, row: int, column: int, rows: int, columns: int) -> npt.NDArray[Any]:
-    """A window whose holes are filled from their edges as far as REACH, the rest with the plan's height.
-
-    GDAL's filling looks no farther than its distance, so with a rim of that width two tiles fill a hole between them alike,
-    to the last bit.
-    """
-    from rasterio.fill import fillnodata
-    up, left = min(REACH, row), min(REACH, column)
-    height, width = (min(count + before + REACH, all_ - at + before) for count, before, all_, at in
-                     ((rows, up, plan.raster.shape[0], row), (columns, left, plan.raster.shape[1], column)))
-    wide = plan.raster.heights(row - up, column - left, height, width).astype(np.float32)
-    is_there, nothing = ~np.isnan(wide), np.float32(-1e30)
-    found = fillnodata(np.where(is_there, wide, nothing), mask=is_there.astype(np.uint8), max_search_distance=REACH)
-    found = found[up:up + rows, left:left + columns]
-    return np.where(found < nothing / 10, np.float32(plan.fill), found)
-
-
-def build(plan: Plan, *, client: Any = None, workers: int = 1, progress: Optional[Progress] = None) -> dict[str, Any]:
+def build(plan: Plan, *, client: Any = None, workers: int = 1, triangles: Optional[int] = None, overwrite: bool = False,
+          progress: Optional[Progress] = None) -> dict[str, Any]:
     """Makes all tiles, a page that shows them and, last of all, tileset.json; tells what was done.
+
+    A run that was stopped goes on from what it has left, where the plan is the same and the raster has not changed.
 
     Args:
         client: a dask.distributed.Client, whose workers see the file and `out` under the same names; without it `workers`
             processes here.
-        progress: is told how many blocks are done, and of how many.
+        triangles: the least error at which the finest tiles have at most so many, in the place of the plan's.
+        overwrite: begins anew, whatever an earlier run has left.
+        progress: is told how much is done, of how much, and what there is to say.
+
+    Raises:
+        blocks.Changed: the raster is written to while it is read.
+        run.Busy: another run writes into this folder. run.Other: an earlier run of another plan has left something there.
     """
     began = time.perf_counter()
-    os.makedirs(plan.out, exist_ok=True)
-    rows, columns = plan.count(plan.depth)
-    first: list[Task] = [(plan.depth, row, column) for row in range(rows) for column in range(columns)]
-    done = 0
-
-    def tell(_: Any = None) -> None:
-        nonlocal done
-        done += 1
-        if progress:
-            progress(done, len(first))
-
-    top = _by_dask(plan, client, first, tell) if client is not None else _here(plan, first, workers, tell)
-    tiles = sorted(top.tiles, key=lambda tile: (tile.level, tile.row, tile.column))
-    tree = tileset(plan, tiles)
-    _copy_page(plan.out)
-    files.write_bytes(os.path.join(plan.out, "tileset.json"), json.dumps(tree, separators=(",", ":")).encode())
+    with locked(plan, overwrite, triangles), workers_of(client, workers) as hands:
+        found: dict[str, Any] = {}
+        if triangles is not None:
+            plan, searched = least_error(plan, hands, triangles, progress and _first_half(progress))
+            found |= searched
+        states: dict[Block, str] = {}
+        seconds: dict[str, float] = {}
+        if not plan.skirts:
+            rounds = settle(plan, hands, progress and _first_half(progress))
+            states, seconds = rounds.states, rounds.seconds
+            found |= {"rounds": rounds.told}
+            if plan.certify:
+                found["certificate_rounds"] = certify(plan, hands, rounds.borders, progress and _first_half(progress))
+        tiles = _write(plan, hands, states, seconds, progress)
+        tiles.sort(key=lambda tile: (tile.level, tile.row, tile.column))
+        tree = tileset(plan, tiles)
+        _copy_page(plan.out)
+        refuse_changed(plan)
+        files.write_bytes(os.path.join(plan.out, "tileset.json"), json.dumps(tree, separators=(",", ":")).encode())
+        shutil.rmtree(plan.run, ignore_errors=True)
     finest = [tile for tile in tiles if tile.level == 0]
     return {"tiles": len(tiles), "levels": plan.levels + 1, "bytes": sum(tile.size for tile in tiles),
             "triangles": sum(tile.triangles for tile in finest), "all_triangles": sum(tile.triangles for tile in tiles),
             "error": max(tile.error for tile in finest), "root_error": max(tile.error for tile in tiles),
             "seconds": round(time.perf_counter() - began, 3),
-            "spent": {stage: round(spent, 3) for stage, spent in top.seconds.items()}}
+            "spent": {stage: round(spent, 3) for stage, spent in seconds.items()}} | found
 
 
-def _above(plan: Plan, level: dict[Task, Any], at: int, nothing: Any) -> Iterable[tuple[Task, list[Any]]]:
-    """The tasks of a level, and what the four below each have."""
-    rows, columns = plan.count(at)
-    for row in range(rows):
-        for column in range(columns):
-            below = [(at - 1, 2 * row + down, 2 * column + right) for down in (0, 1) for right in (0, 1)]
-            yield (at, row, column), [level.get(task, nothing) for task in below]
+def _write(plan: Plan, hands: Workers, states: dict[Block, str], seconds: dict[str, float],
+           progress: Optional[Progress]) -> list[Tile]:
+    """Writes all levels; the tasks of one are done before those above it begin."""
+    tiles: list[Tile] = []
+    digests: dict[Task, str] = {}
+    for level in range(plan.depth, plan.levels + 1):
+        rows, columns = plan.count(level)
+        tasks: dict[Any, Any] = {}
+        for row in range(rows):
+            for column in range(columns):
+                if level == plan.depth:
+                    tasks[level, row, column] = block, (plan, level, row, column, states.get((row, column), ""))
+                else:
+                    below = {2 * down + right: digests[at] for down in (0, 1) for right in (0, 1)
+                             if (at := (level - 1, 2 * row + down, 2 * column + right)) in digests}
+                    tasks[level, row, column] = join, (plan, level, row, column, below)
+        for done, (task, made) in enumerate(hands.do(tasks), 1):
+            digests[task] = made.digest
+            tiles += made.tiles
+            for stage, spent in made.seconds.items():
+                seconds[stage] = seconds.get(stage, 0.0) + spent
+            if progress and level == plan.depth:
+                first = 0 if plan.skirts else len(tasks)
+                progress(first + done, first + len(tasks), f"writing, {len(tiles):,} tiles")
+    return tiles
 
 
-def _here(plan: Plan, first: list[Task], workers: int, tell: Callable[..., None]) -> Done:
-    if workers <= 1:
-        level = {}
-        for task in first:
-            level[task] = block(plan, *task)
-            tell()
-    else:
-        import multiprocessing
-        from concurrent.futures import ProcessPoolExecutor
-        with ProcessPoolExecutor(workers, mp_context=multiprocessing.get_context("spawn")) as pool:
-            futures = {task: pool.submit(block, plan, *task) for task in first}
-            for future in futures.values():
-                future.add_done_callback(tell)
-            level = {task: future.result() for task, future in futures.items()}
-    for at in range(plan.depth + 1, plan.levels + 1):
-        level = {task: join(plan, *task, below) for task, below in _above(plan, level, at, Done())}
-    return level[plan.levels, 0, 0]
-
-
-def _by_dask(plan: Plan, client: Any, first: list[Task], tell: Callable[..., None]) -> Done:
-    level = {}
-    for task in first:
-        level[task] = client.submit(block, plan, *task, pure=False, retries=3)
-        level[task].add_done_callback(tell)
-    for at in range(plan.depth + 1, plan.levels + 1):
-        # Joins come before blocks that are not begun, so that points are let go of early.
-        level = {task: client.submit(join, plan, *task, below, pure=False, retries=3, priority=at)
-                 for task, below in _above(plan, level, at, Done())}
-    found: Done = level[plan.levels, 0, 0].result()
-    return found
+def _first_half(progress: Progress) -> Tell:
+    """Of the way to tiles, the rounds."""
+    return lambda done, total, text: progress(done, 2 * total, text)
 
 
 def _copy_page(out: str) -> None:

@@ -1,0 +1,237 @@
+"""One GLB of a raster of any size: the tiles of its finest level, fitted until their borders match, with shared vertices.
+
+The file is written piece by piece: where each block's vertices and triangles lie in it is known once all are counted, so
+tasks write into it side by side, and no mesh is ever whole in memory. Vertices on the borders of tiles come first, each once.
+"""
+from __future__ import annotations
+
+import json
+import os
+import shutil
+import time
+from dataclasses import dataclass
+from typing import Any, Callable, NamedTuple, Optional
+
+import numpy as np
+import numpy.typing as npt
+
+from . import files, systems
+from ._types import Floats, Numbers
+from .blocks import BlockPoints, refuse_changed
+from .clip import GridMesh
+from .export import _places, origin_of
+from .glb import Layout, layout, y_up
+from .mesh import Mesh, _turns
+from .normals import normals_by_rises
+from .raster import Raster
+from .rounds import Block, BlockMeshes, Tell, settle, tiles_of
+from .run import locked
+from .search import least_error
+from .tile import cut, place_of, rises, shown
+from .tileset import Plan, plan_of
+from .workers import workers_of
+
+Keys = npt.NDArray[np.int64]  #: places of the raster: row * its columns + column
+MOST_VERTICES = (1 << 32) - 2  # the last index restarts a primitive
+
+
+@dataclass(frozen=True)
+class Look:
+    """How vertices are placed; picklable."""
+    crs: Optional[str]
+    origin: tuple[float, float, float]
+    normals: bool
+    exaggerate: float
+
+
+class Piece(NamedTuple):
+    """What a tile shows: a mesh by the raster's columns and rows, and heights."""
+    mesh: GridMesh
+    keys: Keys  #: of each vertex on the border of the tile; -1 within
+    right: Floats  #: how much the ground rises by a step along columns, and along rows
+    down: Floats
+
+
+class Counted(NamedTuple):
+    """What a block has."""
+    keys: Keys  #: of the vertices on borders of tiles, each once
+    border: Floats  #: shape (keys, 5): column, row, height, and how much the ground rises
+    inner: list[int]  #: of each tile, how many vertices are within
+    triangles: list[int]
+    error: float
+    cells: float  #: of the raster that are covered
+
+
+def _pieces(plan: Plan, block: Block, state: str) -> tuple[list[Piece], float]:
+    """What the tiles of a block show, and how far they are off at most."""
+    whole, meshes, error = BlockPoints(plan, *block), BlockMeshes(plan, block, state), 0.0
+    found, numbers = [], whole.numbers()
+    last = plan.raster.shape[1]
+    for row, column in np.ndindex(*tiles_of(plan, block)):
+        own, it = whole.tile(row, column), meshes.tile(row, column)
+        lies = place_of(plan, 0, (block[0] << plan.depth) + row, (block[1] << plan.depth) + column)
+        error = max(error, it.error)
+        mesh = cut(plan, lies, shown(it.indices, own, own.counts))
+        is_border = (mesh.column % plan.steps == 0) | (mesh.row % plan.steps == 0)
+        at = (np.rint(mesh.row).astype(np.int64) + row * plan.steps, np.rint(mesh.column).astype(np.int64) + column * plan.steps)
+        mesh = mesh._replace(column=mesh.column + lies.column * plan.steps, row=mesh.row + lies.row * plan.steps)
+        keys = np.where(is_border, np.rint(mesh.row * last + mesh.column), -1).astype(np.int64)
+        found.append(Piece(mesh, keys, *rises(numbers, *at, plan.unit)))
+    return found, error
+
+
+def count(plan: Plan, block: Block, state: str) -> Counted:
+    """Counts the vertices and triangles of a block, and tells those on borders of tiles."""
+    pieces, error = _pieces(plan, block, state)
+    border = [(it.keys >= 0, it) for it in pieces]
+    keys = np.concatenate([it.keys[is_on] for is_on, it in border])
+    rows = np.concatenate([np.column_stack((it.mesh.column, it.mesh.row, it.mesh.number, it.right, it.down))[is_on]
+                           for is_on, it in border])
+    keys, first = np.unique(keys, return_index=True)
+    cells = 0.0
+    for it in pieces:
+        a, b, c = it.mesh.triangles.T
+        across, down = ([values[end] - values[a] for end in (b, c)] for values in (it.mesh.column, it.mesh.row))
+        cells += float(np.abs(across[0] * down[1] - across[1] * down[0]).sum() / 2)
+    return Counted(keys, rows[first], [int((~is_on).sum()) for is_on, _ in border], [len(it.mesh.triangles) for it in pieces],
+                   error, cells)
+
+
+def write(plan: Plan, block: Block, state: str, look: Look, path: str, at: Layout, keys: Keys, ids: Numbers, vertex: int,
+          triangle: int) -> tuple[Floats, Floats]:
+    """Writes the vertices within the tiles of a block, and all its triangles; the least and the greatest coordinates.
+
+    Args:
+        keys, ids: the vertices on borders, in rising order, and their numbers in the file.
+        vertex, triangle: the numbers of the first of the block within tiles.
+    """
+    low, high = np.full(3, np.inf), np.full(3, -np.inf)
+    pieces, _ = _pieces(plan, block, state)
+    with open(path, "r+b") as file:
+        for it in pieces:
+            is_inner = it.keys < 0
+            number = np.empty(len(it.keys), np.uint32)
+            number[is_inner] = vertex + np.arange(is_inner.sum())
+            number[~is_inner] = ids[np.searchsorted(keys, it.keys[~is_inner])]
+            inner = np.column_stack((it.mesh.column, it.mesh.row, it.mesh.number, it.right, it.down))[is_inner]
+            ends = put_vertices(plan, look, file, at, vertex, inner)
+            low, high = np.minimum(low, ends[0]), np.maximum(high, ends[1])
+            triangles = number[it.mesh.triangles]
+            file.seek(at.indices + 12 * triangle)
+            file.write(np.ascontiguousarray(triangles[:, ::-1] if _turns(plan.raster.transform) else triangles, "<u4").data)
+            vertex, triangle = vertex + len(inner), triangle + len(triangles)
+    return low, high
+
+
+def put_vertices(plan: Plan, look: Look, file: Any, at: Layout, first: int, rows: Floats) -> tuple[Floats, Floats]:
+    """Writes vertices from number `first` on, of rows as `Counted.border` has them; their least and greatest coordinates."""
+    if not len(rows):
+        return np.full(3, np.inf), np.full(3, -np.inf)
+    raster = plan.raster
+    mesh = Mesh(rows[:, 0], rows[:, 1], rows[:, 2], np.empty((0, 3), np.uint32), plan.error, plan.rounding, plan.unit,
+                raster.shape, raster.transform, raster.crs)
+    x, y, z, _ = _places(mesh, look.crs, look.exaggerate)
+    places = y_up(np.column_stack((x, y, z)) - look.origin).astype("<f4")
+    file.seek(at.positions + 12 * first)
+    file.write(np.ascontiguousarray(places).data)
+    if look.normals:
+        up = normals_by_rises(mesh, rows[:, 3].astype(np.float32), rows[:, 4].astype(np.float32), look.crs, look.exaggerate)
+        file.seek(at.normals + 12 * first)
+        file.write(np.ascontiguousarray(y_up(up), "<f4").data)
+    return places.min(0).astype(np.float64), places.max(0).astype(np.float64)
+
+
+def join(raster: Raster, out: str, *, error: Optional[float] = None, triangles: Optional[int] = None, crs: Optional[str] = None,
+         origin: Optional[tuple[float, float, float]] = None, normals: bool = True, exaggerate: float = 1.0,
+         unit: Optional[float] = None, fill: Optional[float] = None, tile: int = 513, client: Any = None, workers: int = 1,
+         overwrite: bool = False, progress: Optional[Callable[..., None]] = None) -> dict[str, Any]:
+    """Writes one GLB of the whole raster, within an error at each of its points, of the fewest triangles of all meshes of right
+    triangles that are as fine as tiles of `tile` points a side; and OUT.json beside it. What that says comes back.
+
+    What is done stands in a folder OUT.run until all is, so that the same call goes on after a stop.
+
+    Args:
+        triangles: in the place of `error`: the least error at which there are at most so many.
+        crs: the system to write in; without it the raster's.
+        origin, normals, exaggerate: as for `export.save`.
+        unit, fill, tile, client, workers, overwrite, progress: as for `tiles.plan_of` and `tiles.build`.
+    """
+    began = time.perf_counter()
+    plan = plan_of(raster, out + ".run", error=error, tile=tile, unit=unit, fill=fill, flat=True)
+    with locked(plan, overwrite, triangles), workers_of(client, workers) as hands:
+        found: dict[str, Any] = {}
+        half = progress and third(progress)
+        if triangles is not None:
+            plan, searched = least_error(plan, hands, triangles, half)
+            found |= searched
+        rounds = settle(plan, hands, half)
+        blocks = sorted(rounds.states)
+        counts: dict[Block, Counted] = {}
+        tasks: dict[Any, Any] = {it: (count, (plan, it, rounds.states[it])) for it in blocks}
+        for block, counted in hands.do(tasks):
+            counts[block] = counted
+            if progress:
+                progress(len(blocks) + len(counts), 3 * len(blocks), "counting")
+        found |= {"rounds": rounds.told, "error": max(it.error for it in counts.values()),
+                  "cells": sum(it.cells for it in counts.values())}
+        look = Look(crs or raster.crs, origin or _origin(raster, crs), normals, exaggerate)
+        found |= _file(plan, hands, out, look, rounds.states, counts, found["error"], progress)
+        shutil.rmtree(plan.run)
+    shutil.rmtree(plan.out, ignore_errors=True)
+    return found | {"rounding": plan.rounding, "unit": plan.unit, "seconds": round(time.perf_counter() - began, 3)}
+
+
+def third(progress: Callable[..., None]) -> Tell:
+    """Of the way to a file, the rounds."""
+    return lambda done, total, text: progress(done, 3 * total, text)
+
+
+def _origin(raster: Raster, crs: Optional[str]) -> tuple[float, float, float]:
+    """A whole place in the middle of a raster's corners."""
+    rows, columns = (points - 1.0 for points in raster.shape)
+    a, b, c, d, e, f = raster.transform
+    column, row = np.array([0, columns, 0, columns]), np.array([0, 0, rows, rows])
+    x, y = a * column + b * row + c, d * column + e * row + f
+    if crs is not None and raster.crs is not None and crs != raster.crs:
+        x, y = systems.flat_transformer(raster.crs, crs).transform(x, y)
+    found = origin_of(np.asarray(x), np.asarray(y)).tolist()
+    return found[0], found[1], found[2]
+
+
+def _file(plan: Plan, hands: Any, out: str, look: Look, states: dict[Block, str], counts: dict[Block, Counted], error: float,
+          progress: Optional[Callable[..., None]]) -> dict[str, Any]:
+    """Writes the file beside its name, and renames it."""
+    keys, first = np.unique(np.concatenate([it.keys for it in counts.values()]), return_index=True)
+    border = np.concatenate([it.border for it in counts.values()])[first]
+    vertices = len(keys) + sum(sum(it.inner) for it in counts.values())
+    triangles = sum(sum(it.triangles) for it in counts.values())
+    if not triangles:
+        raise ValueError("the raster has no heights, so there is nothing to write")
+    if vertices > MOST_VERTICES:
+        raise ValueError(f"there are {vertices} vertices, more than 32 bits count: give a greater error, or make tiles")
+    told: dict[str, Any] = {"origin": list(look.origin), "crs": look.crs, "error": error, "triangles": triangles,
+                            "vertices": vertices, "exaggerate": look.exaggerate}
+    at = layout(vertices, triangles, look.normals, np.zeros((2, 3)), told)
+    path = os.path.join(os.path.abspath(plan.run), "joined.glb")
+    with open(path, "wb") as file:
+        file.truncate(at.size)
+        ends = [put_vertices(plan, look, file, at, 0, border)]
+    tasks: dict[Any, Any] = {}
+    vertex, triangle = len(keys), 0
+    for block in sorted(counts):
+        it = counts[block]
+        ids = np.searchsorted(keys, it.keys).astype(np.uint32)
+        tasks[block] = write, (plan, block, states[block], look, path, at._replace(head=b""), it.keys, ids, vertex, triangle)
+        vertex, triangle = vertex + sum(it.inner), triangle + sum(it.triangles)
+    for done, (_, bounds) in enumerate(hands.do(tasks), 1):
+        ends.append(bounds)
+        if progress:
+            progress(2 * len(tasks) + done, 3 * len(tasks), "writing")
+    bounds = np.stack((np.min([low for low, _ in ends], 0), np.max([high for _, high in ends], 0)))
+    with open(path, "r+b") as file:
+        file.write(layout(vertices, triangles, look.normals, bounds, told).head)
+        os.fsync(file.fileno())
+    refuse_changed(plan)
+    files.move(path, out)
+    files.write_bytes(out + ".json", (json.dumps(told, indent=1) + "\n").encode())
+    return told
