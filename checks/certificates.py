@@ -2,7 +2,7 @@
 """Tells whether a mesh is a best one within its budget, by a certificate. Python 3 alone: nothing of the program or of its checks.
 
 usage: python3 certificates.py GRID MESH CERT BUDGET SPACING
-GRID is a PGM file, MESH the OBJ file, CERT the certificate (docs/FORMATS.md). Prints the line of `roam certify check` and ends with its
+GRID is a PGM file, MESH the OBJ file, CERT the certificate (docs/REFERENCE.md). Prints the line of `roam certify check` and ends with its
 status: 0 and `certified ..`, or 7 and `rejected: ..` with the first test that fails; 5 for a file that cannot be read; 1 for other words.
 
 Why no mesh is better. Let w be the greatest priority of the leaves, and take any mesh of bintree triangles without cracks in which all

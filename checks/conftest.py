@@ -2,6 +2,8 @@
 python3 -m pytest checks/test_launcher.py [-k NAME], with the program of `./roam`, or of --program=PATH."""
 from __future__ import annotations
 
+import os
+import subprocess
 import sys
 from pathlib import Path
 from typing import Any
@@ -12,8 +14,18 @@ from place import Place
 
 CHECKS = Path(__file__).resolve().parent
 TOP = CHECKS.parent
+PATH = "/usr/bin:/bin"  # without the toolchain
 sys.dont_write_bytecode = True
 sys.path.insert(0, str(TOP / "tools"))
+
+
+def ran(*words: object, **how: Any) -> str:
+    """A command that ends well, without the toolchain on its PATH; what it printed."""
+    environment = {"PATH": PATH, "HOME": os.environ.get("HOME", "/"), **how.pop("env", {})}
+    given = [str(word) for word in words]
+    ended = subprocess.run(given, capture_output=True, text=True, check=False, env=environment, **how)
+    assert ended.returncode == 0, f"{words[0]} ended with status {ended.returncode}: {ended.stdout}{ended.stderr}"
+    return ended.stdout
 
 
 def pytest_addoption(parser: Any) -> None:
@@ -35,6 +47,14 @@ def program(request: Any) -> Path:
 @pytest.fixture(scope="session")
 def archive(request: Any) -> Path:
     return built(request, "--archive", "lib/build")
+
+
+@pytest.fixture(scope="session")
+def prefix(archive: Path, tmp_path_factory: Any) -> Path:
+    """Where `lib/build PREFIX` has installed all."""
+    folder: Path = tmp_path_factory.mktemp("prefix")
+    ran(sys.executable, TOP / "lib/build", folder, archive)
+    return folder
 
 
 @pytest.fixture

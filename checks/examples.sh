@@ -42,7 +42,7 @@ else
   wrong a_refused_line_ends_the_server "'$(tail -c 200 <<<"$told")'"
 fi
 
-# docs/FORMATS.md: a height of one unit on flat ground counts nothing at distance 131,072 and more. The box goes up to 1.
+# docs/REFERENCE.md: a height of one unit on flat ground counts nothing at distance 131,072 and more. The box goes up to 1.
 printf 'P2\n3 3\n9\n0 0 0\n0 1 0\n0 0 0\n' >"$room/one.pgm"
 printf 'camera 0 0 131072\nframe\ncamera 0 0 131073\nframe\n' >"$room/far"
 told=$(cd -- "$room" && "$program" mesh one.pgm far far_out 8 1 2>&1 | cut -d ' ' -f 4,8)

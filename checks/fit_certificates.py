@@ -3,7 +3,8 @@
 
 usage: python3 fit_certificates.py GRID MESH CERT error E SPACING      or budget BUDGET in the place of error E
        python3 fit_certificates.py make GRID error E                   or budget BUDGET: prints a certificate
-GRID is a PGM file, MESH the OBJ file of `roam fit`, CERT the certificate (docs/FORMATS.md). Prints `certified fit ..` and ends with 0, or
+       and, behind an error, keep POINTS: a file of lines X Y, grid points that the mesh has to have as vertices
+GRID is a PGM file, MESH the OBJ file of `roam fit`, CERT the certificate (docs/REFERENCE.md). Prints `certified fit ..` and ends with 0, or
 `rejected: ..` with the first test that fails and 7; 5 for a file that cannot be read; 1 for other words.
 
 Why no mesh is better. Take any mesh of bintree triangles without cracks that is nowhere off by more than the tolerance. Each reason names
@@ -11,8 +12,9 @@ a leaf of what the reasons before it make, and a grid point in it where the surf
 has split all that was split so far, each of its triangles is a leaf or lies in one; that leaf is none of its triangles, for the point's
 sake, so it is split there too, and with it its parent and the triangle across its base, else a corner would lie inside an edge. So the
 other mesh has all that the reasons before the mesh split, and no fewer triangles. For a budget the reasons behind the mesh say the same of
-every mesh that is nowhere off by as much as the tolerance: it has more triangles than the budget. One height of a plane is looked at for
-each reason, and each point of the mesh once."""
+every mesh that is nowhere off by as much as the tolerance: it has more triangles than the budget. Where points are kept, each mesh that
+has them splits the triangles whose longest sides have them in the middle, so these are split first. One height of a plane is looked at
+for each reason, and each point of the mesh once."""
 import heapq
 import re
 import sys
@@ -22,6 +24,8 @@ GAP = rb"[ \t\r\n](?:[ \t\r\n]|(?<=[ \t\r\n])#[^\r\n]*(?=[\r\n]))*"
 TOLERANCE = re.compile(rb"[ \t]*tolerance[ \t]+([0-9]{1,19})[ \t]*\r?")
 OFF = re.compile(rb"[ \t]*off[ \t]+([0-9]{1,19})[ \t]+([0-9]{1,19})[ \t]+([0-9]{1,19})[ \t]*\r?")
 MESH = re.compile(rb"[ \t]*mesh[ \t]*\r?")
+NEED = re.compile(rb"[ \t]*need[ \t]+([0-9]{1,19})[ \t]+([0-9]{1,19})[ \t]*\r?")
+POINT = re.compile(rb"[ \t]*(?:(-?[0-9]{1,18})[ \t]+(-?[0-9]{1,18})[ \t]*|#.*)?\r?")
 
 
 class Rejected(Exception):
@@ -107,6 +111,17 @@ class Surface:
                 left += [self.mate(b)] + [b // 2] * (b > 3)
         return more
 
+    def centred(self, point):
+        """A triangle whose longest side has this middle: of two, the other is its mate. None for a corner of the square."""
+        if set(point) <= {0, self.m}:
+            return None
+        a = 2 if sum(point) <= self.m else 3
+        while True:
+            _, v0, v1 = self.corners_of(a)
+            if (v0[0] + v1[0], v0[1] + v1[1]) == (2 * point[0], 2 * point[1]):
+                return a
+            a = 2 * a if min(self.weights(2 * a, point)) >= 0 else 2 * a + 1
+
     def leaves(self, split):
         """The triangles that are not split and whose parent is, depth first."""
         left, found = [3, 2], []
@@ -119,25 +134,39 @@ class Surface:
         return found
 
 
-def certificate_of(text, n):
-    """The tolerance, and the reasons before the mesh and behind it as (address, column, row)."""
+def points_of(text, m):
+    """The points of a file of lines X Y, of a grid of m steps a side; blank lines and those that begin with # have none."""
     lines = text.removesuffix(b"\n").split(b"\n") if text else []
-    tolerance, parts = None, [[]]
+    found = [POINT.fullmatch(line) for line in lines]
+    points = [tuple(map(int, match.groups())) for match in found if match and match[1]]
+    if None in found or len(lines) > (m + 1) ** 2 or not all(0 <= at <= m for point in points for at in point):
+        raise ValueError("the points are no lines of two numbers that are a column and a row of the grid")
+    return points
+
+
+def certificate_of(text, n, keeps):
+    """The points that are needed, where points are kept; the tolerance; and the reasons before the mesh and behind it as
+    (address, column, row)."""
+    lines = text.removesuffix(b"\n").split(b"\n") if text else []
+    needs, tolerance, parts = [], None, [[]]
     for number, line in enumerate(lines, 1):
-        own, off = TOLERANCE.fullmatch(line), OFF.fullmatch(line)
+        own, off, need = TOLERANCE.fullmatch(line), OFF.fullmatch(line), NEED.fullmatch(line) if keeps else None
         numbers = tuple(map(int, off.groups())) if off else (0, 0, 0)
-        if len(line) <= 200 and number == 1 and own and int(own[1]) < 2 ** 32:
+        point = tuple(map(int, need.groups())) if need else None
+        if len(line) <= 200 and tolerance is None and own and int(own[1]) < 2 ** 32:
             tolerance = int(own[1])
-        elif len(line) <= 200 and number > 1 and MESH.fullmatch(line) and len(parts) == 1:
+        elif len(line) <= 200 and tolerance is None and need and max(point) <= 2 ** n and len(needs) < 8_388_608:
+            needs.append(point)
+        elif len(line) <= 200 and tolerance is not None and MESH.fullmatch(line) and len(parts) == 1:
             parts.append([])
-        elif (len(line) <= 200 and number > 1 and 2 <= numbers[0] < 2 ** (2 * n + 1) and max(numbers[1:]) <= 2 ** n
+        elif (len(line) <= 200 and tolerance is not None and 2 <= numbers[0] < 2 ** (2 * n + 1) and max(numbers[1:]) <= 2 ** n
               and len(parts[-1]) < 8_388_608):
             parts[-1].append(numbers)
         else:
             raise Rejected(f"bad line {number}")
     if len(parts) == 1:
         raise Rejected(f"bad line {len(lines) + 1}")
-    return tolerance, *parts
+    return needs, tolerance, *parts
 
 
 def bad_reason(surface, split, reasons, tolerance):
@@ -159,26 +188,41 @@ def goal_of(kind, word, m):
     sys.exit(__doc__)
 
 
-def check(grid, mesh, certificate, kind, word, spacing):
+def split_needs(surface, split, needs, kept):
+    """Splits each triangle whose longest side has a needed point in the middle."""
+    triangles = [surface.centred(point) if point in kept else None for point in needs]
+    if None in triangles:
+        raise Rejected(f"bad reason {triangles.index(None) + 1}")
+    for a in triangles:
+        surface.force(split, a)
+
+
+def check(grid, mesh, certificate, kind, word, spacing, points=None):
     """The line for a certificate that holds; raises Rejected by the first test that fails."""
     surface = Surface(*grid_of(grid))
     wanted, budget = goal_of(kind, word, surface.m)
-    tolerance, needed, beyond = certificate_of(certificate, surface.n)
+    kept = set() if points is None else set(points_of(points, surface.m))
+    needs, tolerance, needed, beyond = certificate_of(certificate, surface.n, points is not None)
     if wanted not in (None, tolerance):
         raise Rejected("other tolerance")
     split = set()
+    split_needs(surface, split, needs, kept)
     place = bad_reason(surface, split, needed, tolerance)
     if place:
-        raise Rejected(f"bad reason {place}")
+        raise Rejected(f"bad reason {len(needs) + place}")
     leaves = surface.leaves(split)
     deviation = max(surface.farthest(a)[0] for a in leaves)
     if deviation > tolerance:
         raise Rejected("over tolerance")
     if budget and len(leaves) > budget:
         raise Rejected("over budget")
+    if points is not None and beyond:
+        raise Rejected(f"bad reason {len(needs) + len(needed) + 1}")
     place = bad_reason(surface, split, beyond, max(tolerance - 1, 0))
     if place:
         raise Rejected(f"bad reason {len(needed) + place}")
+    if not {surface.centred(point) for point in kept} - {None} <= split:
+        raise Rejected("too few reasons")
     if budget and tolerance > 0 and len(split) + 2 <= budget:
         raise Rejected("too few reasons")
     points = sorted({(y, x) for a in leaves for x, y in surface.corners_of(a)})
@@ -199,8 +243,9 @@ def decimal(count, over):
     return f"{whole}.{digits}" if digits else f"{whole}"
 
 
-def made(grid, kind, word):
-    """A certificate of the mesh of an error or a budget: what is off is split, the worst first, and each split has its reason."""
+def made(grid, kind, word, points=None):
+    """A certificate of the mesh of an error or a budget: what is off is split, the worst first, and each split has its reason.
+    The triangles of points that are kept are split before."""
     surface = Surface(*grid_of(grid))
     tolerance, budget = goal_of(kind, word, surface.m)
     known = {}
@@ -239,19 +284,27 @@ def made(grid, kind, word):
             tolerance = off if tolerance is None else min(off, tolerance)
             if off == 0:
                 break
-    split = set()
+    split, needs = set(), []
+    for point in points_of(points, surface.m) if points is not None else []:
+        a = surface.centred(point)
+        if a is not None and a not in split:
+            needs.append(point)
+            surface.force(split, a)
     needed = reasons(split, tolerance)
     beyond = reasons(split, tolerance - 1) if budget and tolerance else []
-    lines = [f"tolerance {tolerance}"] + ["off %d %d %d" % reason for reason in needed] + ["mesh"] + ["off %d %d %d" % reason for reason in beyond]
+    lines = ["need %d %d" % point for point in needs] + [f"tolerance {tolerance}"]
+    lines += ["off %d %d %d" % reason for reason in needed] + ["mesh"] + ["off %d %d %d" % reason for reason in beyond]
     return "".join(line + "\n" for line in lines)
 
 
-words = sys.argv[1:]
+words, kept = sys.argv[1:], []
 try:
+    if words[-2:-1] == ["keep"] and words[-4 if words[0] == "make" else -5:][0] == "error":
+        kept, words = [open(words[-1], "rb").read()], words[:-2]
     if len(words) == 4 and words[0] == "make":
-        print(made(open(words[1], "rb").read(), *words[2:]), end="")
+        print(made(open(words[1], "rb").read(), *words[2:], *kept), end="")
     elif len(words) == 6:
-        print(check(*(open(name, "rb").read() for name in words[:3]), *words[3:5], int(words[5])))
+        print(check(*(open(name, "rb").read() for name in words[:3]), *words[3:5], int(words[5]), *kept))
     else:
         sys.exit(__doc__)
 except Rejected as why:

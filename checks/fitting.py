@@ -1,6 +1,6 @@
 #!/usr/bin/env python3
-"""The mesh of the fewest triangles for an error, with points as vertices or without, and that of the least error for a budget, from
-the definitions.
+"""The mesh of the fewest triangles for an error, or for an error of each point's own, with points as vertices or without, and that of the
+least error for a budget, from the definitions.
 
 usage: checks/fitting.py [SEED]    compares the plain loop with all closed sets of small grids, of levels 1 and 2, and says how many
 
@@ -13,7 +13,7 @@ import sys
 from fractions import Fraction
 
 from frames import forced, leaves_of, vertices_of
-from strips import deviation
+from strips import deviation, points_off
 from terrain import Terrain
 
 
@@ -30,6 +30,21 @@ class Errors:
 
     def worst(self, split):
         return max(self.of(a) for a in leaves_of(split))
+
+
+class Excesses(Errors):
+    """By how much a point that a triangle holds is off by more than its own tolerance, at most, in thousandths of a unit, times 2^n.
+    Tolerances are in thousandths, by point; None is that of a point that does not count."""
+
+    def __init__(self, terrain, tolerances):
+        super().__init__(terrain)
+        self.tolerances = tolerances
+
+    def of(self, a):
+        if a not in self.known:
+            self.known[a] = max([1000 * distance - self.tolerances[point] * self.terrain.m
+                                 for point, distance in points_off(self.terrain, a) if self.tolerances[point] is not None] + [0])
+        return self.known[a]
 
 
 def with_points(terrain, points):
@@ -120,6 +135,14 @@ def compare(n, seed):
         fewest = min(count for count, _ in within)
         best = [split for count, split in within if count == fewest]
         assert best == [fit_error(terrain, errors, tolerance, points)], "another set with the points has as few triangles for the error"
+    for points in kept:
+        own = {point: roll.choice([None, 0, 1000 * roll.randint(0, maxval)]) for point in heights}
+        excesses = Excesses(terrain, own)
+        within = [(count, split) for _, count, split in meshes
+                  if excesses.worst(split) == 0 and points <= set(vertices_of(terrain, leaves_of(split)))]
+        fewest = min(count for count, _ in within)
+        best = [split for count, split in within if count == fewest]
+        assert best == [fit_error(terrain, excesses, 0, points)], "another set within the tolerances has as few triangles"
     for budget in range(2, 2 * m * m + 2):
         worst, count = min((worst, count) for worst, count, _ in meshes if count <= budget)
         best = [split for other, size, split in meshes if other == worst and size == count]

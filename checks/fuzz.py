@@ -1,6 +1,6 @@
 #!/usr/bin/env python3
 """Damages grids and scripts of a small corpus and compares what the program makes of them with the rules of
-docs/FORMATS.md: the refusals of grids and the line of `info` are written here, all the rest is asked of greedy.py.
+docs/REFERENCE.md: the refusals of grids and the line of `info` are written here, all the rest is asked of greedy.py.
 
 usage: checks/fuzz.py PROGRAM FOLDER SECONDS SEED   FOLDER is empty; the files of a difference are left there
 

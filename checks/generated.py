@@ -1,5 +1,5 @@
 #!/usr/bin/env python3
-"""The generated grid and script of a level and a seed, from docs/FORMATS.md and with nothing of the program.
+"""The generated grid and script of a level and a seed, from docs/REFERENCE.md and with nothing of the program.
 
 usage: checks/generated.py N SEED GRID SCRIPT     writes both"""
 import sys

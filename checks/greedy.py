@@ -144,10 +144,15 @@ def goal_words(kind, bound):
     return (thousandths(bound), None) if kind == "error" else (None, budget_word(bound))
 
 
-def fit(grid, prefix, kind, bound, spacing, keep=None, points=None):
-    prefix, (error, budget), spacing = prefix_word(prefix), goal_words(kind, bound), spacing_word(spacing)
+def keep_words(keep, budget):
+    """Points are kept behind an error alone."""
     if keep is not None and (keep != "keep" or budget is not None):
         raise Usage
+
+
+def fit(grid, prefix, kind, bound, spacing, keep=None, points=None):
+    prefix, (error, budget), spacing = prefix_word(prefix), goal_words(kind, bound), spacing_word(spacing)
+    keep_words(keep, budget)
     terrain = Terrain(read_grid(grid), spacing, MOST_TRIANGLES)
     kept = [] if points is None else points_of(read(points), terrain.m)
     errors = fitting.Errors(terrain)
@@ -167,9 +172,9 @@ def certify(action, *words):
         return certify_make(*words)
     if action == "check" and len(words) == 5:
         return certify_check(*words)
-    if action == "make-fit" and len(words) == 4:
+    if action == "make-fit" and len(words) in (4, 6):
         return certify_make_fit(*words)
-    if action == "check-fit" and len(words) == 6:
+    if action == "check-fit" and len(words) in (6, 8):
         return certify_check_fit(*words)
     raise Usage
 
@@ -194,17 +199,21 @@ def certify_check(grid, mesh_name, certificate, budget, spacing):
     print("certified camera %d %d %d" % terrain.camera, f"triangles {len(leaves)} worst {worst}")
 
 
-def certify_make_fit(grid, kind, bound, spacing):
+def certify_make_fit(grid, kind, bound, spacing, keep=None, points=None):
     (error, budget), spacing = goal_words(kind, bound), spacing_word(spacing)
+    keep_words(keep, budget)
     terrain = Terrain(read_grid(grid), spacing, MOST_TRIANGLES)
-    print(fit_certifying.made(terrain, fitting.Errors(terrain), error, budget), end="")
+    kept = [] if points is None else points_of(read(points), terrain.m)
+    print(fit_certifying.made(terrain, fitting.Errors(terrain), error, budget, kept), end="")
 
 
-def certify_check_fit(grid, mesh_name, certificate, kind, bound, spacing):
+def certify_check_fit(grid, mesh_name, certificate, kind, bound, spacing, keep=None, points=None):
     (error, budget), spacing = goal_words(kind, bound), spacing_word(spacing)
+    keep_words(keep, budget)
     terrain = Terrain(read_grid(grid), spacing, MOST_TRIANGLES)
+    kept = None if points is None else points_of(read(points), terrain.m)
     try:
-        leaves = fit_certifying.check(terrain, fit_certifying.read(read(certificate), terrain), error, budget)
+        leaves = fit_certifying.check(terrain, fit_certifying.read(read(certificate), terrain, kept), error, budget, kept)
         certifying.compare(terrain, leaves, read(mesh_name))
     except certifying.Rejected as why:
         print(f"rejected: {why}")
@@ -234,7 +243,7 @@ def try_(n, seed):
 
 # By its word: a command, and how many words may follow.
 COMMANDS = {"mesh": (mesh, [5]), "info": (info, [1]), "try": (try_, [2]), "least": (least, [5]), "strip": (strip, [5]),
-            "measure": (measure, [4]), "certify": (certify, [5, 6, 7]), "fit": (fit, [5, 7])}
+            "measure": (measure, [4]), "certify": (certify, [5, 6, 7, 9]), "fit": (fit, [5, 7])}
 
 
 def main(words):

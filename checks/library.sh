@@ -92,18 +92,21 @@ for cc in gcc clang; do
       builds "library_flight_$cc" "${c[@]}" -o "flight_$cc" "$uses/flight.c" "${static[@]}"; then
       runs "library_flight_$cc" '40 frames' "./flight_$cc" "$jacksboro" 2000 90 40
     fi
-    if builds "library_calls_$cc" "${c[@]}" -o "calls_$cc" "$tests/calls.c" "${static[@]}"; then
-      runs "library_calls_$cc" 'roam.h says' "./calls_$cc" 1 "$([ "$cc" = gcc ] && echo 200000 || echo 20000)"
-      runs "library_ends_$cc" 'each refused in turn' "./calls_$cc" ends
-    fi
+    for name in calls tiles; do
+      if builds "library_${name}_$cc" "${c[@]}" -o "${name}_$cc" "$tests/$name.c" "${static[@]}"; then
+        runs "library_${name}_$cc" 'roam.h says' "./${name}_$cc" 1 "$([ "$cc" = gcc ] && echo 200000 || echo 20000)"
+        runs "library_ends_of_${name}_$cc" 'each refused in turn' "./${name}_$cc" ends
+      fi
+    done
   fi
 done
 
 for cc in g++ clang++; do
   if has "library_$cc" "$cc"; then
     c=("$cc" -std=c++17 -O2 "${strict[@]}" -pthread)
-    for name in first_frame threads; do
-      if builds "library_${name}_$cc" "${c[@]}" -o "${name}_$cc" "$uses/$name.cpp" "${static[@]}"; then
+    for file in "$uses/first_frame.cpp" "$uses/threads.cpp" "$tests/rounds.cpp"; do
+      name=$(basename "$file" .cpp)
+      if builds "library_${name}_$cc" "${c[@]}" -o "${name}_$cc" "$file" "${static[@]}"; then
         runs "library_${name}_$cc" '' "./${name}_$cc"
       fi
     done
@@ -130,13 +133,43 @@ if has library_by_cmake cmake make; then
   fi
 fi
 
-# The loops of docs/EMBEDDING.md, each in a function of its own.
-block() { awk -v begin="\`\`\`$1" '$0 == begin { inside = 1; next } /^```/ { inside = 0 } inside' "$top/docs/EMBEDDING.md"; }
+# The loops of docs/LIBRARY.md, each in a function of its own, and that of README.md.
+# block LANGUAGE [PAGE [tiles]]: the page's code in this language: without `tiles` what does not stand under "Tiles that meet", else that.
+block() {
+  awk -v begin="\`\`\`$1" -v tiles="${3:+1}" '
+    $0 == begin { inside = 1; next } /^```/ { inside = 0 } !inside && /^## / { under = $0 == "## Tiles that meet" }
+    inside && under == (tiles != "")' "$top/${2:-docs/LIBRARY.md}"
+}
 where='int flying, int64_t x, int64_t y, int64_t z)'
 if has library_loops_of_the_docs cc c++; then
   { echo '#include "roam.h"'; echo "int fly(const uint16_t *heights, uint32_t *index_buffer, $where {"; block c; echo 'return 0; }'; } >loop.c
   { block cpp | grep '^#'; echo "int fly(const std::vector<uint16_t> &heights, $where {"; block cpp | grep -v '^#'; echo 'return 0; }'; } >loop.cpp
-  if builds library_loops_of_the_docs cc -std=c99 -Wall -Wextra -pedantic -c "-I$prefix/include" loop.c &&
+  {
+    echo '#include "roam.h"'
+    echo "int fly(const uint16_t *heights, uint32_t *buffer, $where { roam_handle terrain = ROAM_EMPTY; roam_frame_note note; size_t count = 0;"
+    block c README.md
+    echo 'return (int)count; }'
+  } >first.c
+  {
+    echo '#include "roam.h"'
+    echo 'const uint16_t *heights_of(roam_tile_note tile); void keep(roam_tile_note tile, roam_fitter *f);'
+    echo 'int fit(uint32_t columns, uint32_t rows, uint32_t side, uint32_t *points) {'
+    block c docs/LIBRARY.md tiles
+    echo 'return roam_fitter_close(&f) == ROAM_OK && roam_mosaic_close(&m) == ROAM_OK; }'
+  } >tiles.c
+  {
+    echo '#include "roam.hpp"'
+    echo 'std::vector<uint16_t> heights_of(uint32_t column, uint32_t row);'
+    echo 'void fit(uint32_t columns, uint32_t rows, uint32_t side) {'
+    block cpp docs/LIBRARY.md tiles
+    echo '}'
+  } >tiles.cpp
+  if builds library_tiles_of_the_docs cc -std=c99 -Wall -Wextra -Werror -pedantic -c "-I$prefix/include" tiles.c &&
+    builds library_tiles_of_the_docs c++ -std=c++17 -Wall -Wextra -Werror -c "-I$prefix/include" tiles.cpp; then
+    ok library_tiles_of_the_docs
+  fi
+  if builds library_loops_of_the_docs cc -std=c99 -Wall -Wextra -Werror -pedantic -c "-I$prefix/include" first.c &&
+    builds library_loops_of_the_docs cc -std=c99 -Wall -Wextra -pedantic -c "-I$prefix/include" loop.c &&
     builds library_loops_of_the_docs c++ -std=c++17 -Wall -Wextra -Werror -Wno-unused-variable -Wno-unused-but-set-variable -c "-I$prefix/include" loop.cpp; then
     ok library_loops_of_the_docs
   fi
@@ -160,10 +193,12 @@ if [ -n "$sanitizer" ]; then
   if builds library_threads_sanitized "${cpp[@]}" -std=c++17 -pthread -o threads_sanitized "$uses/threads.cpp" "${static[@]}"; then
     runs library_threads_sanitized 'one after the other' ./threads_sanitized
   fi
-  if builds library_calls_sanitized "${c[@]}" -std=c99 -o calls_sanitized "$tests/calls.c" "${static[@]}"; then
-    runs library_calls_sanitized 'roam.h says' ./calls_sanitized 2 200000
-    runs library_ends_sanitized 'each refused in turn' ./calls_sanitized ends
-  fi
+  for name in calls tiles; do
+    if builds "library_${name}_sanitized" "${c[@]}" -std=c99 -o "${name}_sanitized" "$tests/$name.c" "${static[@]}"; then
+      runs "library_${name}_sanitized" 'roam.h says' "./${name}_sanitized" 2 200000
+      runs "library_ends_of_${name}_sanitized" 'each refused in turn' "./${name}_sanitized" ends
+    fi
+  done
 else
   skip library_sanitized 'no compiler with the sanitizers of addresses and undefined behaviour is there'
 fi
@@ -182,18 +217,23 @@ else
 fi
 
 if has library_fuzzed clang; then
-  if clang -g -O1 -std=c99 -DFUZZER -fsanitize=fuzzer,address,undefined -fno-sanitize-recover=all -o fuzzed "$tests/calls.c" "${static[@]}" >said 2>&1; then
-    runs library_fuzzed 'Done 20000 runs' ./fuzzed -seed=1 -runs=20000 -max_len=4096 -len_control=0
-  else
-    skip library_fuzzed 'clang has no libFuzzer'
-  fi
+  fuzzer=(clang -g -O1 -std=c99 -DFUZZER '-fsanitize=fuzzer,address,undefined' -fno-sanitize-recover=all)
+  for name in calls tiles; do
+    if "${fuzzer[@]}" -o "${name}_fuzzed" "$tests/$name.c" "${static[@]}" >said 2>&1; then
+      runs "library_${name}_fuzzed" 'Done 20000 runs' "./${name}_fuzzed" -seed=1 -runs=20000 -max_len=4096 -len_control=0
+    else
+      skip "library_${name}_fuzzed" 'clang has no libFuzzer'
+    fi
+  done
 fi
 
 if has library_in_valgrind valgrind cc; then
   watched=(valgrind -q --error-exitcode=9 --leak-check=full --show-leak-kinds=all --errors-for-leak-kinds=all)
-  if builds library_calls_in_valgrind cc -std=c99 -g -O1 -o calls_watched "$tests/calls.c" "${static[@]}"; then
-    runs library_calls_in_valgrind 'roam.h says' "${watched[@]}" ./calls_watched 3 2000
-  fi
+  for name in calls tiles; do
+    if builds "library_${name}_in_valgrind" cc -std=c99 -g -O1 -o "${name}_watched" "$tests/$name.c" "${static[@]}"; then
+      runs "library_${name}_in_valgrind" 'roam.h says' "${watched[@]}" "./${name}_watched" 3 2000
+    fi
+  done
   if builds library_flight_in_valgrind cc -std=c99 -g -O1 -o flight_watched "$uses/flight.c" "${static[@]}"; then
     runs library_flight_in_valgrind '4 frames' "${watched[@]}" ./flight_watched "$jacksboro" 500 90 4
   fi
@@ -219,7 +259,9 @@ if has library_python python3; then
     else
       skip library_python_certificate_of_program 'the program is not built'
     fi
-    { echo 'heights, path = [7] * 81, [(1, 2, 3.5)] * 3'; block python; echo 'print(note.triangles)'; } >loop.py
+    { printf '%s\n' 'import calfrewin' 'heights, path = [7] * 81, [(1, 2, 3.5)] * 3'
+      block python docs/PYTHON.md | sed -n '/^with calfrewin.Engine/,/^[^ ]/{/^with calfrewin.Engine\|^ /p}'
+      echo 'print(note.triangles)'; } >loop.py
     runs library_python_loop_of_the_docs 2 "${python[@]}" loop.py
   else
     skip library_python 'numpy is not there'

@@ -195,3 +195,56 @@ def test_certificates_made_of_random_fits(program: Path, alone: Path, run: Run) 
         place.write("c", f"tolerance {int(first.split()[1]) + 1}\n{rest}")
         told = ask(alone, place.folder, "fit_certificates.py", "g", "out000001.obj", "c", *goal)[1]
         assert told.startswith("rejected: "), f"'{told}' for a tolerance that is one more"
+
+
+# --- Meshes that keep points: the program and the checker alone certify them alike. ---
+
+# Of each status and line, the points that are kept, and an edit of the certificate that was made for (1, 1), (4, 0) and
+# (3, 2) at the error 20, whose first lines are `need 1 1` and `need 3 2`: a corner is none.
+KEPT = b"1 1\n4 0\n# a ridge\n3 2\n"
+
+
+@table(
+    "status, line, kept, edit",
+    ("kept_certificate_that_is_sound", 0, "certified fit *", KEPT, ""),
+    ("kept_certificate_with_a_point_twice", 0, "certified fit *", KEPT, "2p"),
+    ("kept_certificate_with_other_blanks_and_line_ends", 0, "certified fit *", KEPT, r"s/ /\t /; s/$/ \r/"),
+    ("kept_certificate_of_another_error", 7, "rejected: other tolerance", KEPT, "3s/[0-9]/1&/"),
+    ("kept_certificate_with_a_point_that_is_not_kept", 7, "rejected: bad reason 2", b"1 1\n", ""),
+    ("kept_certificate_with_a_corner", 7, "rejected: bad reason 1", KEPT, "1s/.*/need 4 0/"),
+    ("kept_certificate_that_lacks_a_point", 7, "rejected: too few reasons", KEPT + b"2 1\n", ""),
+    ("kept_certificate_with_a_point_behind_the_tolerance", 7, "rejected: bad line 3", KEPT, "2{h;d};3G"),
+    ("kept_certificate_with_a_column_past_the_grid", 7, "rejected: bad line 1", KEPT, "1s/.*/need 5 0/"),
+    ("kept_certificate_with_a_reason_behind_the_mesh", 7, "rejected: bad reason *", KEPT, "$a off 2 1 1"),
+)
+def test_kept_certificate(place: Place, alone: Path, status: int, line: str, kept: bytes, edit: str) -> None:
+    place.write("g", PLAIN)
+    place.write("p", KEPT)
+    words = ("error", 20, 3, "keep", "p")
+    report = place.run("fit", "g", "out", *words).report
+    made = ask(alone, place.folder, "fit_certificates.py", "make", "g", "error", 20, "keep", "p")[1]
+    assert made.startswith("need 1 1\nneed 3 2\ntolerance 80\n")
+    place.write("c", made)
+    place.write("p", kept)
+    if edit:
+        damage(place, "c", edit)
+    found, told = ask(alone, place.folder, "fit_certificates.py", "g", "out000001.obj", "c", *words)
+    assert found == status and fnmatch.fnmatchcase(told, f"{line}\n"), f"the checker says '{told}' with status {found}"
+    assert status or told == f"{certified_line(report)}\n"
+    place.run("certify", "check-fit", "g", "out000001.obj", "c", *words)
+    place.expect(status, told.encode())
+
+
+# What the program makes needs the same points, and both certify it.
+def test_kept_certificate_that_the_program_makes(place: Place, alone: Path) -> None:
+    place.write("g", PLAIN)
+    place.write("p", KEPT)
+    words = ("error", 20, 3, "keep", "p")
+    report = place.run("fit", "g", "out", *words).report
+    made = place.run("certify", "make-fit", "g", *words).report
+    assert place.status == 0 and made.startswith(b"need 1 1\nneed 3 2\ntolerance 80\n")
+    place.write("c", made)
+    told = f"{certified_line(report)}\n"
+    assert ask(alone, place.folder, "fit_certificates.py", "g", "out000001.obj", "c", *words) == (0, told)
+    place.run("certify", "check-fit", "g", "out000001.obj", "c", *words)
+    place.expect(0, told.encode())

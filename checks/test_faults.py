@@ -202,11 +202,16 @@ def test_script_that_ends(place: Place, script: str, refusal: bytes) -> None:
     ("a_fitted_mesh_that_cannot_be_read", "certify check-fit g FILE c error 0 1", "mesh"),
     ("a_script_that_cannot_be_read", "mesh g FILE out 2 1", "script"),
     ("points_that_cannot_be_read", "fit g out error 1 1 keep FILE", "points"),
+    ("points_of_a_certificate_that_cannot_be_read", "certify make-fit g error 1 1 keep FILE", "points"),
+    ("points_of_a_check_that_cannot_be_read", "certify check-fit g o c error 1 1 keep FILE", "points"),
+    ("a_certificate_behind_points_that_cannot_be_read", "certify check-fit g o FILE error 1 1 keep k", "certificate"),
+    ("a_mesh_behind_points_that_cannot_be_read", "certify check-fit g FILE c error 0 1 keep k", "mesh"),
 )
 def test_read(place: Place, words: str, what: str) -> None:
     if subprocess.run(["head", "-c", "1", "/proc/self/mem"], capture_output=True, check=False).returncode == 0:
         pytest.skip("no file here can be opened and not be read")
     place.write("c", "tolerance 0\nmesh\n")
+    place.write("k", "0 0\n")
     place.run(*words.replace("FILE", "/proc/self/mem").split())
     place.expect(5, said=f"roam: cannot read the {what} '/proc/self/mem': Input/output error")
 

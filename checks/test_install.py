@@ -16,19 +16,10 @@ import first_use
 import packages
 import pytest
 
-from conftest import TOP
+from conftest import PATH, TOP, ran
 from place import Place, table
 
 JACKSBORO = TOP / "examples/jacksboro/grid.pgm"
-PATH = "/usr/bin:/bin"  # without the toolchain
-
-
-def ran(*words: object, **how: Any) -> str:
-    """A command that ends well; what it printed."""
-    environment = {"PATH": PATH, "HOME": os.environ.get("HOME", "/"), **how.pop("env", {})}
-    ended = subprocess.run([str(word) for word in words], capture_output=True, text=True, check=False, env=environment, **how)
-    assert ended.returncode == 0, f"{words[0]} ended with status {ended.returncode}: {ended.stdout}{ended.stderr}"
-    return ended.stdout
 
 
 @pytest.fixture(scope="session")
@@ -49,13 +40,6 @@ def check_mesh(folder: Path, triangles: int, *program: object, **how: Any) -> No
 
 
 # --- lib/build PREFIX. ---
-
-@pytest.fixture(scope="session")
-def prefix(archive: Path, tmp_path_factory: Any) -> Path:
-    folder: Path = tmp_path_factory.mktemp("prefix")
-    ran(sys.executable, TOP / "lib/build", folder, archive)
-    return folder
-
 
 def test_a_prefix_has_the_program(prefix: Path, program: Path) -> None:
     assert (prefix / "bin/roam").read_bytes() == program.read_bytes()

@@ -76,6 +76,8 @@ def refusing(tmp_path_factory: Any) -> Path:
     ("each_allocation_of_certify_make_fit_fails_in_turn", "certify make-fit hill budget 2 1"),
     ("each_allocation_of_certify_make_fit_of_an_error_fails_in_turn", "certify make-fit hill error 0 1"),
     ("each_allocation_of_certify_check_fit_fails_in_turn", "certify check-fit hill o f budget 2 1"),
+    ("each_allocation_of_certify_make_fit_with_points_fails_in_turn", "certify make-fit hill error 0 1 keep p"),
+    ("each_allocation_of_certify_check_fit_with_points_fails_in_turn", "certify check-fit hill o k error 10 1 keep q"),
 )
 def test_memory(place: Place, refusing: Path, words: str) -> None:
     place.write("g", spots(5, (2, 2, 10)))
@@ -85,6 +87,8 @@ def test_memory(place: Place, refusing: Path, words: str) -> None:
     place.write("c", "camera 0 0 0\nleaf 2\nleaf 3\nwant 2\n")
     place.write("f", "tolerance 20\nmesh\noff 2 1 1\n")
     place.write("p", "1 0\n2 2\n")
+    place.write("k", "tolerance 20\nmesh\n")
+    place.write("q", "0 0\n")
     for number in range(1, 1001):
         place.run(*words.split(), env={**os.environ, "REFUSE": str(number), "LD_PRELOAD": str(refusing)})
         if place.status == 0:

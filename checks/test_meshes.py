@@ -142,6 +142,39 @@ def test_random_runs_of_keep(program: Path, run: Run) -> None:
         them.check(*run.words)
 
 
+# The program's mesh of such a run is certified with its points by what the program makes and by what the plain program makes,
+# by the two alike and by a checker that shares nothing with either; and as damaged ones are rejected alike.
+@given(run=runs.keeps(), data=st.data())
+@random_runs()
+def test_random_runs_of_certify_keep(program: Path, run: Run, data: Any) -> None:
+    roll, goal = Roll(data.draw), run.words[3:]
+    with both(program, run.files) as them:
+        ours = them.ours.run(*run.words)
+        if ours.status != 0:
+            them.check("certify", "make-fit", "g", *goal)
+            them.check("certify", "check-fit", "g", "o", "c", *goal)
+            return
+        mesh = ours.read("out000001.obj")
+        them.write("o", mesh)
+        for folder in (ours.folder, them.plain):
+            (folder / "out000001.obj").unlink(missing_ok=True)
+        made = ours.run("certify", "make-fit", "g", *goal).report
+        assert ours.status == 0, ours.said
+        status, plains, _ = plain(them.plain, "certify", "make-fit", "g", *goal)
+        needs = [line for line in made.splitlines() if line.startswith((b"need", b"tol"))]
+        assert status == 0 and plains.encode().splitlines()[:len(needs)] == needs
+        for certificate in (made, plains.encode()):
+            them.write("c", certificate)
+            report = them.check("certify", "check-fit", "g", "o", "c", *goal)[1]
+            assert report.startswith("certified fit ")
+        assert judged(ours.folder, goal) == report
+        m = int(run.files["g"].split(b"\n")[1].split()[0]) - 1
+        files = runs.damaged(roll, made, mesh, lambda roll, lines: runs.damage_fit_line(roll, lines, m))
+        for name, it in zip(("c", "o"), files):
+            them.write(name, it)
+        them.check("certify", "check-fit", "g", "o", "c", *goal)
+
+
 # A run of a script, and its runs again with the worst of its first frame as tolerance, and with one less.
 @given(run=runs.scripts("least"))
 @random_runs()

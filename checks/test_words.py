@@ -15,7 +15,10 @@ REACH = "a whole number from -1073741824 to 1073741824 is wanted"
 COMMANDS = "the commands are info, try, mesh, strip, least, measure, fit and certify"
 FIT = ("fit wants 5 or 7 words behind it, {} were given: GRID PREFIX error E SPACING, "
        "GRID PREFIX error E SPACING keep POINTS, or GRID PREFIX budget BUDGET SPACING")
-FIT_MAKE = "certify make-fit wants 4 words behind it, {} given: GRID error E SPACING, or GRID budget BUDGET SPACING"
+FIT_MAKE = ("certify make-fit wants 4 or 6 words behind it, {} given: GRID error E SPACING, "
+            "GRID error E SPACING keep POINTS, or GRID budget BUDGET SPACING")
+FIT_CHECK = ("certify check-fit wants 6 or 8 words behind it, {} were given: GRID OBJ CERT error E SPACING, "
+             "GRID OBJ CERT error E SPACING keep POINTS, or GRID OBJ CERT budget BUDGET SPACING")
 ERROR = "a number from 0 to 65535.999 with at most three places behind a point is wanted"
 TASKS = "'make', 'check', 'make-fit' or 'check-fit'"
 
@@ -104,16 +107,24 @@ TASKS = "'make', 'check', 'make-fit' or 'check-fit'"
     ("a_certificate_of_budget_1", f"BUDGET is '1': {BUDGET}", "certify make g 0 0 0 1 1"),
     ("a_fit_certificate_without_a_goal", FIT_MAKE.format("1 was"), "certify make-fit g"),
     ("a_fit_certificate_without_a_spacing", FIT_MAKE.format("3 were"), "certify make-fit g error 1"),
-    ("a_fit_certificate_with_one_word_more", FIT_MAKE.format("5 were"), "certify make-fit g error 1 1 1"),
+    ("a_fit_certificate_with_one_word_more", "certify make-fit wants 'keep' and POINTS behind SPACING, or nothing, and not '1'",
+     "certify make-fit g error 1 1 1"),
+    ("a_fit_certificate_that_keeps_without_points", FIT_MAKE.format("5 were"), "certify make-fit g error 1 1 keep"),
+    ("a_fit_certificate_that_keeps_two_files", FIT_MAKE.format("7 were"), "certify make-fit g error 1 1 keep p q"),
+    ("a_fit_certificate_of_a_budget_that_keeps", FIT_MAKE.format("6 were"), "certify make-fit g budget 2 1 keep p"),
     ("a_fit_certificate_with_another_word", "certify make-fit wants 'error' or 'budget' behind GRID, and not 'errors'",
      "certify make-fit g errors 1 1"),
     ("a_fit_certificate_of_budget_1", f"BUDGET is '1': {BUDGET}", "certify make-fit g budget 1 1"),
     ("a_fit_certificate_of_too_great_an_error", f"E is '65536': {ERROR}", "certify make-fit g error 65536 1"),
     ("a_fit_certificate_of_a_spacing_of_0", "SPACING is '0': a whole number from 1 to 1024 is wanted",
      "certify make-fit g budget 2 0"),
-    ("a_check_of_a_fit_without_a_spacing", "certify check-fit wants 6 words behind it, 5 were given: "
-     "GRID OBJ CERT error E SPACING, or GRID OBJ CERT budget BUDGET SPACING",
-     "certify check-fit g o c budget 2"),
+    ("a_check_of_a_fit_without_a_spacing", FIT_CHECK.format("5"), "certify check-fit g o c budget 2"),
+    ("a_check_of_a_fit_that_keeps_without_points", FIT_CHECK.format("7"), "certify check-fit g o c error 1 1 keep"),
+    ("a_check_of_a_fit_that_keeps_two_files", FIT_CHECK.format("9"), "certify check-fit g o c error 1 1 keep p q"),
+    ("a_check_of_a_fit_of_a_budget_that_keeps", FIT_CHECK.format("8"), "certify check-fit g o c budget 2 1 keep p"),
+    ("a_check_of_a_fit_with_another_word_for_keep",
+     "certify check-fit wants 'keep' and POINTS behind SPACING, or nothing, and not 'hold'",
+     "certify check-fit g o c error 1 1 hold p"),
     ("a_check_of_a_fit_by_the_words_of_a_check", "certify check-fit wants 'error' or 'budget' behind GRID OBJ CERT, and not '2'",
      "certify check-fit g o c 2 1"),
     ("a_check_of_a_fit_of_an_error_without_a_number", f"E is '-1': {ERROR}", "certify check-fit g o c error -1 1"),

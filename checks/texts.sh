@@ -1,5 +1,6 @@
 # shellcheck shell=bash disable=SC2154,SC2016
-# The repository's texts: what a script can see of its rules (CONTRIBUTING.md). Sourced by checks/run.
+# The repository's texts: what a script can see of its rules (CONTRIBUTING.md), beside test_texts.py (words, links, figures,
+# the site) and test_pages.py (what is generated). Sourced by checks/run.
 
 cd -- "$top" || exit 1
 
@@ -22,7 +23,7 @@ lines_of_code() {
 }
 
 # The law crates, whose functions have empty bodies: no edit of their code could turn a meaning.
-laws=$(sed -n 's/^| \[`\([a-z0-9_]*\)`\].* | law |.*/\1/p' docs/CRATES.md)
+laws=$(sed -n 's/^|\[`\([a-z0-9_]*\)`\].*)|law|.*/\1/p' docs/CRATES.md)
 
 # says NAME WORDS: whether a line of the crate's README begins with these words, a colon and a reason.
 says() { grep -q "^$2: [^ ]" "crates/$1/README.md" 2>/dev/null; }
@@ -37,7 +38,7 @@ for name in $crates; do
   elif [ "$(wc -l <"crates/$name/README.md")" -gt 120 ]; then
     why+=("README.md has more than 120 lines")
   fi
-  grep -q "^| \[\`$name\`\](../crates/$name/README.md) | \(law\|code\) |" docs/CRATES.md || why+=("no row in docs/CRATES.md")
+  grep -q "^|\[\`$name\`\](../crates/$name/README.md)|\(law\|code\)|" docs/CRATES.md || why+=("no row in docs/CRATES.md")
   edits=("crates/$name"/must-fail/*.edit)
   [ -e "${edits[0]}" ] || edits=()
   if [ "${#edits[@]}" -eq 0 ] && [[ $name != *_tests ]] && ! grep -qx "$name" <<<"$laws" && [ "$(lines_of_code "crates/$name")" -gt 60 ]; then
@@ -53,16 +54,6 @@ for name in $crates; do
   decide "crate_$name" ${why[0]+"${why[@]}"}
 done
 
-listed=$(sed -n 's/^| \[`\([a-z0-9_]*\)`\](..\/crates\/.*/\1/p' docs/CRATES.md | sort)
-none docs_CRATES_lists_the_crates_of_crates_txt "$(comm -3 <(echo "$crates") <(echo "$listed"))"
-
-# Both as lines 'NAME LIBRARY ..', in the order of the alphabet.
-stands_on() { while read -r name below; do echo "$name $(tr ' ' '\n' <<<"$below" | sort | tr '\n' ' ')"; done | sed 's/  */ /g; s/ $//' | sort; }
-none docs_CRATES_says_what_each_crate_stands_on "$(
-  diff <(sed -n 's/#.*//; s/^\([a-z0-9_]*\)[^:]*:/\1 /p' crates.txt | stands_on) \
-    <(awk -F'|' '/^\| \[`/ { gsub(/[`, ]+/, " ", $4); split($2, name, "`"); print name[2], $4 }' docs/CRATES.md | stands_on)
-)"
-
 # What proofs of a crate cite of another crate's proofs is a law crate's; a code crate is used by its clauses alone.
 # What the toolchain writes of a type by itself (that it may be dropped, or sent) is no lemma of a crate.
 none lemmas_are_cited_of_law_crates_alone "$(
@@ -73,11 +64,6 @@ none lemmas_are_cited_of_law_crates_alone "$(
       { split($1, at, "/"); split($NF, of, "."); if (own[of[2]] && of[2] != at[2] && !law[of[2]]) print $1 ": " of[2] }'
 )"
 
-none README_is_short "$(awk '{ n += NF } END { if (n > 1400) print n " words" }' README.md)"
-
-none each_page_of_docs_says_whom_it_is_for \
-  "$(for page in docs/*.md; do head -n 1 "$page" | grep -q '^# .*, for ' || echo "$page"; done)"
-
 # The stored run of the program is that of the example, where both are there.
 if [ -f crates/roam_cli/stdout ]; then
   none stored_run_is_the_example "$(diff crates/roam_cli/stdout examples/two-base-triangles/expected/report)"
@@ -85,43 +71,33 @@ fi
 
 # What a reader of the two main contracts has to know: how many clauses they have, and to how many words they unfold
 # (checks/words.py). Within the crates of the run, of Statement.antt and Moment.antt alone (the page of the contract), and of a frame
-# within the crates of the engine. A word of geometry or of a format counts once, by its name: docs/FORMATS.md and
+# within the crates of the engine. A word of geometry or of a format counts once, by its name: docs/REFERENCE.md and
 # docs/DEFINITIONS.md have them. Of run_laws these are the lines of the report, the text of a certificate and of points,
 # and turns. A fit that keeps points took 18 words: its words, its file in what stands after each status, and the best mesh of
-# those that have the points as vertices, once by what is split and once by vertices.
-runs=run_words,run_files,run_script,run_check,run_fit,run_fit_check,run_engine,roam_run
+# those that have the points as vertices, once by what is split and once by vertices. Certificates of such meshes took 14: their
+# words, and their files and points in what stands after each status.
+runs=run_words.specs.WordView,run_words.specs.ShowView,run_words.specs.CertifyView,run_words.specs.FitView,run_files,run_meshes,run_certify,run_engine,roam_run
 for module in crates/run_laws/specs/*.antt; do
   module=$(basename "$module" .antt)
   case $module in ReportText | CertFile | PointFile | FitCertFile | Turns) ;; *) runs=$runs,run_laws.specs.$module ;; esac
 done
-engine=frame_loop,leaf_list,roam_mesh,deferred_loop,frame_steps,closure_laws,edge_laws,view_priority,triangle_pool,bintree_addr
+engine=frame_loop,mesh_arrays,roam_mesh,deferred_loop,mesh_laws,view_priority,triangle_pool,bintree_addr
 page=run_laws.specs.Statement,run_laws.specs.Moment
 short() {
   local said
   said=$(python3 checks/words.py "$@") || tail -n 1 <<<"$said"
 }
 if has the_main_contracts_have_few_words python3; then
-  none roam_has_ten_clauses "$(short crates/roam_run/src/run.rt roam --ensures 10 --most 260 --within "$runs")"
-  none roam_has_a_page_of_words "$(short crates/roam_run/src/run.rt roam --most 62 --within "$page")"
+  none roam_has_ten_clauses "$(short crates/roam_run/src/run.rt roam --ensures 10 --most 274 --within "$runs")"
+  none roam_has_a_page_of_words "$(short crates/roam_run/src/run.rt roam --most 63 --within "$page")"
   none a_frame_has_few_words "$(short crates/frame_loop/src/frame.rt frame --ensures 8 --most 120 --within "$engine")"
 fi
 
-# Relative links of the pages at the top, in docs/ and in crates lead to files.
-none links_lead_to_files "$(
-  for page in *.md docs/*.md bench/*.md examples/*/*.md crates/*/*.md; do
-    [ -f "$page" ] || continue
-    grep -o '](\([^)#]*\)[^)]*)' "$page" | sed 's/^](//; s/[#)].*//' | grep -v -e '^$' -e '^https*:' |
-      while IFS= read -r link; do
-        [ -e "$(dirname -- "$page")/$link" ] || echo "$page: $link"
-      done
-  done
-)"
-
-# The worked view of docs/FORMATS.md is what its command prints.
+# The worked view of docs/REFERENCE.md is what its command prints.
 if has the_worked_view_is_what_frustum_prints python3; then
-  read -r -a words < <(grep '^python3 examples/frustum.py' docs/FORMATS.md)
+  read -r -a words < <(grep '^python3 examples/frustum.py' docs/REFERENCE.md)
   none the_worked_view_is_what_frustum_prints \
-    "$(diff <("${words[@]}") <(sed -n '/^python3 examples\/frustum.py/,/^Th/p' docs/FORMATS.md | sed -n '/^noplanes$/,/^```$/p' | sed '$d'))"
+    "$(diff <("${words[@]}") <(sed -n '/^python3 examples\/frustum.py/,/^Th/p' docs/REFERENCE.md | sed -n '/^noplanes$/,/^```$/p' | sed '$d'))"
 fi
 
 if git rev-parse --git-dir >/dev/null 2>&1; then

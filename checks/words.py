@@ -14,6 +14,10 @@ import functools
 import os
 import re
 import sys
+from pathlib import Path
+
+sys.path.insert(0, str(Path(__file__).resolve().parent.parent / "tools"))
+from sources import items_of_file
 
 SPLIT = re.compile(r"[\s(){}\[\],;⟦⟧<>]+")
 MODIFIERS = {"abbrev", "unfoldable", "opaque", "private", "pub"}
@@ -108,23 +112,6 @@ class Specs:
         return self.closure(words | new) if new else words
 
 
-def clauses_of(text, function):
-    """The clauses of a function's contract: (kind, name, text)."""
-    at = re.search(r"\bfn " + function + r"\b", text) or sys.exit("no function " + function)
-    found, place = [], at.end()
-    while True:
-        gap = r"(?:\s|//[^\n]*\n)*" if found else r"[^{]*?\n\s+"
-        head = re.compile(gap + r"(requires|ensures)\*?\s*(\w*)\s*\{").match(text, place)
-        if not head:
-            return found
-        depth, end = 1, head.end()
-        while depth:
-            depth += {"{": 1, "}": -1}.get(text[end], 0)
-            end += 1
-        found.append((head.group(1), head.group(2), text[head.end():end - 1]))
-        place = end
-
-
 def main():
     args = argparse.ArgumentParser(description=__doc__, formatter_class=argparse.RawDescriptionHelpFormatter)
     args.add_argument("file")
@@ -137,7 +124,8 @@ def main():
         text = source.read()
     specs, imports = Specs(), imports_of(text, "ghost use")
     specs.within = args.within
-    parts = [(kind, name, specs.closure(specs.named_in(body, *imports))) for kind, name, body in clauses_of(text, args.function)]
+    found = next((item for item, _ in items_of_file(text) if item.name == args.function), None) or sys.exit("no function " + args.function)
+    parts = [(it.kind, it.label, specs.closure(specs.named_in(it.text, *imports))) for it in found.clauses]
     every = set().union(*(words for _, _, words in parts))
     for kind, name, words in parts:
         print(f"{kind + ' ' + name:<28}{len(words):>5}")

@@ -1,5 +1,5 @@
 // Roam.cs over a hill of nine points: a frame found by hand, its indices, what is refused, an engine that goes from thread to
-// thread, and use after Dispose.
+// thread, and use after Dispose; and two tiles that become one mesh.
 using System;
 using System.Threading;
 using Roam;
@@ -65,6 +65,50 @@ static class Frames {
         last.Start();
         last.Join();
         Must(AnswerOf(() => engine.Frame()) == Answer.IsEmpty, "a frame of none");
+        Tiles(hill);
         Console.WriteLine("frames of C#");
+    }
+
+    static void Tiles(ushort[] hill) {
+        var found = new uint[24];
+        Fitter fitter = new Fitter(hill);
+        Must(fitter.Leaves(found) == 2 && found[0] == 2 && found[1] == 3, "a fitter's first mesh");
+        Must(fitter.Fit(99999) == 4 && fitter.Fit(100000) == 2 && fitter.Deviation().Off == 200, "meshes for two tolerances");
+        Must(fitter.More(100000, 1) == 5 && fitter.Border(found) == 1 && found[0] == 1, "a point of the far side");
+        Must(fitter.Indices(found) == 5, "its indices");
+        var leaves = new uint[5];
+        Must(fitter.Leaves(leaves) == 5, "its addresses");
+        var tolerances = new uint[] { 0, 0, 0, 0, uint.MaxValue, 0, 0, 0, 0 };
+        Must(fitter.FitWithin(tolerances) == 2 && fitter.MoreWithin(tolerances, 3) == 5, "a point that does not count");
+        fitter.Restore(leaves);
+        Must(fitter.Border(found) == 1 && found[0] == 1, "a mesh that is brought back");
+        Must(AnswerOf(() => fitter.Restore(new uint[] { 2 })) == Answer.BadMesh, "half a mesh");
+        Must(AnswerOf(() => fitter.Fit(0, 9)) == Answer.OutsideGrid, "a place outside");
+        Must(AnswerOf(() => fitter.FitWithin(new uint[0])) == Answer.BadTolerance, "no tolerance for each point");
+        Must(AnswerOf(() => new Fitter(new ushort[8])) == Answer.BadGrid, "a fitter over eight heights");
+        Must(Fitter.FitWith(hill, 0, new uint[0], new uint[] { 1 }, found).Triangles == 5, "a mesh in one call");
+        fitter.Dispose();
+        Must(AnswerOf(() => fitter.Fit(0)) == Answer.IsEmpty, "a fitter that is disposed of");
+
+        // The left tile has a bump on the side that both have, and the right one has to have that point too.
+        var tiles = new[] { new ushort[] { 0, 0, 0, 0, 0, 50, 0, 0, 0 }, new ushort[] { 0, 0, 0, 50, 25, 0, 0, 0, 0 } };
+        var thousandths = new uint[] { 0, 60000 };
+        var mosaic = new Mosaic(2, 1, 3);
+        uint column, row;
+        int runs = 0;
+        bool lacks;
+        for (; mosaic.Next(out column, out row); runs++) {
+            using (var tile = new Fitter(tiles[column])) {
+                var required = new uint[mosaic.Required(column, row, found, out lacks)];
+                Must(lacks, "a tile that waits lacks nothing");
+                Array.Copy(found, required, required.Length);
+                tile.Fit(thousandths[column], required);
+                mosaic.Put(column, row, found, tile.Border(found));
+            }
+        }
+        Must(runs == 2 && mosaic.Required(1, 0, found, out lacks) == 2 && !lacks && found[0] + found[1] == 4 + 3, "two tiles");
+        Must(AnswerOf(() => mosaic.Put(1, 0, found, 0)) == Answer.Shrunk, "a tile that shrinks");
+        Must(AnswerOf(() => new Mosaic(1, 1, 4)) == Answer.BadGrid, "a mosaic of tiles of four points a side");
+        mosaic.Dispose();
     }
 }

@@ -1,80 +1,13 @@
-/* Every call of roam.h with arguments at the ends of their ranges and random ones. Each answer is compared with what the
+/* Every call of roam.h of an engine with arguments at the ends of their ranges and random ones. Each answer is compared with what the
  * header says, written anew here; after each call the state is compared with a model; what a refused call may not write is
  * compared byte by byte; and each mesh is tested. Allocations fail now and then, and at the end no block is left.
  * usage: calls SEED COUNT       until each call was made COUNT times
  *        calls ends             each side, each allocation refused in turn, and an engine that is worn
- * With -DFUZZER the numbers are those of libFuzzer. */
-#include "roam.h"
-#include <stdbool.h>
-#include <stdio.h>
-#include <stdlib.h>
-#include <string.h>
-
-/* --- The heap, which counts its blocks and fails where it is told to. --- */
-
-struct block { bool is_there; void *at; };
-static long blocks, left = -1; /* left: allocations that succeed before one fails; -1: all */
-static bool has_failed;
-static char nothing;
-
-static struct block told(void *at) { struct block it = { at != NULL, at != NULL ? at : &nothing }; return it; }
-static bool fails(void) {
-    if (left != 0) { left -= left > 0; return false; }
-    return has_failed = true;
-}
-struct block rattle_alloc(size_t size, size_t align) {
-    void *at = fails() ? NULL : malloc(size != 0 ? size : align);
-    blocks += at != NULL;
-    return told(at);
-}
-struct block rattle_realloc(void *at, size_t size, size_t next, size_t align) {
-    (void)size;
-    return told(fails() ? NULL : realloc(at, next != 0 ? next : align));
-}
-void rattle_dealloc(void *at) { blocks--, free(at); }
-
-/* --- The numbers. --- */
-
-static uint64_t seed;
-static const uint8_t *bytes; /* where there are bytes, numbers are drawn from them */
-static size_t byte_count;
-
-static uint64_t word(void) {
-    if (bytes != NULL) {
-        uint64_t it = 0;
-        for (int k = 0; k < 8 && byte_count > 0; k++, byte_count--) it = it << 8 | *bytes++;
-        return it;
-    }
-    uint64_t it = seed += 0x9E3779B97F4A7C15u;
-    it = (it ^ it >> 30) * 0xBF58476D1CE4E5B9u;
-    it = (it ^ it >> 27) * 0x94D049BB133111EBu;
-    return it ^ it >> 31;
-}
-static size_t below(size_t end) {
-    if (bytes == NULL || end > 256) return (size_t)(word() % end);
-    return byte_count > 0 ? (byte_count--, *bytes++) % end : 0;
-}
-
-/* --- What a call has to answer, and what has to hold after it. --- */
-
+ * With -DFUZZER the numbers are those of libFuzzer. Fitters and mosaics have a program of their own, tiles.c. */
 enum { OPEN, CLOSE, CAMERA, ADD_PLANE, CLEAR_PLANES, BUDGET, SET, RAISE, FRAME, INDICES, LEAVES, CHANGED, CHANGES, STATE, POSITIONS, COMPACT, STRIP, DEVIATION, FIT, CERTIFICATE, LOOK, RENEW, CALLS };
 static const char *const names[CALLS] = { "open", "close", "camera", "add_plane", "clear_planes", "budget", "set", "raise", "frame", "indices", "leaves", "changed", "changes", "state",
     "positions", "compact", "strip", "deviation", "fit", "certificate", "look", "renew" };
-static unsigned long made[CALLS], refused[CALLS][14];
-static int call; /* the one that is being made */
-
-static void must(bool holds, const char *what) {
-    if (holds) return;
-    fprintf(stderr, "calls: roam_%s: %s\n", names[call], what);
-    abort();
-}
-static void answers(int32_t answer, int32_t wanted) {
-    made[call]++;
-    if (answer >= 0 && answer <= 13) refused[call][answer]++;
-    if (answer == wanted) return;
-    fprintf(stderr, "calls: roam_%s answers %d, not %d\n", names[call], (int)answer, (int)wanted);
-    abort();
-}
+#include "random_calls.h"
 
 enum { SIDE = 33, POINTS = SIDE * SIDE, MOST = 2 * (SIDE - 1) * (SIDE - 1), ENGINES = 3, ROOM = 3 * MOST + 8 };
 static uint16_t heights[POINTS];
@@ -88,12 +21,6 @@ static struct engine {
     uint32_t old_count, old[MOST], now_count, now[MOST]; /* the leaves before and after the last frame */
 } engines[ENGINES];
 static uint32_t list[ROOM], other[ROOM], gone[ROOM], come[ROOM];
-
-static void fill(void *at, size_t size) { memset(at, 0xA5, size); }
-static bool is_filled(const void *at, size_t size) {
-    const uint8_t *byte = at;
-    return size == 0 || (byte[0] == 0xA5 && memcmp(byte, byte + 1, size - 1) == 0);
-}
 
 static void test_state(struct engine *e) {
     roam_state_note it;
@@ -110,12 +37,6 @@ static void test_state(struct engine *e) {
     must(it.way == e->state.way && it.frames == e->state.frames, "the way or the frames are others");
     must(call == FRAME ? it.evaluations >= e->state.evaluations : it.evaluations == e->state.evaluations, "the evaluations are others");
     e->state.evaluations = it.evaluations;
-}
-
-/* The number of the grid's level, or 0. */
-static unsigned level_of(size_t count) {
-    for (unsigned n = 1; n <= 11; n++) if (count == ((size_t)1 << n | 1) * ((size_t)1 << n | 1)) return n;
-    return 0;
 }
 
 static void do_open(struct engine *e, const uint16_t *from, size_t count, uint32_t budget, uint32_t spacing) {
@@ -254,33 +175,6 @@ static void do_frame(struct engine *e) {
     test_state(e);
 }
 
-static unsigned level(uint32_t address) { unsigned it = 0; while (address >> it > 3) it++; return it; }
-
-/* The corners of an address as places in the heights, by the halves on the way to it. */
-static void corners(uint32_t address, size_t side, uint32_t place[3]) {
-    long m = (long)side - 1, at[3][2] = { { 0, 0 }, { m, 0 }, { 0, m } };
-    if (address >> level(address) == 3) at[0][0] = at[0][1] = m, at[1][0] = 0, at[1][1] = m, at[2][0] = m, at[2][1] = 0;
-    for (unsigned k = level(address); k-- > 0;) {
-        long middle[2] = { (at[1][0] + at[2][0]) / 2, (at[1][1] + at[2][1]) / 2 };
-        int kept = (address >> k & 1) == 0 ? 1 : 2; /* the end of the base that the half has */
-        if (kept == 1) memcpy(at[2], at[1], sizeof at[2]), memcpy(at[1], at[0], sizeof at[1]);
-        else memcpy(at[1], at[2], sizeof at[1]), memcpy(at[2], at[0], sizeof at[2]);
-        memcpy(at[0], middle, sizeof middle);
-    }
-    for (int c = 0; c < 3; c++) place[c] = (uint32_t)(((long)side - 1 - at[c][1]) * (long)side + at[c][0]);
-}
-
-/* Leaves in order cover the square once: each begins where the one before ends. */
-static void test_leaves(const uint32_t *leaf, uint32_t count, size_t side) {
-    uint32_t end = (uint32_t)2 << 22;
-    for (uint32_t k = 0; k < count; k++) {
-        must(leaf[k] >= 2 && leaf[k] < 4 * (uint32_t)((side - 1) * (side - 1)), "an address that the grid does not have");
-        must(leaf[k] << (22 - level(leaf[k])) == end, "the leaves do not lie one behind the other");
-        end += (uint32_t)1 << (22 - level(leaf[k]));
-    }
-    must(end == (uint32_t)4 << 22, "the leaves do not cover the square");
-}
-
 /* Of a list of addresses and a list of indices, `each` numbers a triangle. */
 static void do_list(struct engine *e, size_t places, unsigned each) {
     call = each == 3 ? INDICES : LEAVES;
@@ -378,9 +272,6 @@ static void do_changes(const struct engine *a, const struct engine *b, size_t go
     test_alone(other, afters, list, befores, come, come_room, it.come);
 }
 
-/* Whether memory ran out during a call that takes some. */
-static int32_t or_no_memory(int32_t wanted) { left = -1; return wanted == ROAM_OK && has_failed ? ROAM_NO_MEMORY : wanted; }
-
 /* The mesh again, as indices in `other`. */
 static void indices_again(struct engine *e) {
     size_t triangles;
@@ -456,11 +347,6 @@ static void do_strip(struct engine *e, size_t places) {
         must(is_filled(&triangles, sizeof triangles), "a refused call has written");
     }
     test_state(e);
-}
-
-/* Twice the area of a triangle of points, counterclockwise. */
-static int64_t doubled(const int64_t p[2], const int64_t q[2], const int64_t r[2]) {
-    return (q[0] - p[0]) * (r[1] - p[1]) - (r[0] - p[0]) * (q[1] - p[1]);
 }
 
 /* How far the heights are from these triangles at most, times side - 1; they have to cover the square. */
@@ -577,8 +463,6 @@ static void do_certificate(struct engine *e, int64_t x, int64_t y, int64_t z, si
 
 /* --- Arguments at the ends of their ranges, and random ones. --- */
 
-#define OF(table) (table)[below(sizeof(table) / sizeof *(table))]
-
 static int64_t signed_number(void) {
     static const int64_t ends[] = { 20, 30, 50, 63 };
     int64_t end = OF(ends), power = (int64_t)((uint64_t)1 << (end < 63 ? end : 0)), one = (int64_t)below(3) - 1;
@@ -592,10 +476,6 @@ static int64_t signed_number(void) {
 }
 /* One that a call mostly takes. */
 static int64_t place_number(void) { return below(8) ? (int64_t)below(3000) - 500 : signed_number(); }
-static uint32_t number(uint32_t end) {
-    const uint32_t ends[] = { 0, 1, 2, end - 1, end, end + 1, (uint32_t)INT32_MAX, (uint32_t)INT32_MAX + 1, UINT32_MAX };
-    return below(4) == 0 ? OF(ends) : (uint32_t)below((size_t)end + 1);
-}
 static size_t room_for(size_t count) {
     const size_t rooms[] = { 0, 1, 2, count > 0 ? count - 1 : 0, count, count, count, count + 1, count + 2, ROOM };
     size_t it = OF(rooms);
@@ -787,18 +667,9 @@ int main(int argc, char **argv) {
     }
     if (argc != 3) return fprintf(stderr, "usage: calls SEED COUNT, or calls ends\n"), 2;
     seed = strtoull(argv[1], NULL, 10);
-    unsigned long wanted = strtoul(argv[2], NULL, 10);
-    for (int k = 0; k < CALLS;) {
-        step();
-        while (k < CALLS && made[k] >= wanted) k++;
-    }
+    make_each(strtoul(argv[2], NULL, 10));
     finish();
-    for (int k = 0; k < CALLS; k++) {
-        printf("%s %lu", names[k], made[k]);
-        for (int a = 1; a <= 13; a++) if (refused[k][a] > 0) printf(" %d:%lu", a, refused[k][a]);
-        printf("\n");
-    }
-    printf("each answer is the one that roam.h says\n");
+    tell_all();
     return 0;
 }
 #endif
