@@ -1,5 +1,5 @@
-//! Tests of the crates over one mesh that no engine follows: least meshes, meshes by their error, certificates and
-//! strips.
+//! Tests of the crates over meshes that no engine follows: least meshes, meshes by their error, terrains of many tiles,
+//! certificates and strips.
 //!
 //! For whoever changes one of them. They stand here, above those crates, so that each of those is proved without
 //! tests, and once. A test calls what is public, and shows what no clause says: that the definitions mean what
@@ -22,6 +22,10 @@ mod kept_certificates;
 #[cfg(test)]
 mod least_frames;
 #[cfg(test)]
+mod mosaics;
+#[cfg(test)]
 mod points;
 #[cfg(test)]
 mod strips;
+#[cfg(test)]
+mod terrain;

@@ -3,7 +3,7 @@
 ghost use Rattle.std.specs.Prelude.{◌≡◌, ◌≤◌, ◌<◌, IfOk};
 ghost use Rattle.mesh_defs.specs.declared.level.TheConstants.{GREATEST_LEVEL};
 
-use crate::hills::{COLUMNS, Hills, ROWS};
+use crate::terrain::{COLUMNS, Hills, ROWS};
 use bintree_addr::Tri;
 use fit_mesh::{Fit, are_splittable};
 use mosaic_fit::fit_tiles;
