@@ -1,12 +1,14 @@
 //! A reader of a certificate, line after line.
 
-ghost use Rattle.std.specs.Prelude.{◌≡◌, ◌≤◌, ◌↔◌, ℕ, None, Some, Ok, Err, OnOk, OnErr, IfOk, IfErr};
+ghost use Rattle.std.specs.Prelude.{◌≡◌, ◌+◌, ◌≤◌, ◌↔◌, ℕ, None, Some, Ok, Err, OnOk, OnErr, IfOk, IfErr};
 ghost use Rattle.std.specs.Prelude.{All};
 ghost use Rattle.mesh_defs.specs.Triangle.{IsAddress, IsSplittable};
 ghost use Rattle.mesh_defs.specs.declared.level.TheConstants.{GREATEST_LEVEL};
 ghost use Rattle.certificate_laws.specs.declared.reason.Reason.{Reason};
 ghost use Rattle.cert_text.specs.CertReader.{nothing_read, read_so_far, AreFew, line_taken, cert_line_in, finished};
 ghost use Rattle.cert_text.specs.CertLine.{IsLineOf};
+ghost use Rattle.cert_text.specs.Laws.{line_count};
+ghost use Rattle.cert_text.specs.declared.limits.TheConstants.{MOST_LEAVES, MOST_REASONS};
 ghost use Rattle.cert_text.specs.declared.fault.CertFault.{CertFault};
 
 use crate::cert::Cert;
@@ -91,6 +93,18 @@ impl CertReader {
             self.refusal = Some(fault);
         }
         outcome
+    }
+
+    /// How many lines it has read.
+    pub fn lines(&self) -> u32
+        ensures value { result ≡ line_count self.now.read }
+        ensures few { result ≤ 1 + (MOST_LEAVES + MOST_REASONS) }
+    {
+        let first = match self.camera {
+            None => 0,
+            Some(_) => 1,
+        };
+        first + (self.leaves.len() as u32 + self.reasons.len() as u32)
     }
 
     /// The certificate that was read, or the refusal. Takes no memory.

@@ -1,10 +1,12 @@
 //! A reader of a certificate of a fitted mesh, line after line.
 
-ghost use Rattle.std.specs.Prelude.{◌≡◌, ◌≤◌, ◌↔◌, ℕ, None, Some, Ok, Err, OnOk, OnErr, IfErr, is_some};
+ghost use Rattle.std.specs.Prelude.{◌≡◌, ◌+◌, ◌≤◌, ◌↔◌, ℕ, None, Some, Ok, Err, OnOk, OnErr, IfErr, is_some};
 ghost use Rattle.mesh_defs.specs.declared.level.TheConstants.{GREATEST_LEVEL};
 ghost use Rattle.cert_text.specs.FitCertReader.{nothing_fit_read, fit_read_so_far, AreFewFitReasons};
 ghost use Rattle.cert_text.specs.FitCertReader.{fit_line_taken, fit_line_in, fit_finished};
+ghost use Rattle.cert_text.specs.FitLaws.{fit_line_count};
 ghost use Rattle.cert_text.specs.declared.fault.CertFault.{CertFault};
+ghost use Rattle.certificate_laws.specs.declared.limits.TheConstants.{MOST_REASONS};
 
 use crate::fault::{CertFault, push};
 use crate::fit_line::FitLine;
@@ -89,6 +91,19 @@ impl FitCertReader {
             self.refusal = Some(fault);
         }
         outcome
+    }
+
+    /// How many lines it has read.
+    pub fn lines(&self) -> u32
+        ensures value { result ≡ fit_line_count self.now.read }
+        ensures few { result ≤ 2 + (MOST_REASONS + MOST_REASONS) }
+    {
+        let first = match self.tolerance {
+            None => 0,
+            Some(_) => 1,
+        };
+        let mesh = if self.mesh { 1 } else { 0 };
+        first + (mesh + (self.needed.len() as u32 + self.beyond.len() as u32))
     }
 
     /// The n of the grid.

@@ -1,10 +1,12 @@
 //! A reader of a certificate with points, line after line.
 
-ghost use Rattle.std.specs.Prelude.{◌≡◌, ◌≤◌, [], ◌↔◌, None, Some, Ok, Err, OnOk, OnErr, IfErr, length};
+ghost use Rattle.std.specs.Prelude.{◌≡◌, ◌+◌, ◌≤◌, [], ◌↔◌, None, Some, Ok, Err, OnOk, OnErr, IfErr, length};
 ghost use Rattle.mesh_defs.specs.declared.level.TheConstants.{GREATEST_LEVEL};
 ghost use Rattle.cert_text.specs.FitCertReader.{nothing_fit_read};
 ghost use Rattle.cert_text.specs.KeptCert.{need_taken, kept_reading, kept_line_in, kept_finished};
+ghost use Rattle.cert_text.specs.KeptLaws.{kept_line_count};
 ghost use Rattle.cert_text.specs.declared.fault.CertFault.{CertFault};
+ghost use Rattle.certificate_laws.specs.declared.limits.TheConstants.{MOST_REASONS};
 
 use crate::fault::CertFault;
 use crate::fit_reader::FitCertReader;
@@ -94,6 +96,14 @@ impl KeptCertReader {
             return Err(CertFault::NoMemory);
         }
         Ok(())
+    }
+
+    /// How many lines it has read.
+    pub fn lines(&self) -> u32
+        ensures value { result ≡ kept_line_count (kept_reading self.now) }
+        ensures few { result ≤ 2 + (MOST_REASONS + MOST_REASONS + MOST_REASONS) }
+    {
+        self.needs.len() as u32 + self.rest.lines()
     }
 
     /// The certificate that was read, or the refusal. Takes no memory.

@@ -1,15 +1,14 @@
 -- A certificate of a fitted mesh and a mesh are judged: what the calls of a check come to.
-use Rattle.std.proofs.Common.{◌≡◌, ◌≢◌, ℕ, ◌+◌, ◌≤◌, inl, inr, List, [], Some, None, Result, Ok, Err, IfOk, take}
+use Rattle.std.proofs.Common.{◌≡◌, ◌≢◌, ℕ, ◌+◌, ◌≤◌, inl, inr, List, Some, None, Result, Ok, Err, IfOk, take}
 use Rattle.std.proofs.Common.{slice_get, refl}
-use Rattle.std.proofs.Common.{sym, ◌∙◌, ap, subst, arith}
+use Rattle.std.proofs.Common.{sym, ◌∙◌, subst, arith}
 use Rattle.mesh_defs.specs.HeightField.{HeightField}
 use Rattle.roam_edge.specs.Shelf.{NamedFile, bytes_of}
 use Rattle.pgm_grid.specs.Progress.{grid_of}
 use Rattle.certificate_laws.specs.declared.fit_reason.FitVerdict.TheVariants as verdict
-use Rattle.certificate_laws.specs.FitCertificate.{FitCertificate}
 use Rattle.run_laws.specs.declared.status.Status.{Status}
 use Rattle.run_laws.specs.declared.status.Status.TheVariants.{Done, NoMemory, ReadFault}
-use Rattle.run_words.specs.Words.{Checking, Check, FitChecking, CheckFit, OnGrid}
+use Rattle.run_words.specs.Words.{FitChecking, CheckFit, OnGrid}
 use Rattle.run_laws.specs.Act.{Told}
 use Rattle.run_laws.specs.Fit.{fit_text}
 use Rattle.run_laws.specs.ReportText.{certified_fit_line}
@@ -18,14 +17,14 @@ use Rattle.run_laws.specs.Promise.{Seen, HasEnded, CommandNoMemory}
 use Rattle.run_laws.specs.Moment.{Moment}
 use Rattle.run_laws.specs.Leaving.{Runs, HasOpened, HasFailed, ReadsGrid, TellsLast, MeshHasRead}
 use Rattle.run_laws.proofs.ActLemmas.{stands-nothing}
-use Rattle.run_laws.proofs.GridLemmas.{file-fault, same-name}
-use Rattle.run_laws.proofs.RunLemmas.{read-failed, memory-spent, opens-then, fails-then, certified-runs, rejected-runs}
+use Rattle.run_laws.proofs.RunLemmas.{fails-then, certified-runs, rejected-runs}
 use Rattle.run_laws.proofs.RunLemmas.{tells-as}
 use Rattle.run_certify.specs.declared.fit_verdict_report.Judgement.{Judgement}
 use Rattle.run_certify.specs.declared.fit_verdict_report.Judgement.TheVariants.{Certified, Rejected, BadLine, MeshDiffers}
 use Rattle.run_certify.specs.FitJudging.{fit_judged_text, fit_judged_status, fit_mesh_opens, judged_outcome}
 use Rattle.run_certify.specs.FitJudging.{IsFitJudged, IsFaultlessFitFile, IsSoundAs, FailsBehind}
 use Rattle.run_certify.specs.FitJudging.{FitJudgesNoMemory, FitJudgesFault}
+use Rattle.run_certify.proofs.JudgingLemmas.{judges-memory, judges-fault, same-found}
 
 -- The triangles are those of a certificate without a fault, of so many that are off by so much.
 module _ (grid : HeightField) (faultless : List ℕ → Type 0) (count deviation : ℕ) (triangles : List ℕ)
@@ -76,19 +75,6 @@ same-check : (name other : List ℕ) (c check : FitChecking) →
     OnGrid name (CheckFit c) ≡ OnGrid other (CheckFit check) → c ≡ check
 same-check name other c check e = cc
 
--- and none is a check of a mesh by a camera
-not-view : (name other : List ℕ) (c : FitChecking) (check : Checking) →
-    OnGrid name (CheckFit c) ≡ OnGrid other (Check check) → ⊥
-not-view name other c check e = cc
-
--- the grid of one is that of the other
-same-found : (name other : List ℕ) (c check : FitChecking) (grid : HeightField) (files : List NamedFile)
-    → OnGrid name (CheckFit c) ≡ OnGrid other (CheckFit check)
-    → grid_of (bytes_of files name) ≡ Ok grid → grid_of (bytes_of files other) ≡ Ok grid
-same-found name other c check grid files e found =
-    let P : List ℕ → Type 0 = λ l. grid_of (bytes_of files l) ≡ Ok grid in
-    subst P (same-name name other (CheckFit c) (CheckFit check) e) found
-
 -- memory ran out behind the grid, with so many files opened
 behind-memory : (before : Told) (old new : Seen) (name : List ℕ) (c : FitChecking) (grid : HeightField) (count : ℕ)
     → new.opens ≡ old.opens + count → 2 ≤ count → count ≤ 3
@@ -102,10 +88,10 @@ behind-memory before old new name c grid count opens low high found faultless = 
   most = high;
   stands = stands-nothing before;
   header = λ other job files e told one. absurd (omega (arith, one, low));
-  in_order = λ other check files e told two. absurd (not-view name other c check e);
+  in_order = λ other check files e told two. cc;
   fit_in_order = λ other check files e told two. (
     grid,
-    same-found name other c check grid files e (found files told),
+    same-found name other (CheckFit c) (CheckFit check) grid files e (found files told),
     λ three. (let P : FitChecking → Type 0 = λ d. IsFaultlessFitFile d grid files in
         subst P (same-check name other c check e) (faultless three files told)),
   );
@@ -118,47 +104,23 @@ module _ (before middle now : Moment) (name : List ℕ) (c : FitChecking) (grid 
   -- memory ran out behind the grid
   pub check-memory : FitJudgesNoMemory c grid middle now →
       Runs before now (Some (OnGrid name (CheckFit c))) NoMemory None
-  check-memory (inl one) =
-      let opened = opens-then before middle now 1 1 read.opened one in
-      memory-spent before now name (CheckFit c) 2 opened
-      (behind-memory _ _ _ name c grid 2 opened.opens (omega arith) (omega arith) read.is_grid
-      (λ three. absurd (omega (arith, three))))
-  check-memory (inr (two, faultless)) =
-      let opened = opens-then before middle now 1 2 read.opened two in
-      memory-spent before now name (CheckFit c) 3 opened
-      (behind-memory _ _ _ name c grid 3 opened.opens (omega arith) (omega arith) read.is_grid
-      (λ three files told. faultless files (read.opened.only.files ∙ told)))
+  check-memory = judges-memory before middle now name (CheckFit c) 1 (IsFaultlessFitFile c grid) read.opened
+      (λ count opens low high faultless. behind-memory _ _ _ name c grid count opens low high read.is_grid faultless)
 
   -- a read failed behind the grid
   pub check-fault : FitJudgesFault c grid middle now → Runs before now (Some (OnGrid name (CheckFit c))) ReadFault None
   check-fault (inl one) =
-      let failed = fails-then before middle now 1 1 c.certificate _ read.opened one in
-      read-failed before now name (CheckFit c) 2 c.certificate _ failed (omega arith) (omega arith)
-      (record {
-        file = 1;
-        opened = failed.opens;
-        before_script = λ scripted. stands-nothing before.sinks;
-        at_file = λ files told.
-            let at = failed.stops files told in
-            file-fault _ _ now.shelf (OnGrid name (CheckFit c)) files 1 c.certificate [] _ at refl
-            (grid, read.is_grid files told, (at.has_read, refl)) (stands-nothing before.sinks);
-      })
+      judges-fault before now name (CheckFit c) 1 c.certificate _
+      (fails-then before middle now 1 1 c.certificate _ read.opened one) (omega arith) refl
+      (λ files told part has_read. (grid, read.is_grid files told, (has_read, refl)))
   check-fault (inr (cert, triangles, is, faultless, two)) =
-      let failed = fails-then before middle now 1 2 c.mesh _ read.opened two in
-      read-failed before now name (CheckFit c) 3 c.mesh _ failed (omega arith) (omega arith)
-      (record {
-        file = 2;
-        opened = failed.opens;
-        before_script = λ scripted. stands-nothing before.sinks;
-        at_file = λ files told.
-            let at = failed.stops files told in
-            file-fault _ _ now.shelf (OnGrid name (CheckFit c)) files 2 c.mesh [] _ at refl (
-              grid,
-              read.is_grid files told,
-              ((cert, triangles, is files (read.opened.only.files ∙ told), faultless, at.has_read), refl),
-            )
-            (stands-nothing before.sinks);
-      })
+      judges-fault before now name (CheckFit c) 2 c.mesh _
+      (fails-then before middle now 1 2 c.mesh _ read.opened two) (omega arith) refl
+      (λ files told part has_read. (
+        grid,
+        read.is_grid files told,
+        ((cert, triangles, is files (read.opened.only.files ∙ told), faultless, has_read), refl),
+      ))
 
 module _ (before middle last now : Moment) (name : List ℕ) (c : FitChecking) (grid : HeightField)
     (text : List ℕ) (meant status : Status)

@@ -1,5 +1,5 @@
 -- A certificate and a mesh are judged: what the calls of a check come to.
-use Rattle.std.proofs.Common.{◌≡◌, ℕ, ◌+◌, ◌*◌, ◌≤◌, inl, inr, List, [], ◌∷◌, Some, None, Ok, All, false, refl, ◌∙◌}
+use Rattle.std.proofs.Common.{◌≡◌, ℕ, ◌+◌, ◌*◌, ◌≤◌, inl, inr, List, [], ◌∷◌, slice_get, Some, None, Ok, All, refl, ◌∙◌}
 use Rattle.std.proofs.Common.{subst, arith}
 use Rattle.std.specs.List.{AllByRecursion}
 use Rattle.std.proofs.lemmas.List.Elements.{recursion_from_All, All-from_recursion}
@@ -14,13 +14,13 @@ use Rattle.certificate_laws.specs.declared.reason.Reject.TheVariants.{TooFewReas
 use Rattle.run_laws.specs.declared.status.Status.{Status}
 use Rattle.run_laws.specs.declared.status.Status.TheVariants.{Done, NoMemory, ReadFault}
 use Rattle.run_laws.specs.declared.status.Status.TheVariants as ends
-use Rattle.run_words.specs.Words.{Checking, Check, FitChecking, CheckFit, OnGrid}
+use Rattle.run_words.specs.Words.{Checking, Check, Job, OnGrid, names_of, file_count}
 use Rattle.run_laws.specs.Act.{Told}
 use Rattle.run_laws.specs.ReportText.{rejection}
 use Rattle.run_laws.specs.Outcome.{text_outcome, IsJobOutcome}
-use Rattle.run_laws.specs.Promise.{Seen, HasEnded, CommandNoMemory}
+use Rattle.run_laws.specs.Promise.{Seen, HasEnded, HasRead, CommandNoMemory}
 use Rattle.run_laws.specs.Moment.{Moment}
-use Rattle.run_laws.specs.Leaving.{Runs, HasOpened, ReadsGrid, TellsLast}
+use Rattle.run_laws.specs.Leaving.{Runs, HasOpened, HasFailed, ReadsGrid, TellsLast}
 use Rattle.run_laws.proofs.ActLemmas.{stands-nothing}
 use Rattle.run_laws.proofs.GridLemmas.{file-fault, same-name}
 use Rattle.run_laws.proofs.RunLemmas.{read-failed, memory-spent, opens-then, fails-then, certified-runs, rejected-runs}
@@ -41,22 +41,54 @@ leaf-levels n leaves are =
     All-from_recursion (λ a. level_of a ≤ 2 * n) leaves
     (levels-recursion n leaves (recursion_from_All (IsAddress n) leaves are))
 
+-- A command that judges behind so many files.
+
+-- memory ran out, with the certificate opened or with the mesh too
+pub judges-memory : (before middle now : Moment) (name : List ℕ) (job : Job) (behind : ℕ)
+    (faultless_file : List NamedFile → Type 0) → HasOpened before middle behind
+    → ((count : ℕ) → now.shelf.opens ≡ before.shelf.opens + count → behind + 1 ≤ count → count ≤ behind + 2
+    → (behind + 2 ≤ count → (files : List NamedFile) → before.shelf.files ≡ Some files → faultless_file files)
+    → CommandNoMemory before.sinks before.sinks before.shelf now.shelf (OnGrid name job))
+    → JudgesNoMemory faultless_file middle now → Runs before now (Some (OnGrid name job)) NoMemory None
+judges-memory before middle now name job behind faultless_file read spent (inl one) =
+    let opened = opens-then before middle now behind 1 read one in
+    memory-spent before now name job (behind + 1) opened
+    (spent (behind + 1) opened.opens (omega arith) (omega arith) (λ more. absurd (omega (arith, more))))
+judges-memory before middle now name job behind faultless_file read spent (inr (two, faultless)) =
+    let opened = opens-then before middle now behind 2 read two in
+    memory-spent before now name job (behind + 2) opened
+    (spent (behind + 2) opened.opens (omega arith) (omega arith)
+    (λ more files told. faultless files (read.only.files ∙ told)))
+
+-- a read of the next file failed, and what was read of it is what the command reads there
+pub judges-fault : (before now : Moment) (name : List ℕ) (job : Job) (behind : ℕ) (last : List ℕ)
+    (holds : List ℕ → Type 0) → HasFailed before now (behind + 1) last holds
+    → behind + 1 ≤ file_count (Some (OnGrid name job)) → slice_get (names_of (OnGrid name job)) behind ≡ Some last
+    → ((files : List NamedFile) → before.shelf.files ≡ Some files → (read : List ℕ) → holds read →
+    HasRead (OnGrid name job) files behind read [])
+    → Runs before now (Some (OnGrid name job)) ReadFault None
+judges-fault before now name job behind last holds failed within named has_read =
+    read-failed before now name job (behind + 1) last holds failed (omega arith) within (record {
+      file = behind;
+      opened = failed.opens;
+      before_script = λ scripted. stands-nothing before.sinks;
+      at_file = λ files told.
+          let at = failed.stops files told in
+          file-fault _ _ now.shelf (OnGrid name job) files behind last [] holds at named
+          (has_read files told at.read at.has_read) (stands-nothing before.sinks);
+    })
+
 -- commands that check are the same
 same-check : (name other : List ℕ) (c check : Checking) → OnGrid name (Check c) ≡ OnGrid other (Check check) → c ≡ check
 same-check name other c check e = cc
 
--- and none is a check of a fitted mesh
-not-fit : (name other : List ℕ) (c : Checking) (check : FitChecking) →
-    OnGrid name (Check c) ≡ OnGrid other (CheckFit check) → ⊥
-not-fit name other c check e = cc
-
--- the grid of one is that of the other
-same-found : (name other : List ℕ) (c check : Checking) (grid : HeightField) (files : List NamedFile)
-    → OnGrid name (Check c) ≡ OnGrid other (Check check)
+-- the grid of one command is that of the same one
+pub same-found : (name other : List ℕ) (job asked : Job) (grid : HeightField) (files : List NamedFile)
+    → OnGrid name job ≡ OnGrid other asked
     → grid_of (bytes_of files name) ≡ Ok grid → grid_of (bytes_of files other) ≡ Ok grid
-same-found name other c check grid files e found =
+same-found name other job asked grid files e found =
     let P : List ℕ → Type 0 = λ l. grid_of (bytes_of files l) ≡ Ok grid in
-    subst P (same-name name other (Check c) (Check check) e) found
+    subst P (same-name name other job asked e) found
 
 -- memory ran out behind the grid, with so many files opened
 behind-memory : (before : Told) (old new : Seen) (name : List ℕ) (c : Checking) (grid : HeightField) (count : ℕ)
@@ -73,11 +105,11 @@ behind-memory before old new name c grid count opens low high found faultless = 
   header = λ other job files e told one. absurd (omega (arith, one, low));
   in_order = λ other check files e told two. (
     grid,
-    same-found name other c check grid files e (found files told),
+    same-found name other (Check c) (Check check) grid files e (found files told),
     λ three. (let P : Checking → Type 0 = λ d. IsFaultlessFile d grid files in
         subst P (same-check name other c check e) (faultless three files told)),
   );
-  fit_in_order = λ other check files e told two. absurd (not-fit name other c check e);
+  fit_in_order = λ other check files e told two. cc;
   kept_make_in_order = λ other making files e told two. cc;
   kept_in_order = λ other check files e told two. cc;
 }
@@ -85,48 +117,25 @@ behind-memory before old new name c grid count opens low high found faultless = 
 module _ (before middle now : Moment) (name : List ℕ) (c : Checking) (grid : HeightField)
     (read : ReadsGrid before middle name grid) where
   -- memory ran out behind the grid
-  pub check-memory : JudgesNoMemory c grid middle now → Runs before now (Some (OnGrid name (Check c))) NoMemory None
-  check-memory (inl one) =
-      let opened = opens-then before middle now 1 1 read.opened one in
-      memory-spent before now name (Check c) 2 opened
-      (behind-memory _ _ _ name c grid 2 opened.opens (omega arith) (omega arith) read.is_grid
-      (λ three. absurd (omega (arith, three))))
-  check-memory (inr (two, faultless)) =
-      let opened = opens-then before middle now 1 2 read.opened two in
-      memory-spent before now name (Check c) 3 opened
-      (behind-memory _ _ _ name c grid 3 opened.opens (omega arith) (omega arith) read.is_grid
-      (λ three files told. faultless files (read.opened.only.files ∙ told)))
+  pub check-memory : JudgesNoMemory (IsFaultlessFile c grid) middle now →
+      Runs before now (Some (OnGrid name (Check c))) NoMemory None
+  check-memory = judges-memory before middle now name (Check c) 1 (IsFaultlessFile c grid) read.opened
+      (λ count opens low high faultless. behind-memory _ _ _ name c grid count opens low high read.is_grid faultless)
 
   -- a read failed behind the grid
   pub check-fault : JudgesFault c grid middle now → Runs before now (Some (OnGrid name (Check c))) ReadFault None
   check-fault (inl one) =
-      let failed = fails-then before middle now 1 1 c.certificate _ read.opened one in
-      read-failed before now name (Check c) 2 c.certificate _ failed (omega arith) (omega arith)
-      (record {
-        file = 1;
-        opened = failed.opens;
-        before_script = λ scripted. stands-nothing before.sinks;
-        at_file = λ files told.
-            let at = failed.stops files told in
-            file-fault _ _ now.shelf (OnGrid name (Check c)) files 1 c.certificate [] _ at refl
-            (grid, read.is_grid files told, (at.has_read, refl)) (stands-nothing before.sinks);
-      })
+      judges-fault before now name (Check c) 1 c.certificate _
+      (fails-then before middle now 1 1 c.certificate _ read.opened one) (omega arith) refl
+      (λ files told part has_read. (grid, read.is_grid files told, (has_read, refl)))
   check-fault (inr (cert, is, faultless, two)) =
-      let failed = fails-then before middle now 1 2 c.mesh _ read.opened two in
-      read-failed before now name (Check c) 3 c.mesh _ failed (omega arith) (omega arith)
-      (record {
-        file = 2;
-        opened = failed.opens;
-        before_script = λ scripted. stands-nothing before.sinks;
-        at_file = λ files told.
-            let at = failed.stops files told in
-            file-fault _ _ now.shelf (OnGrid name (Check c)) files 2 c.mesh [] _ at refl (
-              grid,
-              read.is_grid files told,
-              ((cert, is files (read.opened.only.files ∙ told), faultless, at.has_read), refl),
-            )
-            (stands-nothing before.sinks);
-      })
+      judges-fault before now name (Check c) 2 c.mesh _
+      (fails-then before middle now 1 2 c.mesh _ read.opened two) (omega arith) refl
+      (λ files told part has_read. (
+        grid,
+        read.is_grid files told,
+        ((cert, is files (read.opened.only.files ∙ told), faultless, has_read), refl),
+      ))
 
 module _ (before middle last now : Moment) (name : List ℕ) (c : Checking) (grid : HeightField)
     (text : List ℕ) (meant status : Status)

@@ -1,5 +1,5 @@
 -- A certificate of a mesh that keeps points is made, or judged with a mesh: what the calls come to.
-use Rattle.std.proofs.Common.{◌≡◌, ℕ, ◌+◌, ◌≤◌, inl, inr, List, [], ◌∷◌, Some, None, Result, Ok, Err, refl, sym, ◌∙◌, ap}
+use Rattle.std.proofs.Common.{◌≡◌, ℕ, ◌+◌, ◌≤◌, inl, inr, List, [], ◌∷◌, Some, None, Result, Ok, refl, sym, ◌∙◌}
 use Rattle.std.proofs.Common.{subst, arith}
 use Rattle.mesh_defs.specs.declared.point.Point.{Point}
 use Rattle.mesh_defs.specs.HeightField.{HeightField}
@@ -18,16 +18,16 @@ use Rattle.run_laws.specs.Act.{Told, ReportText}
 use Rattle.run_laws.specs.Outcome.{text_outcome, IsKeptMakeOutcome, IsKeptCheckOutcome}
 use Rattle.run_laws.specs.Promise.{Seen, HasEnded, CommandNoMemory}
 use Rattle.run_laws.specs.Moment.{Moment}
-use Rattle.run_laws.specs.Leaving.{Runs, HasOpened, HasFailed, ReadsGrid, ReadsPoints, TellsLast}
+use Rattle.run_laws.specs.Leaving.{Runs, HasOpened, ReadsGrid, ReadsPoints, TellsLast}
 use Rattle.run_laws.proofs.ActLemmas.{stands-nothing}
-use Rattle.run_laws.proofs.GridLemmas.{file-fault, same-name}
-use Rattle.run_laws.proofs.RunLemmas.{read-failed, memory-spent, opens-then, fails-then, whole-runs, certified-runs}
+use Rattle.run_laws.proofs.RunLemmas.{memory-spent, opens-then, fails-then, whole-runs, certified-runs}
 use Rattle.run_laws.proofs.RunLemmas.{rejected-runs, tells-as}
 use Rattle.run_certify.specs.declared.fit_verdict_report.Judgement.{Judgement}
 use Rattle.run_certify.specs.declared.fit_verdict_report.Judgement.TheVariants.{Certified, Rejected, BadLine, MeshDiffers}
 use Rattle.run_certify.specs.FitJudging.{fit_judged_text, fit_judged_status, fit_mesh_opens}
 use Rattle.run_certify.specs.KeptJudging.{kept_judged_outcome, IsKeptJudged, IsFaultlessKeptFile}
 use Rattle.run_certify.specs.KeptJudging.{KeptJudgesNoMemory, KeptJudgesFault}
+use Rattle.run_certify.proofs.JudgingLemmas.{judges-memory, judges-fault, same-found}
 
 -- making a certificate
 
@@ -66,8 +66,7 @@ module _ (before middle now : Moment) (name : List ℕ) (m : KeptMaking) (grid :
         fit_in_order = λ other check files e told two. cc;
         kept_make_in_order = λ other making files e told two. (
           grid,
-          subst (λ (l : List ℕ). grid_of (bytes_of files l) ≡ Ok grid)
-              (same-name name other (MakeKept m) (MakeKept making) e) (read.is_grid files told),
+          same-found name other (MakeKept m) (MakeKept making) grid files e (read.is_grid files told),
           points,
           subst (λ (d : KeptMaking). points_in grid.n (bytes_of files d.points) ≡ Ok points)
               (same-make name other m making e) (behind.are_points files (read.opened.only.files ∙ told)),
@@ -102,8 +101,7 @@ behind-memory before old new name c grid points count opens low high found are f
   kept_in_order = λ other check files e told two.
       let same = same-check name other c check e in (
         grid,
-        subst (λ (l : List ℕ). grid_of (bytes_of files l) ≡ Ok grid)
-            (same-name name other (CheckKept c) (CheckKept check) e) (found files told),
+        same-found name other (CheckKept c) (CheckKept check) grid files e (found files told),
         points,
         subst (λ (d : KeptChecking). points_in grid.n (bytes_of files d.points) ≡ Ok points) same (are files told),
         λ four. (let P : KeptChecking → Type 0 = λ d. IsFaultlessKeptFile d points grid files in
@@ -126,60 +124,37 @@ module _ (before middle last now : Moment) (name : List ℕ) (c : KeptChecking) 
   -- memory ran out behind the points
   pub check-memory : KeptJudgesNoMemory c points grid last now →
       Runs before now (Some (OnGrid name (CheckKept c))) NoMemory None
-  check-memory (inl one) =
-      let opened = opens-then before last now 2 1 both-opened one in
-      memory-spent before now name (CheckKept c) 3 opened
-      (behind-memory _ _ _ name c grid points 3 opened.opens (omega arith) (omega arith) read.is_grid are-points
-      (λ four. absurd (omega (arith, four))))
-  check-memory (inr (two, faultless)) =
-      let opened = opens-then before last now 2 2 both-opened two in
-      memory-spent before now name (CheckKept c) 4 opened
-      (behind-memory _ _ _ name c grid points 4 opened.opens (omega arith) (omega arith) read.is_grid are-points
-      (λ four files told. faultless files (told-last files told)))
+  check-memory =
+      judges-memory before last now name (CheckKept c) 2 (IsFaultlessKeptFile c points grid) both-opened
+      (λ count opens low high faultless.
+      behind-memory _ _ _ name c grid points count opens low high read.is_grid are-points faultless)
 
   -- a read failed behind the points
   pub check-fault : KeptJudgesFault c points grid last now →
       Runs before now (Some (OnGrid name (CheckKept c))) ReadFault None
   check-fault (inl one) =
-      let failed = fails-then before last now 2 1 c.certificate _ both-opened one in
-      read-failed before now name (CheckKept c) 3 c.certificate _ failed (omega arith) (omega arith)
-      (record {
-        file = 2;
-        opened = failed.opens;
-        before_script = λ scripted. stands-nothing before.sinks;
-        at_file = λ files told.
-            let at = failed.stops files told in
-            file-fault _ _ now.shelf (OnGrid name (CheckKept c)) files 2 c.certificate [] _ at refl
-            (grid, read.is_grid files told, (((points, are-points files told), at.has_read), refl))
-            (stands-nothing before.sinks);
-      })
+      judges-fault before now name (CheckKept c) 2 c.certificate _
+      (fails-then before last now 2 1 c.certificate _ both-opened one) (omega arith) refl
+      (λ files told part has_read. (grid, read.is_grid files told, (((points, are-points files told), has_read), refl)))
   check-fault (inr (cert, triangles, is, faultless, two)) =
-      let failed = fails-then before last now 2 2 c.mesh _ both-opened two in
-      read-failed before now name (CheckKept c) 4 c.mesh _ failed (omega arith) (omega arith)
-      (record {
-        file = 3;
-        opened = failed.opens;
-        before_script = λ scripted. stands-nothing before.sinks;
-        at_file = λ files told.
-            let at = failed.stops files told in
-            file-fault _ _ now.shelf (OnGrid name (CheckKept c)) files 3 c.mesh [] _ at refl (
-              grid,
-              read.is_grid files told,
-              (
-                (
-                  points,
-                  cert,
-                  triangles,
-                  are-points files told,
-                  is files (told-last files told),
-                  faultless,
-                  at.has_read,
-                ),
-                refl,
-              ),
-            )
-            (stands-nothing before.sinks);
-      })
+      judges-fault before now name (CheckKept c) 3 c.mesh _
+      (fails-then before last now 2 2 c.mesh _ both-opened two) (omega arith) refl
+      (λ files told part has_read. (
+        grid,
+        read.is_grid files told,
+        (
+          (
+            points,
+            cert,
+            triangles,
+            are-points files told,
+            is files (told-last files told),
+            faultless,
+            has_read,
+          ),
+          refl,
+        ),
+      ))
 
 module _ (before middle last end now : Moment) (name : List ℕ) (c : KeptChecking) (grid : HeightField)
     (points : List Point) (text : List ℕ) (meant status : Status)

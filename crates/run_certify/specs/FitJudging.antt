@@ -1,7 +1,7 @@
 -- What a check of a fitted mesh by a certificate comes to, and where it stops.
 -- Words: fit_judged_text, fit_judged_status, fit_mesh_opens, judged_outcome, fit_judged_outcome, IsFitJudged,
--- IsFaultlessFitFile, IsSoundAs, NoMemoryBehind, FailsBehind, JudgesNoMemory, JudgesFault, IsSoundFor,
--- FitNoMemoryBehind, FitFailsBehind, FitJudgesNoMemory, FitJudgesFault.
+-- IsFaultlessFitFile, IsSoundAs, NoMemoryBehind, FailsBehind, JudgesFault, IsSoundFor, FitNoMemoryBehind,
+-- FitFailsBehind, FitJudgesNoMemory, FitJudgesFault.
 use Rattle.std.specs.Prelude.{◌≡◌, ℕ, ◌+◌, ◌⊎◌, List, length, Some, Result, Ok}
 use Rattle.mesh_defs.specs.HeightField.{HeightField}
 use Rattle.roam_edge.specs.Shelf.{NamedFile, bytes_of}
@@ -18,6 +18,7 @@ use Rattle.run_laws.specs.ReportText.{certified_fit_line, fit_rejection, rejecti
 use Rattle.run_laws.specs.Outcome.{Outcome, text_outcome, IsFitCheckOutcome}
 use Rattle.run_laws.specs.Moment.{Moment}
 use Rattle.run_laws.specs.Leaving.{HasOpened, HasFailed, MeshHasRead}
+use Rattle.run_certify.specs.Judging.{JudgesNoMemory}
 use Rattle.run_certify.specs.declared.fit_verdict_report.Judgement.{Judgement}
 use Rattle.run_certify.specs.declared.fit_verdict_report.Judgement.TheVariants.{Certified, Rejected, BadLine, MeshDiffers}
 
@@ -81,12 +82,6 @@ abbrev pub FailsBehind : (mesh : List ℕ) (spacing : ℕ) → HeightField → (
 FailsBehind mesh spacing grid faultless before now =
     (triangles : List ℕ) × faultless triangles
     × HasFailed before now 1 mesh (MeshHasRead (fit_text spacing grid triangles))
-
--- memory ran out once the certificate was opened, or once the mesh was too, behind a file of one without a fault
-abbrev pub JudgesNoMemory : (List NamedFile → Type 0) → Moment → Moment → Type 0
-JudgesNoMemory faultless_file before now =
-    HasOpened before now 1
-    ⊎ (HasOpened before now 2 × ((files : List NamedFile) → before.shelf.files ≡ Some files → faultless_file files))
 
 -- a read failed, at the certificate or, behind one without a fault, at the mesh
 abbrev pub JudgesFault : {C : Type 0} → (certificate mesh : List ℕ) (spacing : ℕ) → HeightField

@@ -68,12 +68,11 @@ abbrev pub FailsBehind : Checking → HeightField → Certificate → Moment →
 FailsBehind c grid cert before now =
     IsFaultless c grid cert × HasFailed before now 1 c.mesh (MeshHasRead (cert_mesh_text c grid cert))
 
--- memory ran out once the certificate was opened, or once the mesh was too, behind a certificate without a fault
-abbrev pub JudgesNoMemory : Checking → HeightField → Moment → Moment → Type 0
-JudgesNoMemory c grid before now =
+-- memory ran out once the certificate was opened, or once the mesh was too, behind a file of one without a fault
+abbrev pub JudgesNoMemory : (List NamedFile → Type 0) → Moment → Moment → Type 0
+JudgesNoMemory faultless_file before now =
     HasOpened before now 1
-    ⊎ (HasOpened before now 2 × ((files : List NamedFile) → before.shelf.files ≡ Some files →
-    IsFaultlessFile c grid files))
+    ⊎ (HasOpened before now 2 × ((files : List NamedFile) → before.shelf.files ≡ Some files → faultless_file files))
 
 -- a read failed, at the certificate or, behind one without a fault, at the mesh
 abbrev pub JudgesFault : Checking → HeightField → Moment → Moment → Type 0

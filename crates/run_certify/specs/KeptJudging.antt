@@ -12,8 +12,8 @@ use Rattle.run_laws.specs.Certify.{IsKeptFaultless}
 use Rattle.run_laws.specs.Outcome.{Outcome, IsKeptCertOutcome}
 use Rattle.run_laws.specs.Moment.{Moment}
 use Rattle.run_certify.specs.declared.fit_verdict_report.Judgement.{Judgement}
-use Rattle.run_certify.specs.FitJudging.{judged_outcome, IsSoundAs, NoMemoryBehind, FailsBehind, JudgesNoMemory}
-use Rattle.run_certify.specs.FitJudging.{JudgesFault}
+use Rattle.run_certify.specs.Judging.{JudgesNoMemory}
+use Rattle.run_certify.specs.FitJudging.{judged_outcome, IsSoundAs, NoMemoryBehind, FailsBehind, JudgesFault}
 
 -- the outcome of a run that tells a judgement: the grid, the points and the certificate were opened for it, and the mesh
 -- or not

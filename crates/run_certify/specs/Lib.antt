@@ -1,5 +1,3 @@
 pub mod Judging
-pub mod FitCertStage
 pub mod FitJudging
-pub mod KeptCertStage
 pub mod KeptJudging

@@ -1,36 +1,27 @@
 //! The command `certify check`: whether a certificate is sound, and a mesh the one that it is of.
 
-ghost use Rattle.std.specs.Prelude.{ℕ, ◌≡◌, ◌≢◌, ◌^◌, ◌≤◌, ◌+◌, List, All, IfOk, None, Some, Ok, Err, false};
+ghost use Rattle.std.specs.Prelude.{◌≡◌, ◌^◌, ◌≤◌, ◌+◌, List, All, IfOk, None, Some, Ok, Err};
 ghost use Rattle.mesh_defs.specs.Triangle.{IsAddress};
 ghost use Rattle.roam_edge.specs.Shelf.{NamedFile, bytes_of};
-ghost use Rattle.mesh_compare.specs.Differs.{first_difference};
 ghost use Rattle.run_words.specs.Words.{OnGrid, Check};
 ghost use Rattle.run_laws.specs.Outcome.{IsCheckOutcome};
 ghost use Rattle.run_laws.specs.Promise.{HasEnded};
-ghost use Rattle.run_laws.specs.Leaving.{Runs, HasOpened, HasFailed, MeshHasRead};
+ghost use Rattle.run_laws.specs.Leaving.{Runs, HasOpened};
 ghost use Rattle.run_words.specs.CertifyView.{checking_seen, AreInBounds};
-ghost use Rattle.run_certify.specs.Judging.{judged_status, mesh_opens, judged_outcome, cert_mesh_text, IsJudged};
-ghost use Rattle.run_certify.specs.Judging.{JudgesNoMemory, JudgesFault, NoMemoryBehind, FailsBehind};
+ghost use Rattle.run_certify.specs.Judging.{judged_status, mesh_opens, judged_outcome, IsJudged};
+ghost use Rattle.run_certify.specs.Judging.{IsFaultlessFile, JudgesNoMemory, JudgesFault, NoMemoryBehind, FailsBehind};
 
+use crate::mesh_file::{CheckStop, difference};
 use crate::verdict_report::{Judgement, judgement_report};
 use cert_text::Cert;
 use certificate_laws::{Reject, Verdict};
 use mesh_compare::difference_laws;
-use roam_certify::{CompareFault, check};
+use roam_certify::check;
 use run_files::{CertStop, Outside, end_with_text, grid_or_end, read_cert};
 use run_laws::Status;
 use run_words::CheckWords;
 use std::alloc::Global;
 use wedgie_tree::Wedges;
-
-/// Why there is no judgement.
-#[derive(Clone, Copy, Debug, PartialEq, Eq)]
-pub(crate) enum CheckStop {
-    /// Out of memory.
-    NoMemory,
-    /// A file could not be opened or read.
-    Failed,
-}
 
 /// Carries out the command `certify check`. The first test that fails ends it: nothing further is opened or read.
 pub fn run_check<O: Outside>(alloc: Global, words: &CheckWords<'_>, outside: &mut O) -> Status
@@ -74,7 +65,8 @@ fn judge<O: Outside>(
     ensures ended { IfOk result (λ judgement. judged_status judgement ≡ Status.Done →
         HasEnded (O.moment outside.new).shelf) }
     ensures no_memory { result ≡ Err CheckStop.NoMemory →
-        JudgesNoMemory (checking_seen words.now) wedges.now (O.moment outside.old) (O.moment outside.new) }
+        JudgesNoMemory (IsFaultlessFile (checking_seen words.now) wedges.now) (O.moment outside.old)
+        (O.moment outside.new) }
     ensures failed { result ≡ Err CheckStop.Failed →
         JudgesFault (checking_seen words.now) wedges.now (O.moment outside.old) (O.moment outside.new) }
 {
@@ -113,7 +105,14 @@ fn judge_cert<O: Outside>(
     difference_laws();
     match check(alloc, wedges, cert, words.spacing, words.budget) {
         Ok(Verdict::Certified { triangles, worst }) => {
-            match difference(alloc, wedges, cert, words, outside) {
+            match difference(
+                alloc,
+                wedges.grid(),
+                cert.leaves(),
+                words.mesh,
+                words.spacing,
+                outside,
+            ) {
                 Ok(None) => Ok(Judgement::Certified {
                     camera: cert.camera(),
                     triangles,
@@ -125,35 +124,5 @@ fn judge_cert<O: Outside>(
         }
         Ok(Verdict::Rejected { why }) => Ok(Judgement::Rejected(why)),
         Err(_) => Err(CheckStop::NoMemory),
-    }
-}
-
-/// Where the mesh's file differs from the text of the certificate's mesh, if it does.
-fn difference<O: Outside>(
-    alloc: Global,
-    wedges: &Wedges,
-    cert: &Cert,
-    words: &CheckWords<'_>,
-    outside: &mut O,
-) -> Result<Option<u64>, CheckStop>
-    requires opens { (O.moment outside.old).shelf.opens ≤ 2 ^ 63 + 2 }
-    requires bounds { AreInBounds words.now.budget words.now.spacing }
-    requires leaves { All (IsAddress wedges.now.n) cert.now.leaves }
-    ensures same { O.is_same outside.old outside.new }
-    ensures ok { IfOk result (λ found. (files : List NamedFile) → (O.moment outside.old).shelf.files ≡ Some files →
-        found ≡ first_difference (cert_mesh_text (checking_seen words.now) wedges.now cert.now)
-        (bytes_of files words.now.mesh.now)) }
-    ensures ended { IfOk result (λ found. found ≡ None → HasEnded (O.moment outside.new).shelf) }
-    ensures opened { result ≢ Err CheckStop.Failed → HasOpened (O.moment outside.old) (O.moment outside.new) 1 }
-    ensures failed { result ≡ Err CheckStop.Failed → HasFailed (O.moment outside.old) (O.moment outside.new) 1
-        words.now.mesh.now (MeshHasRead (cert_mesh_text (checking_seen words.now) wedges.now cert.now)) }
-{
-    let Ok(()) = outside.open_named(words.mesh) else {
-        return Err(CheckStop::Failed);
-    };
-    match outside.compare_rest(alloc, wedges.grid(), cert.leaves(), words.spacing) {
-        Ok(place) => Ok(place),
-        Err(CompareFault::NoMemory) => Err(CheckStop::NoMemory),
-        Err(CompareFault::Failed) => Err(CheckStop::Failed),
     }
 }

@@ -1,10 +1,9 @@
 //! The command `certify check-fit`: whether a certificate of a fitted mesh is sound, and a mesh the one that it is of.
 
-ghost use Rattle.std.specs.Prelude.{ℕ, ◌≡◌, ◌≢◌, ◌^◌, ◌<◌, ◌≤◌, ◌+◌, ◌*◌, List, All, IfOk, None, Some, Ok, Err, false};
+ghost use Rattle.std.specs.Prelude.{ℕ, ◌≡◌, ◌^◌, ◌<◌, ◌≤◌, ◌+◌, ◌*◌, List, All, IfOk, None, Some, Ok, Err};
 ghost use Rattle.std.specs.Prelude.{length};
 ghost use Rattle.mesh_defs.specs.Triangle.{level_of};
 ghost use Rattle.roam_edge.specs.Shelf.{NamedFile, bytes_of};
-ghost use Rattle.mesh_compare.specs.Differs.{first_difference};
 ghost use Rattle.run_words.specs.Words.{OnGrid, CheckFit};
 ghost use Rattle.wedgie_tree.specs.declared.wedges.TheConstants.{GREATEST_SPACING};
 ghost use Rattle.run_laws.specs.Fit.{fit_text};
@@ -18,27 +17,19 @@ ghost use Rattle.run_certify.specs.FitJudging.{IsFitJudged};
 ghost use Rattle.run_certify.specs.FitJudging.{FitJudgesNoMemory, FitJudgesFault, IsSoundFor};
 ghost use Rattle.run_certify.specs.FitJudging.{FitNoMemoryBehind, FitFailsBehind};
 
-use crate::fit_cert_file::read_fit_cert;
 use crate::fit_goal::goal_in;
 use crate::fit_verdict_report::{Judgement, judgement_report};
+use crate::mesh_file::{CheckStop, difference};
 use bintree_addr::Tri;
+use cert_text::FitCertReader;
 use certificate_laws::{FitCert, FitVerdict};
 use fit_certify::{check, mesh_of};
-use mesh_compare::{CompareFault, difference_laws};
+use mesh_compare::difference_laws;
 use pgm_grid::Grid;
-use run_files::{CertStop, Outside, end_with_text, grid_or_end};
+use run_files::{CertStop, Outside, end_with_text, grid_or_end, read_lines};
 use run_laws::Status;
 use run_words::FitCheckWords;
 use std::alloc::Global;
-
-/// Why there is no judgement.
-#[derive(Clone, Copy, Debug, PartialEq, Eq)]
-pub(crate) enum CheckStop {
-    /// Out of memory.
-    NoMemory,
-    /// A file could not be opened or read.
-    Failed,
-}
 
 /// Carries out the command `certify check-fit`. The first test that fails ends it: nothing further is opened or read.
 pub fn run_fit_check<O: Outside>(
@@ -87,7 +78,7 @@ fn judge<O: Outside>(
     ensures failed { result ≡ Err CheckStop.Failed →
         FitJudgesFault (fit_checking_seen words.now) grid.now (O.moment outside.old) (O.moment outside.new) }
 {
-    match read_fit_cert(alloc, grid.n(), words.certificate, outside) {
+    match read_lines::<FitCertReader, O>(alloc, grid.n(), words.certificate, outside) {
         Ok(cert) => judge_cert(alloc, grid, &cert, words, outside),
         Err(CertStop::BadLine(line)) => Ok(Judgement::BadLine(line)),
         Err(CertStop::NoMemory) => Err(CheckStop::NoMemory),
@@ -211,37 +202,5 @@ pub(crate) fn judge_mesh<O: Outside>(
         }),
         Ok(Some(at)) => Ok(Judgement::MeshDiffers(at)),
         Err(stop) => Err(stop),
-    }
-}
-
-/// Where the mesh's file differs from the text of the mesh of these triangles, if it does.
-fn difference<O: Outside>(
-    alloc: Global,
-    grid: &Grid,
-    mesh: &[Tri],
-    name: &str,
-    spacing: u32,
-    outside: &mut O,
-) -> Result<Option<u64>, CheckStop>
-    requires opens { (O.moment outside.old).shelf.opens ≤ 2 ^ 63 + 3 }
-    requires spacing_low { 1 ≤ spacing }
-    requires spacing_high { spacing ≤ GREATEST_SPACING }
-    requires levels { All (λ a. level_of a ≤ 2 * grid.now.n) mesh.now }
-    requires few { length mesh.now < 2 ^ 31 }
-    ensures same { O.is_same outside.old outside.new }
-    ensures ok { IfOk result (λ found. (files : List NamedFile) → (O.moment outside.old).shelf.files ≡ Some files →
-        found ≡ first_difference (fit_text spacing grid.now mesh.now) (bytes_of files name.now)) }
-    ensures ended { IfOk result (λ found. found ≡ None → HasEnded (O.moment outside.new).shelf) }
-    ensures opened { result ≢ Err CheckStop.Failed → HasOpened (O.moment outside.old) (O.moment outside.new) 1 }
-    ensures failed { result ≡ Err CheckStop.Failed → HasFailed (O.moment outside.old) (O.moment outside.new) 1
-        name.now (MeshHasRead (fit_text spacing grid.now mesh.now)) }
-{
-    let Ok(()) = outside.open_named(name) else {
-        return Err(CheckStop::Failed);
-    };
-    match outside.compare_rest(alloc, grid, mesh, spacing) {
-        Ok(place) => Ok(place),
-        Err(CompareFault::NoMemory) => Err(CheckStop::NoMemory),
-        Err(CompareFault::Failed) => Err(CheckStop::Failed),
     }
 }

@@ -1,6 +1,6 @@
 //! The command `certify make-fit`: the certificate of a fitted mesh.
 
-ghost use Rattle.std.specs.Prelude.{◌≡◌, ◌^◌, ◌≤◌, None, Some, IfOk, false};
+ghost use Rattle.std.specs.Prelude.{◌^◌, ◌≤◌, None, Some, IfOk};
 ghost use Rattle.cert_text.specs.FitCertText.{fit_cert_text};
 ghost use Rattle.run_words.specs.Words.{OnGrid, MakeFit};
 ghost use Rattle.run_laws.specs.Certify.{IsFitMade};

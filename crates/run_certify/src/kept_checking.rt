@@ -1,7 +1,7 @@
 //! The command `certify check-fit` where the mesh keeps points: whether a certificate of such a mesh is sound, and a mesh
 //! the one that it is of.
 
-ghost use Rattle.std.specs.Prelude.{ℕ, ◌≡◌, ◌^◌, ◌≤◌, ◌+◌, List, All, IfOk, None, Some, Ok, Err};
+ghost use Rattle.std.specs.Prelude.{◌≡◌, ◌^◌, ◌≤◌, ◌+◌, List, All, IfOk, None, Some, Ok, Err};
 ghost use Rattle.bintree_laws.specs.Corners.{IsInSquare};
 ghost use Rattle.roam_edge.specs.Shelf.{NamedFile, bytes_of};
 ghost use Rattle.run_words.specs.Words.{OnGrid, CheckKept};
@@ -13,16 +13,17 @@ ghost use Rattle.run_certify.specs.FitJudging.{fit_judged_status, fit_mesh_opens
 ghost use Rattle.run_certify.specs.KeptJudging.{kept_judged_outcome, IsKeptJudged, KeptJudgesNoMemory, KeptJudgesFault};
 ghost use Rattle.run_certify.specs.KeptJudging.{IsKeptSoundFor, KeptNoMemoryBehind, KeptFailsBehind};
 
-use crate::fit_checking::{CheckStop, judge_mesh};
+use crate::fit_checking::judge_mesh;
 use crate::fit_goal::tolerance;
 use crate::fit_verdict_report::{Judgement, judgement_report};
-use crate::kept_cert_file::read_kept_cert;
+use crate::mesh_file::CheckStop;
 use crate::points::points_or_end;
 use bintree_addr::Point;
+use cert_text::KeptCertReader;
 use certificate_laws::{FitVerdict, KeptCert};
 use fit_certify::{check_kept, mesh_of_kept};
 use pgm_grid::Grid;
-use run_files::{CertStop, Outside, end_with_text, grid_or_end};
+use run_files::{CertStop, Outside, end_with_text, grid_or_end, read_lines};
 use run_laws::Status;
 use run_words::KeptCheckWords;
 use std::alloc::Global;
@@ -82,7 +83,7 @@ fn judge<O: Outside>(
         KeptJudgesFault (kept_checking_seen words.now) points.now grid.now (O.moment outside.old)
         (O.moment outside.new) }
 {
-    match read_kept_cert(alloc, grid.n(), words.certificate, outside) {
+    match read_lines::<KeptCertReader, O>(alloc, grid.n(), words.certificate, outside) {
         Ok(cert) => judge_cert(alloc, grid, points, &cert, words, outside),
         Err(CertStop::BadLine(line)) => Ok(Judgement::BadLine(line)),
         Err(CertStop::NoMemory) => Err(CheckStop::NoMemory),

@@ -1,6 +1,6 @@
 //! The command `certify make-fit` where the mesh keeps points: the certificate of such a mesh.
 
-ghost use Rattle.std.specs.Prelude.{◌≡◌, ◌^◌, ◌≤◌, None, Some, All, IfOk, length};
+ghost use Rattle.std.specs.Prelude.{◌^◌, ◌≤◌, None, Some, All, IfOk, length};
 ghost use Rattle.bintree_laws.specs.Corners.{IsInSquare};
 ghost use Rattle.roam_script.specs.PointText.{most_points as most_points_seen};
 ghost use Rattle.cert_text.specs.KeptCert.{kept_cert_text};

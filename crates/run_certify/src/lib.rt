@@ -7,14 +7,13 @@
 #![tactic(auto)]
 
 mod checking;
-mod fit_cert_file;
 mod fit_checking;
 mod fit_goal;
 mod fit_making;
 mod fit_verdict_report;
-mod kept_cert_file;
 mod kept_checking;
 mod kept_making;
+mod mesh_file;
 mod points;
 mod verdict_report;
 

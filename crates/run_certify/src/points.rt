@@ -1,6 +1,6 @@
 //! The points that a mesh keeps, read behind its grid.
 
-ghost use Rattle.std.specs.Prelude.{◌≡◌, ◌+◌, ◌^◌, ◌≤◌, ℕ, List, IfOk, IfErr, Some, None};
+ghost use Rattle.std.specs.Prelude.{◌+◌, ◌^◌, ◌≤◌, ℕ, List, IfOk, IfErr, Some, None};
 ghost use Rattle.run_words.specs.Words.{Job, OnGrid};
 ghost use Rattle.run_laws.specs.Moment.{Moment};
 ghost use Rattle.run_laws.specs.Leaving.{Runs, ReadsGrid, KeepsPoints, ReadsPoints};

@@ -1,4 +1,4 @@
 pub mod InfoLemmas
 pub mod ReadingLemmas
-pub mod CertStageLemmas
+pub mod LineStageLemmas
 mod PointStageLemmas

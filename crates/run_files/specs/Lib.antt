@@ -1,3 +1,3 @@
-pub mod CertStage
+pub mod LineStage
 pub mod PointStage
 pub mod GridStop

@@ -1,22 +1,20 @@
 //! A certificate, read from the outside of a run.
 
-ghost use Rattle.std.specs.Prelude.{◌≡◌, ◌≢◌, ◌+◌, ◌*◌, ◌≤◌, ◌++◌, ◌∷◌, [], ℕ, List, All, IfOk, OnOk, Some, None, Ok};
-ghost use Rattle.std.specs.Prelude.{Err, length};
+ghost use Rattle.std.specs.Prelude.{◌≡◌, ◌≢◌, ◌≤◌, ℕ, List, All, IfOk, Some, Ok, Err};
 ghost use Rattle.mesh_defs.specs.Triangle.{IsAddress};
 ghost use Rattle.mesh_defs.specs.declared.level.TheConstants.{GREATEST_LEVEL};
 ghost use Rattle.roam_edge.specs.Fault.{Rose, next_count, IsInTime};
 ghost use Rattle.roam_edge.specs.Shelf.{NamedFile, bytes_of};
-ghost use Rattle.cert_text.specs.CertReader.{cert_line_in, nothing_read};
-ghost use Rattle.run_laws.specs.CertFile.{HasCertCome, CertHasRead, cert_of, cert_in};
+ghost use Rattle.run_laws.specs.CertFile.{CertHasRead, cert_in};
 ghost use Rattle.run_laws.specs.FileStop.{StopsReading};
 ghost use Rattle.run_laws.specs.Moment.{OnlyReads};
-ghost use Rattle.run_files.specs.CertStage.{place_seen, IsStageCounted, TakesCert, EndsCert};
+ghost use Rattle.run_files.specs.LineStage.{LinesHaveRead};
 
 use crate::grid_file::PIECE;
+use crate::line_reader::LineReader;
+use crate::line_stage::LineStage;
 use crate::outside::Outside;
-use arrayvec::ArrayVec;
-use cert_text::{Cert, CertFault, CertReader, text_laws};
-use roam_script::MOST_LINE_BYTES;
+use cert_text::{Cert, CertReader};
 use std::alloc::Global;
 
 /// Why there is no certificate.
@@ -28,127 +26,6 @@ pub enum CertStop {
     BadLine(u32),
     /// The file could not be opened or read.
     Failed,
-}
-
-/// How far a certificate was read.
-#[derive(Drop)]
-pub(crate) struct CertStage {
-    /// What the whole lines say.
-    pub(crate) reader: CertReader,
-    /// How many they are.
-    pub(crate) lines: u32,
-    /// The bytes of the line that has begun.
-    pub(crate) part: ArrayVec<u8, MOST_LINE_BYTES>,
-}
-
-impl CertStage {
-    /// Before the first line of a certificate of the grid of side 2^n.
-    fn new(alloc: Global, n: u32) -> CertStage
-        requires in_grid { (1 ≤ n) × (n ≤ GREATEST_LEVEL) }
-        ensures place { place_seen result ≡ record { said = nothing_read; lines = 0; begun = [] } }
-        ensures n { result.reader.n ≡ n }
-        ensures counted { IsStageCounted result }
-    {
-        CertStage {
-            reader: CertReader::new(alloc, n),
-            lines: 0,
-            part: ArrayVec::new(),
-        }
-    }
-
-    /// Takes the line that has begun, which ends here.
-    fn take_line(&mut self) -> Result<(), CertStop>
-        requires counted { IsStageCounted self.old }
-        ensures n { self.new.reader.n ≡ self.old.reader.n }
-        ensures ok { OnOk result (cert_line_in self.old.reader.n self.old.reader.read self.old.part.items
-            ≡ Some self.new.reader.read) }
-        ensures lines { OnOk result (self.new.lines ≡ self.old.lines + 1) }
-        ensures part { OnOk result (self.new.part.items ≡ []) }
-        ensures counted { OnOk result (IsStageCounted self.new) }
-        ensures bad_line { (line : ℕ) → result ≡ Err (CertStop.BadLine line) →
-            cert_line_in self.old.reader.n self.old.reader.read self.old.part.items ≡ None }
-        ensures number { (line : ℕ) → result ≡ Err (CertStop.BadLine line) → line ≡ self.old.lines + 1 }
-        ensures not_failed { result ≢ Err CertStop.Failed }
-    {
-        text_laws();
-        match self.reader.line(self.part.as_slice()) {
-            Ok(()) => {
-                self.lines += 1;
-                self.part.clear();
-                Ok(())
-            }
-            Err(CertFault::BadLine) => Err(CertStop::BadLine(self.lines + 1)),
-            Err(CertFault::NoMemory) => Err(CertStop::NoMemory),
-        }
-    }
-
-    /// Takes one byte: the line that has begun goes on, or it ends. A line that is too long is refused at once.
-    fn take_byte(&mut self, byte: u8) -> Result<(), CertStop>
-        requires counted { IsStageCounted self.old }
-        ensures n { self.new.reader.n ≡ self.old.reader.n }
-        ensures taken { (read : List ℕ) → HasCertCome self.old.reader.n read (place_seen self.old) →
-            TakesCert self.old.reader.n (read ++ byte ∷ []) self.new result }
-        ensures counted { OnOk result (IsStageCounted self.new) }
-        ensures longer { OnOk result (201 * self.old.lines + length self.old.part.items + 1
-            ≤ 201 * self.new.lines + length self.new.part.items) }
-        ensures not_failed { result ≢ Err CertStop.Failed }
-    {
-        if byte == b'\n' {
-            return self.take_line();
-        }
-        if self.part.is_full() {
-            return Err(CertStop::BadLine(self.lines + 1));
-        }
-        self.part.push(byte);
-        Ok(())
-    }
-
-    /// Takes a piece of the file.
-    fn take_piece(&mut self, piece: &[u8]) -> Result<(), CertStop>
-        requires counted { IsStageCounted self.old }
-        ensures n { self.new.reader.n ≡ self.old.reader.n }
-        ensures taken { (read : List ℕ) → HasCertCome self.old.reader.n read (place_seen self.old) →
-            TakesCert self.old.reader.n (read ++ piece.now) self.new result }
-        ensures counted { OnOk result (IsStageCounted self.new) }
-        ensures longer { OnOk result (201 * self.old.lines + length self.old.part.items + length piece.now
-            ≤ 201 * self.new.lines + length self.new.part.items) }
-        ensures not_failed { result ≢ Err CertStop.Failed }
-    {
-        for byte in piece {
-            self.take_byte(*byte)?;
-        }
-        Ok(())
-    }
-
-    /// Ends the file: bytes after the last LF are a line too, and a file without a line is refused at line 1.
-    fn end(mut self) -> Result<Cert, CertStop>
-        requires counted { IsStageCounted self }
-        ensures ends { (read : List ℕ) → HasCertCome self.reader.n read (place_seen self) →
-            EndsCert self.reader.n read result }
-        ensures leaves { IfOk result (λ cert. All (IsAddress self.reader.n) cert.leaves) }
-        ensures not_failed { result ≢ Err CertStop.Failed }
-    {
-        if self.part.is_empty() {
-            return finished(self.reader);
-        }
-        self.take_line()?;
-        finished(self.reader)
-    }
-}
-
-/// What the whole lines of a file come to.
-fn finished(reader: CertReader) -> Result<Cert, CertStop>
-    requires goes { reader.refusal ≡ None }
-    ensures ok { IfOk result (λ cert. cert_of reader.read ≡ Ok cert) }
-    ensures bad_line { (line : ℕ) → result ≡ Err (CertStop.BadLine line) → cert_of reader.read ≡ Err line }
-    ensures leaves { IfOk result (λ cert. All (IsAddress reader.n) cert.leaves) }
-    ensures not_failed { result ≢ Err CertStop.Failed }
-{
-    match reader.finish() {
-        Ok(cert) => Ok(cert),
-        Err(CertFault::BadLine) => Err(CertStop::BadLine(1)),
-        Err(CertFault::NoMemory) => Err(CertStop::NoMemory),
-    }
 }
 
 /// Reads the certificate of this name to its end or its first line that is refused, of the grid of side 2^n.
@@ -180,10 +57,42 @@ pub fn read_cert<O: Outside>(
     ensures in_time { IsInTime (O.moment outside.old).shelf_late (O.moment outside.old).shelf_faults
         (O.moment outside.new).shelf_late }
 {
+    read_lines::<CertReader, O>(alloc, n, name, outside)
+}
+
+/// Reads the file of this name to its end or its first line that is refused, of the grid of side 2^n.
+pub fn read_lines<R: LineReader, O: Outside>(
+    alloc: Global,
+    n: u32,
+    name: &str,
+    outside: &mut O,
+) -> Result<R::Cert, CertStop>
+    requires in_grid { (1 ≤ n) × (n ≤ GREATEST_LEVEL) }
+    ensures ok { IfOk result (λ cert. (files : List NamedFile) → (O.moment outside.old).shelf.files ≡ Some files →
+        R.file n (bytes_of files name.now) ≡ Ok cert) }
+    ensures read { IfOk result (λ cert. R.IsRead n cert) }
+    ensures bad_line { (line : ℕ) → result ≡ Err (CertStop.BadLine line) →
+        (files : List NamedFile) → (O.moment outside.old).shelf.files ≡ Some files →
+        R.file n (bytes_of files name.now) ≡ Err line }
+    // Where a read failed, no line that was read is refused.
+    ensures undecided { result ≡ Err CertStop.Failed → (files : List NamedFile) →
+        (O.moment outside.old).shelf.files ≡ Some files →
+        StopsReading (LinesHaveRead (R.step n) R.start) (bytes_of files name.now)
+        (O.moment outside.new).shelf.rest (O.moment outside.new).shelf.ended }
+    ensures same { O.is_same outside.old outside.new }
+    ensures only { OnlyReads (O.moment outside.old) (O.moment outside.new) }
+    ensures opens { (O.moment outside.new).shelf.opens ≡ next_count (O.moment outside.old).shelf.opens }
+    ensures failed { result ≡ Err CertStop.Failed →
+        Rose (O.moment outside.old).shelf_faults (O.moment outside.new).shelf_faults }
+    ensures no_fault { result ≢ Err CertStop.Failed →
+        (O.moment outside.new).shelf_faults ≡ (O.moment outside.old).shelf_faults }
+    ensures in_time { IsInTime (O.moment outside.old).shelf_late (O.moment outside.old).shelf_faults
+        (O.moment outside.new).shelf_late }
+{
     let Ok(()) = outside.open_named(name) else {
         return Err(CertStop::Failed);
     };
-    let mut stage = CertStage::new(alloc, n);
+    let mut stage = LineStage::<R>::new(alloc, n);
     let mut buffer = [0; PIECE];
     'pieces: loop {
         let Ok(count) = outside.read(&mut buffer) else {

@@ -1,6 +1,6 @@
 //! The command `info`, and its line.
 
-ghost use Rattle.std.specs.Prelude.{◌≡◌, ◌^◌, ◌<◌, ◌≤◌, None, Some, false, max, length};
+ghost use Rattle.std.specs.Prelude.{◌≡◌, ◌^◌, ◌<◌, ◌≤◌, None, Some, max, length};
 ghost use Rattle.mesh_defs.specs.BoundingBox.{least, greatest};
 ghost use Rattle.mesh_defs.specs.Thickness.{thickness_of};
 ghost use Rattle.run_words.specs.Words.{OnGrid, Facts};

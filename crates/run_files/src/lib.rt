@@ -2,8 +2,9 @@
 //!
 //! For the crates that carry a command out. An `Outside` is what a run calls: a shelf, a sink of meshes and a report
 //! (`Lent`). Grids, certificates and points are read from it, in pieces, to their end or their first refusal; a mesh
-//! with its line is written to it, and so is a text that ends a run. The whole command `info` is here. What makes a
-//! frame is a trait here (`FrameMaker`), and who makes one is not known.
+//! with its line is written to it, and so is a text that ends a run. The whole command `info` is here. What reads the
+//! lines of a certificate of one kind is a trait (`LineReader`), and so is what makes a frame (`FrameMaker`): who makes
+//! one is not known here.
 
 #![tactic(auto)]
 
@@ -12,6 +13,8 @@ mod end;
 mod grid_file;
 mod info;
 mod limits;
+mod line_reader;
+mod line_stage;
 mod maker;
 mod outside;
 mod points_file;
@@ -19,11 +22,12 @@ mod report;
 mod show;
 mod text;
 
-pub use cert_file::{CertStop, read_cert};
+pub use cert_file::{CertStop, read_cert, read_lines};
 pub use end::end_with_text;
 pub use grid_file::{GridStop, PIECE, grid_or_end, read_grid};
 pub use info::run_info;
 pub use limits::limit_laws;
+pub use line_reader::LineReader;
 pub use maker::FrameMaker;
 pub use outside::{Lent, Outside};
 pub use points_file::{PointStop, read_points};

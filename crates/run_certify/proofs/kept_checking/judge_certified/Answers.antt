@@ -1,4 +1,4 @@
-use Rattle.std.proofs.Common.{◌≡◌, ℕ, ◌≤◌, List, length, ◌∙◌, ap, arith}
+use Rattle.std.proofs.Common.{ℕ, ◌≤◌, List, length, ◌∙◌, ap, arith}
 use Rattle.mesh_defs.specs.declared.point.Point.{Point}
 use Rattle.mesh_laws.proofs.FlagLemmas.{end-high}
 use Rattle.certificate_laws.specs.declared.fit_reason.FitVerdict.TheVariants as verdict

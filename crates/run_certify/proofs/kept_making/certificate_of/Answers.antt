@@ -1,11 +1,9 @@
 -- A sound certificate for the error of the words and the points, with no more points than these, may be made.
-use Rattle.std.proofs.Common.{◌≡◌, ◌≤◌, ◌^◌, ℕ, List, Result, Ok, Err, IfOk, length, ◌∙◌, ap, subst, arith}
+use Rattle.std.proofs.Common.{◌≡◌, ◌≤◌, ℕ, List, Result, Ok, Err, IfOk, length, ◌∙◌, ap, subst}
 use Rattle.mesh_defs.specs.declared.point.Point.{Point}
 use Rattle.mesh_defs.specs.HeightField.{HeightField}
 use Rattle.certificate_laws.specs.Keeping.{KeptCertificate, IsKeptSound}
 use Rattle.certificate_laws.proofs.KeepingLemmas.{kept-few}
-use Rattle.certificate_laws.specs.declared.limits.TheConstants.{MOST_REASONS}
-use Rattle.roam_script.specs.PointText.{most_points}
 use Rattle.run_words.specs.Words.{KeptMaking}
 use Rattle.run_laws.specs.Certify.{IsKeptMade}
 use Rattle.run_laws.specs.Fit.{tolerance_of}

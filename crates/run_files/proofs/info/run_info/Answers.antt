@@ -1,9 +1,9 @@
-use Rattle.std.proofs.Common.{refl, ◌∙◌, ap, subst, sym}
+use Rattle.std.proofs.Common.{refl, ◌∙◌, ap}
 use Rattle.run_laws.specs.declared.status.Status.TheVariants.{Done}
 use Rattle.run_words.specs.Words.{Facts}
 use Rattle.run_laws.specs.ReportText.{info_line}
 use Rattle.run_laws.specs.Outcome.{text_outcome}
-use Rattle.run_laws.proofs.RunLemmas.{line-runs, spent-runs}
+use Rattle.run_laws.proofs.RunLemmas.{line-runs}
 use Rattle.run_files.proofs.info.run_info.Goals as goal
 
 pub returns-in-Ok-build-clause-runs : goal.returns-in-Ok-build-clause-runs

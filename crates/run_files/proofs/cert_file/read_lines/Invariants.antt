@@ -1,0 +1,31 @@
+use Rattle.std.proofs.Common.{◌≡◌, ◌+◌, ◌-◌, ◌*◌, ◌^◌, false, length}
+use Rattle.roam_edge.specs.Fault.{next_count, IsInTime}
+use Rattle.roam_script.specs.declared.limits.TheConstants.{MOST_LINE_BYTES}
+use Rattle.run_laws.specs.Moment.{OnlyReads}
+use Rattle.run_laws.proofs.CertFileLemmas.{place}
+use Rattle.run_laws.proofs.StageLemmas.{IsReading}
+use Rattle.run_files.specs.LineStage.{IsStage}
+use Rattle.run_files.proofs.cert_file.read_lines.Given as goal
+
+-- the bytes that were read were taken, and the shelf has not failed
+abbrev pub invariant-pieces : goal.invariant-pieces
+invariant-pieces g l = record {
+  reading : IsReading (g.R.LineReader.step l.n) g.R.LineReader.start (g.O.Outside.moment l.fn.outside).shelf.files
+      (g.O.Outside.moment l.outside).shelf.rest l.name
+      (place (g.R.LineReader.said l.stage.reader) l.stage.lines l.stage.part.items);
+  level : g.R.LineReader.level l.stage.reader ≡ l.n;
+  sound : IsStage (g.R.LineReader.Goes l.stage.reader) (g.R.LineReader.count (g.R.LineReader.said l.stage.reader))
+      l.stage.lines l.stage.part.items;
+  open_file : (g.O.Outside.moment l.outside).shelf.ended ≡ false;
+  same : g.O.Outside.is_same l.fn.outside l.outside;
+  only : OnlyReads (g.O.Outside.moment l.fn.outside) (g.O.Outside.moment l.outside);
+  opens : (g.O.Outside.moment l.outside).shelf.opens ≡ next_count (g.O.Outside.moment l.fn.outside).shelf.opens;
+  faults : (g.O.Outside.moment l.outside).shelf_faults ≡ (g.O.Outside.moment l.fn.outside).shelf_faults;
+  in_time : IsInTime (g.O.Outside.moment l.fn.outside).shelf_late (g.O.Outside.moment l.fn.outside).shelf_faults
+      (g.O.Outside.moment l.outside).shelf_late;
+}
+
+-- each byte makes a line longer, or is the last of an accepted line
+abbrev pub decreases-pieces : goal.decreases-pieces
+decreases-pieces g l =
+    (MOST_LINE_BYTES + 1) * 2 ^ 32 - ((MOST_LINE_BYTES + 1) * l.stage.lines + length l.stage.part.items)
