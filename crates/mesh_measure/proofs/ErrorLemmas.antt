@@ -16,7 +16,7 @@ use Rattle.fit_laws.specs.PlaneHeight.{area_of, off_plane, offs_in, excess_at, e
 use Rattle.fit_laws.proofs.PlaneLemmas.{area_of-some, held-le}
 use Rattle.mesh_measure.specs.declared.shape.Bounds.{Bounds}
 use Rattle.mesh_measure.specs.Facet.{AreBounds}
-use Rattle.mesh_measure.specs.Most.{gap_of, gap_beyond, IsMostUntil, IsMostReached, IsInBounds}
+use Rattle.mesh_measure.specs.Most.{gap_of, gap_beyond, IsMostUntil, IsInBounds}
 use Rattle.mesh_measure.proofs.GapLemmas.{off_plane-gap}
 use Rattle.mesh_measure.proofs.BoxLemmas.{IsInBounds-held, greatest-most}
 
@@ -30,47 +30,7 @@ bounds-in_grid n a c bounds is b =
     let right = b.right in
     let high = b.high in (omega arith, omega arith)
 
--- ---- the error by the gaps
-
--- a gap is at most a part of the tolerance exactly where the surface is at most the tolerance off
-gap-iff : (n : ℕ) (heights : List ℕ) (a tolerance : ℕ) (r : Point) → IsAddress n a →
-    (gap_of (corners_of n a) (height_of n heights) r ≤ area_of (corners_of n a) * tolerance / 2 ^ n)
-    ↔ (off_plane n heights a r ≤ tolerance)
-gap-iff n heights a tolerance r address =
-    let area : ℕ = area_of (corners_of n a) in
-    let gap : ℕ = gap_of (corners_of n a) (height_of n heights) r in
-    let off : ℕ = off_plane n heights a r in
-    let some : 0 < 2 ^ n = pow_pos n in
-    let same : area * off ≡ 2 ^ n * gap = off_plane-gap n heights a r address in
-    let iff : (gap ≤ area * tolerance / 2 ^ n) ↔ (gap * 2 ^ n ≤ area * tolerance) =
-    le-div_iff_mul-le {k = 2 ^ n} {x = gap} {y = area * tolerance} some in (
-      λ le.
-          let product : gap * 2 ^ n ≤ area * tolerance = iff.0 le in
-          let scaled : area * off ≤ area * tolerance = omega arith in
-          le_of_mul-le-mul_left {k = area} scaled (area_of-some n a address),
-      λ le. let scaled : area * off ≤ area * tolerance = mul-le-mul_left area le in iff.1 (omega arith),
-    )
-
--- a point that shows that the error is above the tolerance
-pub error-above : (n : ℕ) (heights : List ℕ) (a tolerance limit most : ℕ) (c : Corners) →
-    IsAddress n a → c ≡ corners_of n a →
-    limit ≡ area_of c * tolerance / 2 ^ n → limit < most → IsMostReached c (gap_of c (height_of n heights)) most →
-    tolerance < greatest (offs_in n heights a)
-error-above n heights a tolerance limit most c address is at above reached = ⊎_elim
-    (λ none. absurd (omega arith))
-    (λ (s : (r : Point) × (is_in_closed c r ≡ true) × (gap_of c (height_of n heights) r ≡ most)).
-    let off : ℕ = off_plane n heights a s.0 in
-    let held : holds_point n a s.0 ≡ true = subst (λ d. is_in_closed d s.0 ≡ true) is s.1 in
-    let gap : gap_of (corners_of n a) (height_of n heights) s.0 ≡ most =
-    subst (λ d. gap_of d (height_of n heights) s.0 ≡ most) is s.2 in
-    let same : limit ≡ area_of (corners_of n a) * tolerance / 2 ^ n = at ∙ ap (λ d. area_of d * tolerance / 2 ^ n) is in
-    let le = held-le (off_plane n heights a) n a s.0 address held in
-    ⊎_elim
-    (λ (less : tolerance < off). omega arith)
-    (λ (fits : off ≤ tolerance). let small = (gap-iff n heights a tolerance s.0 address).1 fits in absurd (omega arith))
-    (cases_lt tolerance off))
-    reached
-
+-- ---- the error
 -- the distance that was found says whether the error is above the tolerance
 pub off-iff : (n : ℕ) (heights : List ℕ) (a tolerance most : ℕ) (c : Corners) (bounds : Bounds) → IsAddress n a →
     c ≡ corners_of n a → AreBounds c bounds →

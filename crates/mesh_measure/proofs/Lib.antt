@@ -1,8 +1,10 @@
 pub mod AreaLemmas
 pub mod BoxLemmas
 pub mod ColumnLemmas
+pub mod EdgeLemmas
 pub mod ErrorLemmas
 pub mod GapLemmas
 pub mod LineLemmas
+pub mod MiddleLemmas
 pub mod MostLemmas
 pub mod RowLemmas

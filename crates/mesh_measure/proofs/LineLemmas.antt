@@ -1,5 +1,5 @@
 -- The plane of a triangle along a row.
-use Rattle.std.proofs.Common.{◌≡◌, ℕ, ◌+◌, ◌*◌, ◌≤◌, true, sym, ap, arith, mul-le-mul_left}
+use Rattle.std.proofs.Common.{◌≡◌, ℕ, ◌+◌, ◌*◌, ◌≤◌, true, sym, ap, arith}
 use Rattle.mesh_defs.specs.declared.point.Point.{Point}
 use Rattle.mesh_defs.specs.declared.point.Corners.{Corners}
 use Rattle.mesh_defs.specs.BoundingBox.{point, is_left_or_on}
@@ -9,8 +9,10 @@ use Rattle.fit_laws.proofs.PlaneLemmas.{left_or_on-held}
 use Rattle.mesh_measure.specs.declared.areas.Across.{Across}
 use Rattle.mesh_measure.specs.declared.areas.Areas.{Areas}
 use Rattle.mesh_measure.specs.declared.line.Line.{Line}
+use Rattle.mesh_measure.specs.declared.line.Plane.{Plane}
+use Rattle.mesh_measure.proofs.AreaLemmas.{product}
 use Rattle.mesh_measure.specs.Areas.{AreSumsAcross, AreAcross}
-use Rattle.mesh_measure.specs.Line.{high_on, low_on, IsRowLineOf, IsLineFrom}
+use Rattle.mesh_measure.specs.Line.{line_at, high_on, low_on, IsRowLineOf, IsLineFrom}
 
 -- one edge: its area times a height, by both sums
 edge-part : (p q : Point) (y x height z : ℕ) (s : Across) → AreSumsAcross (point 0 y) p q s → height ≡ z →
@@ -43,6 +45,31 @@ line-weights c f y apex v0 v1 s line one two three a high low rise fall x held =
     let down : x * line.fall ≡ x * (c.v1.y * apex + c.apex.y * v0 + c.v0.y * v1) = ap (λ k. x * k) fall in
     omega arith
 
+-- so do those of the plane, in each row
+pub plane-lines : (c : Corners) (f : Point → ℕ) (apex v0 v1 : ℕ) (plane : Plane) → apex ≡ f c.apex → v0 ≡ f c.v0 →
+    v1 ≡ f c.v1 →
+    plane.high ≡ c.v0.x * c.v1.y * apex + c.v1.x * c.apex.y * v0 + c.apex.x * c.v0.y * v1 →
+    plane.low ≡ c.v0.y * c.v1.x * apex + c.v1.y * c.apex.x * v0 + c.apex.y * c.v0.x * v1 →
+    plane.rise ≡ c.v0.y * apex + c.v1.y * v0 + c.apex.y * v1 →
+    plane.fall ≡ c.v1.y * apex + c.apex.y * v0 + c.v0.y * v1 →
+    plane.up ≡ c.v1.x * apex + c.apex.x * v0 + c.v0.x * v1 →
+    plane.down ≡ c.v0.x * apex + c.v1.x * v0 + c.apex.x * v1 →
+    (y : ℕ) → IsRowLineOf c f y (line_at plane y)
+plane-lines c f apex v0 v1 plane one two three high low rise fall up down y =
+    let s : Areas = record {
+      apex = record { high = c.v0.x * c.v1.y + c.v1.x * y; low = c.v0.y * c.v1.x + y * c.v0.x };
+      v0 = record { high = c.v1.x * c.apex.y + c.apex.x * y; low = c.v1.y * c.apex.x + y * c.v1.x };
+      v1 = record { high = c.apex.x * c.v0.y + c.v0.x * y; low = c.apex.y * c.v0.x + y * c.apex.x };
+    } in
+    let a : AreAcross c (point 0 y) s = record {
+      apex = record { high = omega arith; low = omega arith };
+      v0 = record { high = omega arith; low = omega arith };
+      v1 = record { high = omega arith; low = omega arith };
+    } in
+    let rows : y * plane.up ≡ y * (c.v1.x * apex + c.apex.x * v0 + c.v0.x * v1) = ap (λ k. y * k) up in
+    let drops : y * plane.down ≡ y * (c.v0.x * apex + c.v1.x * v0 + c.apex.x * v1) = ap (λ k. y * k) down in
+    line-weights c f y apex v0 v1 s (line_at plane y) one two three a (omega arith) (omega arith) rise fall
+
 -- the line from a column on
 pub line-shifted : (c : Corners) (f : Point → ℕ) (y x : ℕ) (line from : Line) → IsRowLineOf c f y line →
     from.high ≡ high_on line x → from.low ≡ low_on line x → from.rise ≡ line.rise → from.fall ≡ line.fall →
@@ -53,16 +80,20 @@ line-shifted c f y x line from lined high low rise fall k inside =
     let falls : k * from.fall ≡ k * line.fall = ap (λ z. k * z) fall in
     omega arith
 
--- a sum some columns on is small
-pub sums-small : (start x slope : ℕ) → start ≤ 2473901162496 → x ≤ 2049 → slope ≤ 402653184 →
-    start + x * slope ≤ 4398046511104
-sums-small start x slope small few flat =
-    let first : x * slope ≤ x * 402653184 = mul-le-mul_left x flat in omega arith
+-- a sum some rows and columns on is small
+pub sums-small : (start y up x slope : ℕ) → start ≤ 824633720832 → y ≤ 2048 → up ≤ 402653184 → x ≤ 2049 →
+    slope ≤ 402653184 →
+    start + y * up + x * slope ≤ 4398046511104
+sums-small start y up x slope small low steep few flat =
+    let first : y * up ≤ 2048 * 402653184 = product y up 2048 402653184 low steep in
+    let second : x * slope ≤ 2049 * 402653184 = product x slope 2049 402653184 few flat in
+    omega arith
 
--- so is it after some more
-pub sums-small-on : (start x slope next k rise : ℕ) → start ≤ 2473901162496 → x + k ≤ 2049 → slope ≤ 402653184 →
-    next ≡ start + x * slope →
+-- so is it after some more columns
+pub sums-small-on : (start y up x slope next k rise : ℕ) → start ≤ 824633720832 → y ≤ 2048 → up ≤ 402653184 →
+    x + k ≤ 2049 → slope ≤ 402653184 →
+    next ≡ start + y * up + x * slope →
     rise ≡ slope → next + k * rise ≤ 4398046511104
-sums-small-on start x slope next k rise small few flat is same =
-    let all = sums-small start (x + k) slope small few flat in
+sums-small-on start y up x slope next k rise small low steep few flat is same =
+    let all = sums-small start y up (x + k) slope small low steep few flat in
     let more : k * rise ≡ k * slope = ap (λ z. k * z) same in omega arith

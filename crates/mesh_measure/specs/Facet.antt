@@ -9,12 +9,14 @@ use Rattle.bintree_laws.specs.Corners.{IsWithin}
 use Rattle.fit_laws.specs.PlaneHeight.{area_of}
 use Rattle.mesh_measure.specs.declared.shape.Facet.{Facet}
 use Rattle.mesh_measure.specs.declared.shape.Bounds.{Bounds}
+use Rattle.mesh_measure.specs.Edges.{HasStraightEdges}
 
--- its corners lie in a grid of at most the largest side, its heights are those at its corners, and its area is theirs,
--- a power of 2
+-- its corners lie in a grid of at most the largest side, its edges are straight, its heights are those at its corners,
+-- and its area is theirs, a power of 2
 pub record IsFacet (n : ℕ) (heights : List ℕ) (facet : Facet) : Type 0 where
   pub in_grid : n ≤ GREATEST_LEVEL
   pub within : IsWithin (2 ^ GREATEST_LEVEL) facet.corners
+  pub straight : HasStraightEdges facet.corners
   pub apex : facet.apex ≡ height_of n heights facet.corners.apex
   pub v0 : facet.v0 ≡ height_of n heights facet.corners.v0
   pub v1 : facet.v1 ≡ height_of n heights facet.corners.v1

@@ -1,6 +1,6 @@
 -- The plane of a triangle along a row.
--- Words: high_on, low_on, AreHeights, IsRowLineOf, IsLineFrom, gap_on, excess_on, off_on.
-use Rattle.std.specs.Prelude.{◌≡◌, ℕ, ◌+◌, ◌-◌, ◌*◌, ◌^◌, ◌%◌, List, slice_index, true}
+-- Words: line_at, high_on, low_on, IsSmall, AreHeights, IsRowLineOf, IsPlaneOf, IsLineFrom, gap_on, excess_on, off_on.
+use Rattle.std.specs.Prelude.{◌≡◌, ℕ, ◌+◌, ◌-◌, ◌*◌, ◌^◌, ◌%◌, ◌≤◌, List, slice_index, true}
 use Rattle.mesh_defs.specs.declared.point.Point.{Point}
 use Rattle.mesh_defs.specs.declared.point.Corners.{Corners}
 use Rattle.mesh_defs.specs.Thickness.{apart}
@@ -8,6 +8,16 @@ use Rattle.mesh_defs.specs.BoundingBox.{point, is_in_closed}
 use Rattle.fit_laws.specs.PlaneHeight.{weighted}
 use Rattle.mesh_measure.specs.declared.shape.Facet.{Facet}
 use Rattle.mesh_measure.specs.declared.line.Line.{Line}
+use Rattle.mesh_measure.specs.declared.line.Plane.{Plane}
+
+-- the line of a plane in row y, from column 0 on
+abbrev pub line_at : Plane → ℕ → Line
+line_at plane y = record {
+  high = plane.high + y * plane.up;
+  low = plane.low + y * plane.down;
+  rise = plane.rise;
+  fall = plane.fall;
+}
 
 -- both sums, so many columns on
 abbrev pub high_on : Line → ℕ → ℕ
@@ -15,6 +25,15 @@ high_on line k = line.high + k * line.rise
 
 abbrev pub low_on : Line → ℕ → ℕ
 low_on line k = line.low + k * line.fall
+
+-- no sum of the plane is greater than in the largest grid
+pub record IsSmall (plane : Plane) : Type 0 where
+  pub high : plane.high ≤ 824633720832
+  pub low : plane.low ≤ 824633720832
+  pub rise : plane.rise ≤ 402653184
+  pub fall : plane.fall ≤ 402653184
+  pub up : plane.up ≤ 402653184
+  pub down : plane.down ≤ 402653184
 
 -- the heights of the facet are the values of f at its corners
 pub record AreHeights (f : Point → ℕ) (facet : Facet) : Type 0 where
@@ -26,6 +45,11 @@ pub record AreHeights (f : Point → ℕ) (facet : Facet) : Type 0 where
 abbrev pub IsRowLineOf : Corners → (Point → ℕ) → ℕ → Line → Type 0
 IsRowLineOf c f y line =
     (x : ℕ) → is_in_closed c (point x y) ≡ true → weighted c f (point x y) + low_on line x ≡ high_on line x
+
+-- the plane has that line in each row, and its sums are small
+pub record IsPlaneOf (c : Corners) (f : Point → ℕ) (plane : Plane) : Type 0 where
+  pub line : (y : ℕ) → IsRowLineOf c f y (line_at plane y)
+  pub small : IsSmall plane
 
 -- the same, counted from a column on
 abbrev pub IsLineFrom : Corners → (Point → ℕ) → ℕ → ℕ → Line → Type 0

@@ -1,5 +1,5 @@
 -- The greatest value over points, as a loop finds it.
--- Words: gap_of, gap_beyond, IsMost, IsMostReached, IsMostUntil, IsInRow, IsInBounds, IsInRows.
+-- Words: gap_of, gap_beyond, IsMost, IsMostUntil, IsInRow, IsInBounds, IsInRows.
 use Rattle.std.specs.Prelude.{◌≡◌, ℕ, ◌-◌, ◌*◌, ◌<◌, ◌≤◌, ◌⊎◌, true}
 use Rattle.mesh_defs.specs.declared.point.Point.{Point}
 use Rattle.mesh_defs.specs.declared.point.Corners.{Corners}
@@ -20,10 +20,6 @@ gap_beyond m c f tolerance r = m * gap_of c f r - area_of c * tolerance r
 pub record IsMost (P : Point → Type 0) (f : Point → ℕ) (most : ℕ) : Type 0 where
   pub bound : (r : Point) → P r → f r ≤ most
   pub reached : (most ≡ 0) ⊎ ((r : Point) × P r × (f r ≡ most))
-
--- most is a value of f at a point that the triangle holds, or 0
-abbrev pub IsMostReached : Corners → (Point → ℕ) → ℕ → Type 0
-IsMostReached c f most = (most ≡ 0) ⊎ ((r : Point) × (is_in_closed c r ≡ true) × (f r ≡ most))
 
 -- most is a value of f at a point with P, or 0; and the greatest one, unless it is above the limit
 pub record IsMostUntil (P : Point → Type 0) (f : Point → ℕ) (limit most : ℕ) : Type 0 where

@@ -1,6 +1,5 @@
-//! The areas between a point and the three edges of a triangle, and the columns of a row that lie on their inner sides.
+//! The areas between a point and the three edges of a triangle.
 
-use crate::columns::Columns;
 use bintree_addr::{Corners, Point};
 
 /// Twice the area of the triangle of a point and an edge: a sum from which another is taken, so that neither is
@@ -20,11 +19,10 @@ pub(crate) struct Areas {
 }
 
 impl Across {
-    ghost use Rattle.std.specs.Prelude.{◌≡◌, ◌+◌, ◌-◌, ◌*◌, ◌^◌, ◌≤◌, ◌↔◌, ℕ};
+    ghost use Rattle.std.specs.Prelude.{◌≡◌, ◌-◌, ◌^◌, ◌≤◌};
     ghost use Rattle.mesh_defs.specs.declared.level.TheConstants.{GREATEST_LEVEL};
     ghost use Rattle.bintree_laws.specs.Corners.{IsInSquare};
     ghost use Rattle.mesh_measure.specs.Areas.{AreSumsAcross};
-    ghost use Rattle.mesh_measure.specs.Columns.{IsColumn};
 
     /// Of the edge from p to q.
     #[inline(always)]
@@ -49,59 +47,16 @@ impl Across {
     {
         self.high.saturating_sub(self.low)
     }
-
-    /// Of these columns, those whose points lie left of the edge from p to q or on it, in the row of whose first
-    /// point this is.
-    ///
-    /// A column farther right adds p.y to the first sum and q.y to the second.
-    #[inline(always)]
-    fn narrowed(self, p: Point, q: Point, columns: Columns) -> Columns
-        requires high { self.high ≤ 12582912 }
-        requires low { self.low ≤ 12582912 }
-        requires p_in_grid { IsInSquare (2 ^ GREATEST_LEVEL) p }
-        ensures { (x : ℕ) → IsColumn result x ↔ (IsColumn columns x × (self.low + x * q.y ≤ self.high + x * p.y)) }
-    {
-        if q.y < p.y {
-            let slope = p.y - q.y;
-            let first = (self.area_right() + slope - 1) / slope;
-            Columns {
-                from: columns.from.max(first),
-                end: columns.end,
-            }
-        } else if self.high < self.low {
-            Columns {
-                from: columns.end,
-                end: columns.end,
-            }
-        } else if p.y < q.y {
-            let last = self.area() / (q.y - p.y);
-            Columns {
-                from: columns.from,
-                end: columns.end.min(last + 1),
-            }
-        } else {
-            columns
-        }
-    }
-
-    /// Twice the area of a point right of the edge, or 0 where it lies left of it.
-    fn area_right(self) -> u32
-        ensures value { result ≡ self.low - self.high }
-        ensures small { result ≤ self.low }
-    {
-        self.low.saturating_sub(self.high)
-    }
 }
 
 impl Areas {
-    ghost use Rattle.std.specs.Prelude.{◌≡◌, ◌^◌, ◌≤◌, ◌↔◌, ℕ, true};
+    ghost use Rattle.std.specs.Prelude.{◌≡◌, ◌^◌};
     ghost use Rattle.mesh_defs.specs.declared.point.Point.{Point};
     ghost use Rattle.mesh_defs.specs.declared.point.Corners.{Corners};
-    ghost use Rattle.mesh_defs.specs.BoundingBox.{point, is_in_closed};
+    ghost use Rattle.mesh_defs.specs.BoundingBox.{is_in_closed};
     ghost use Rattle.mesh_defs.specs.declared.level.TheConstants.{GREATEST_LEVEL};
     ghost use Rattle.bintree_laws.specs.Corners.{IsWithin, IsInSquare};
     ghost use Rattle.mesh_measure.specs.Areas.{AreAcross, AreSmall};
-    ghost use Rattle.mesh_measure.specs.Columns.{IsColumn};
 
     /// At a point.
     #[inline(always)]
@@ -124,18 +79,5 @@ impl Areas {
     {
         self.v1.low <= self.v1.high
             && (self.apex.low <= self.apex.high && self.v0.low <= self.v0.high)
-    }
-
-    /// Of these columns, those whose points the triangle holds, in the row of whose first point these are.
-    #[inline(always)]
-    pub(crate) fn held(self, corners: Corners, columns: Columns) -> Columns
-        requires in_grid { IsWithin (2 ^ GREATEST_LEVEL) corners }
-        requires small { AreSmall self }
-        ensures { (y : ℕ) → AreAcross corners (point 0 y) self →
-            (x : ℕ) → IsColumn result x ↔ (IsColumn columns x × (is_in_closed corners (point x y) ≡ true)) }
-    {
-        let left = self.v1.narrowed(corners.apex, corners.v0, columns);
-        let base = self.apex.narrowed(corners.v0, corners.v1, left);
-        self.v0.narrowed(corners.v1, corners.apex, base)
     }
 }

@@ -1,14 +1,15 @@
 //! How far a mesh is from the surface that it stands for, in whole numbers: triangle by triangle, and as a whole.
 //!
-//! Each grid point is held against the plane of the triangle that holds it, row by row. The areas between the first
-//! point of a row and the edges tell which columns the triangle holds, by a division an edge; along them the plane
-//! runs by sums alone. What a deviation is, and that thickness bounds it, stands in `fit_laws`.
+//! Each grid point is held against the plane of the triangle that holds it, row by row. Where the row meets the edges
+//! tells which columns the triangle holds, by a sum an edge; along them the plane runs by sums alone. What a deviation
+//! is, and that thickness bounds it, stands in `fit_laws`.
 
 #![tactic(auto)]
 
 mod areas;
 mod at_point;
 mod columns;
+mod edges;
 mod facet;
 mod line;
 mod mesh;

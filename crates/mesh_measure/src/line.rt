@@ -3,13 +3,10 @@
 ghost use Rattle.std.specs.Prelude.{◌≡◌, ◌+◌, ◌-◌, ◌*◌, ◌/◌, ◌^◌, ◌<◌, ◌≤◌, ℕ, length, max};
 ghost use Rattle.mesh_defs.specs.declared.point.Point.{Point};
 ghost use Rattle.mesh_defs.specs.declared.level.TheConstants.{GREATEST_LEVEL};
-ghost use Rattle.mesh_defs.specs.BoundingBox.{point};
 ghost use Rattle.bintree_laws.specs.Corners.{IsWithin};
-ghost use Rattle.mesh_measure.specs.Areas.{AreAcross, AreSmall};
 ghost use Rattle.mesh_measure.specs.Columns.{IsGreatestAlong};
-ghost use Rattle.mesh_measure.specs.Line.{high_on, low_on, AreHeights, IsRowLineOf, excess_on, off_on};
+ghost use Rattle.mesh_measure.specs.Line.{line_at, high_on, low_on, AreHeights, IsSmall, IsRowLineOf, excess_on, off_on};
 
-use crate::areas::Areas;
 use crate::shape::Facet;
 
 /// Twice the area of a triangle times the height of its plane at a column: a sum from which another is taken, and
@@ -22,25 +19,51 @@ pub(crate) struct Line {
     pub(crate) fall: u64,
 }
 
-/// The line of a triangle in the row of whose first point these areas are, from column 0 on.
-#[inline(always)]
-pub(crate) fn line_of(facet: Facet, areas: Areas) -> Line
+/// The same over the grid, from point (0, 0) on: what a column farther right adds to each sum, and what a row higher.
+#[derive(Clone, Copy)]
+pub(crate) struct Plane {
+    pub(crate) high: u64,
+    pub(crate) low: u64,
+    pub(crate) rise: u64,
+    pub(crate) fall: u64,
+    pub(crate) up: u64,
+    pub(crate) down: u64,
+}
+
+/// The plane of a triangle.
+pub(crate) fn plane_of(facet: Facet) -> Plane
     requires in_grid { IsWithin (2 ^ GREATEST_LEVEL) facet.corners }
-    requires small { AreSmall areas }
-    ensures line { (f : Point → ℕ) (y : ℕ) → AreHeights f facet → AreAcross facet.corners (point 0 y) areas →
-        IsRowLineOf facet.corners f y result }
-    ensures high { result.high ≤ 2473901162496 }
-    ensures low { result.low ≤ 2473901162496 }
-    ensures rise { result.rise ≤ 402653184 }
-    ensures fall { result.fall ≤ 402653184 }
+    ensures line { (f : Point → ℕ) (y : ℕ) → AreHeights f facet →
+        IsRowLineOf facet.corners f y (line_at result y) }
+    ensures small { IsSmall result }
 {
-    let c = facet.corners;
-    let (apex, v0, v1) = (areas.apex, areas.v0, areas.v1);
+    let (a, p, q) = (facet.corners.apex, facet.corners.v0, facet.corners.v1);
+    Plane {
+        high: weigh(facet, p.x * q.y, q.x * a.y, a.x * p.y),
+        low: weigh(facet, p.y * q.x, q.y * a.x, a.y * p.x),
+        rise: weigh(facet, p.y, q.y, a.y),
+        fall: weigh(facet, q.y, a.y, p.y),
+        up: weigh(facet, q.x, a.x, p.x),
+        down: weigh(facet, p.x, q.x, a.x),
+    }
+}
+
+/// Its line in a row, from a column on.
+#[inline(always)]
+pub(crate) fn line_in(plane: Plane, x: u32, y: u32) -> Line
+    requires small { IsSmall plane }
+    requires x_in_grid { x ≤ 2049 }
+    requires y_in_grid { y ≤ 2048 }
+    ensures high { result.high ≡ high_on (line_at plane y) x }
+    ensures low { result.low ≡ low_on (line_at plane y) x }
+    ensures rise { result.rise ≡ plane.rise }
+    ensures fall { result.fall ≡ plane.fall }
+{
     Line {
-        high: weigh(facet, apex.high, v0.high, v1.high),
-        low: weigh(facet, apex.low, v0.low, v1.low),
-        rise: weigh(facet, c.v0.y, c.v1.y, c.apex.y),
-        fall: weigh(facet, c.v1.y, c.apex.y, c.v0.y),
+        high: plane.high + u64::from(y) * plane.up + u64::from(x) * plane.rise,
+        low: plane.low + u64::from(y) * plane.down + u64::from(x) * plane.fall,
+        rise: plane.rise,
+        fall: plane.fall,
     }
 }
 

@@ -7,11 +7,12 @@ ghost use Rattle.mesh_defs.specs.Thickness.{height_of};
 ghost use Rattle.mesh_defs.specs.BoundingBox.{greatest};
 ghost use Rattle.fit_laws.specs.PlaneHeight.{excesses_in};
 ghost use Rattle.mesh_measure.specs.Facet.{IsFacet};
+ghost use Rattle.mesh_measure.specs.Line.{IsPlaneOf};
 ghost use Rattle.mesh_measure.specs.Most.{gap_beyond, IsMost, IsMostUntil, IsInRow, IsInBounds};
 
 use crate::columns::Columns;
 use crate::facet::{bounds_of, facet_of, side};
-use crate::line::{greater, greatest_excess};
+use crate::line::{Plane, greater, greatest_excess, plane_of};
 use crate::points::{held_row, row_of};
 use crate::shape::{Bounds, Facet};
 use bintree_addr::Tri;
@@ -33,17 +34,26 @@ fn tolerances_of<'a>(grid: &Grid, tolerances: &'a [u32], y: u32, columns: Column
 }
 
 /// The greatest gap in a row beyond the points' own tolerances.
-fn row_excess(grid: &Grid, tolerances: &[u32], facet: Facet, y: u32, left: u32, right: u32) -> u64
+fn row_excess(
+    grid: &Grid,
+    tolerances: &[u32],
+    facet: Facet,
+    plane: Plane,
+    y: u32,
+    left: u32,
+    right: u32,
+) -> u64
     requires y_in_grid { y ≤ 2 ^ grid.now.n }
     requires right_in_grid { right ≤ 2 ^ grid.now.n }
     requires facet { IsFacet grid.now.n grid.now.heights facet }
+    requires plane { IsPlaneOf facet.corners (height_of grid.now.n grid.now.heights) plane }
     requires complete { length tolerances.now ≡ side_of grid.now.n * side_of grid.now.n }
     ensures { IsMost (IsInRow facet.corners y left (right + 1))
         (gap_beyond (2 ^ grid.now.n) facet.corners (height_of grid.now.n grid.now.heights)
         (height_of grid.now.n tolerances.now)) result }
 {
     let side = side(grid.n());
-    match held_row(grid, facet, y, left, right) {
+    match held_row(grid, facet, plane, y, left, right) {
         None => 0,
         Some(row) => {
             let heights = row_of(grid, y, row.columns);
@@ -64,9 +74,10 @@ fn excess_until(grid: &Grid, tolerances: &[u32], facet: Facet, bounds: Bounds) -
         (gap_beyond (2 ^ grid.now.n) facet.corners (height_of grid.now.n grid.now.heights)
         (height_of grid.now.n tolerances.now)) 0 result }
 {
+    let plane = plane_of(facet);
     let mut most = 0;
     for y in bounds.low..bounds.high + 1 {
-        let row = row_excess(grid, tolerances, facet, y, bounds.left, bounds.right);
+        let row = row_excess(grid, tolerances, facet, plane, y, bounds.left, bounds.right);
         most = greater(most, row);
         if most > 0 {
             return most;

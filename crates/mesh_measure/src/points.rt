@@ -8,20 +8,20 @@ ghost use Rattle.mesh_defs.specs.HeightField.{height_at};
 ghost use Rattle.mesh_defs.specs.Thickness.{height_of};
 ghost use Rattle.mesh_defs.specs.BoundingBox.{point, greatest};
 ghost use Rattle.fit_laws.specs.PlaneHeight.{off_plane, offs_in};
-ghost use Rattle.bintree_laws.specs.Corners.{IsWithin};
 ghost use Rattle.mesh_measure.specs.Areas.{AreAcross, AreSmall};
 ghost use Rattle.mesh_measure.specs.Facet.{IsFacet};
-ghost use Rattle.mesh_measure.specs.Most.{gap_of, IsMost, IsMostUntil, IsInRow, IsInBounds, IsMostReached};
-ghost use Rattle.mesh_measure.specs.Line.{high_on, low_on};
+ghost use Rattle.mesh_measure.specs.Most.{gap_of, IsMost, IsMostUntil, IsInRow, IsInBounds};
+ghost use Rattle.mesh_measure.specs.Line.{high_on, low_on, IsPlaneOf};
 ghost use Rattle.mesh_measure.specs.Row.{IsHeldRow};
 ghost use Rattle.mesh_defs.specs.declared.level.TheConstants.{GREATEST_LEVEL};
 
 use crate::areas::Areas;
 use crate::columns::Columns;
-use crate::facet::{bounds_of, facet_of, side, weighted};
-use crate::line::{farther, greatest_off, height_on, line_from, line_of};
+use crate::edges::held_columns;
+use crate::facet::{bounds_of, facet_of, weighted};
+use crate::line::{Plane, farther, greatest_off, height_on, line_from, line_in, plane_of};
 use crate::shape::{Bounds, Facet, HeldRow};
-use bintree_addr::{Point, Tri};
+use bintree_addr::Tri;
 use pgm_grid::Grid;
 
 /// How far the surface is from the plane at a point, times twice the triangle's area.
@@ -38,22 +38,23 @@ pub(crate) fn gap(grid: &Grid, facet: Facet, areas: Areas, x: u32, y: u32) -> u6
     surface.abs_diff(weighted(facet, areas))
 }
 
-/// The same at the midpoint of the base, where the triangle holds it, or else 0: most triangles are farthest off
-/// about there.
-fn middle_gap(grid: &Grid, facet: Facet) -> u64
+/// How far the surface is from the triangle's plane at the midpoint of the base, or 0 where there is none: most
+/// triangles are farthest off about there.
+fn off_middle(grid: &Grid, facet: Facet, t: Tri) -> u32
+    requires level { level_of t ≤ 2 * grid.now.n }
     requires facet { IsFacet grid.now.n grid.now.heights facet }
-    requires corners_in_grid { IsWithin (2 ^ grid.now.n) facet.corners }
-    ensures { IsMostReached facet.corners (gap_of facet.corners (height_of grid.now.n grid.now.heights)) result }
+    requires corners { facet.corners ≡ corners_of grid.now.n t }
+    ensures { result ≤ greatest (offs_in grid.now.n grid.now.heights t) }
 {
-    let corners = facet.corners;
-    let x = (corners.v0.x + corners.v1.x) / 2;
-    let y = (corners.v0.y + corners.v1.y) / 2;
-    let areas = Areas::of(corners, Point { x, y });
-    if areas.is_held() {
-        gap(grid, facet, areas, x, y)
-    } else {
-        0
+    let n = grid.n();
+    let _address = t.number();
+    if t.level() >= 2 * n {
+        return 0;
     }
+    let (p, q) = (facet.corners.v0, facet.corners.v1);
+    let middle = u32::from(grid.height((p.x + q.x) / 2, (p.y + q.y) / 2));
+    let ends = u32::from(facet.v0) + u32::from(facet.v1);
+    (2 * middle).abs_diff(ends) << (n - 1)
 }
 
 /// The heights of these columns of a row.
@@ -73,25 +74,32 @@ pub(crate) fn row_of(grid: &Grid, y: u32, columns: Columns) -> &[u16]
 
 /// What the triangle holds of a row, from column `left` to column `right`; none where that is nothing.
 #[inline(always)]
-pub(crate) fn held_row(grid: &Grid, facet: Facet, y: u32, left: u32, right: u32) -> Option<HeldRow>
+pub(crate) fn held_row(
+    grid: &Grid,
+    facet: Facet,
+    plane: Plane,
+    y: u32,
+    left: u32,
+    right: u32,
+) -> Option<HeldRow>
     requires y_in_grid { y ≤ 2 ^ grid.now.n }
     requires right_in_grid { right ≤ 2 ^ grid.now.n }
     requires facet { IsFacet grid.now.n grid.now.heights facet }
+    requires plane { IsPlaneOf facet.corners (height_of grid.now.n grid.now.heights) plane }
     ensures none { IfNone result ((r : Point) → IsInRow facet.corners y left (right + 1) r → ⊥) }
     ensures some { IfSome result
         (IsHeldRow facet.corners (height_of grid.now.n grid.now.heights) y left right) }
 {
     let _level = grid.n();
-    let areas = Areas::of(facet.corners, Point { x: 0, y });
     let all = Columns {
         from: left,
         end: right + 1,
     };
-    let columns = areas.held(facet.corners, all);
+    let columns = held_columns(facet.corners, y, all);
     if columns.end <= columns.from {
         return None;
     }
-    let line = line_from(line_of(facet, areas), columns.from);
+    let line = line_in(plane, columns.from, y);
     Some(HeldRow { columns, line })
 }
 
@@ -118,16 +126,17 @@ fn step_from(row: HeldRow, at: u32, n: u32, log_area: u32) -> u32
 
 /// How far the surface is from the triangle's plane at most in a row, from column `left` to column `right`.
 #[inline(always)]
-fn row_off(grid: &Grid, facet: Facet, t: Tri, y: u32, left: u32, right: u32) -> u32
+fn row_off(grid: &Grid, facet: Facet, plane: Plane, t: Tri, y: u32, left: u32, right: u32) -> u32
     requires level { level_of t ≤ 2 * grid.now.n }
     requires y_in_grid { y ≤ 2 ^ grid.now.n }
     requires right_in_grid { right ≤ 2 ^ grid.now.n }
     requires facet { IsFacet grid.now.n grid.now.heights facet }
     requires corners { facet.corners ≡ corners_of grid.now.n t }
+    requires plane { IsPlaneOf facet.corners (height_of grid.now.n grid.now.heights) plane }
     ensures { IsMost (IsInRow facet.corners y left (right + 1)) (off_plane grid.now.n grid.now.heights t) result }
 {
     let _address = t.number();
-    match held_row(grid, facet, y, left, right) {
+    match held_row(grid, facet, plane, y, left, right) {
         None => 0,
         Some(row) => {
             let n = grid.n();
@@ -148,9 +157,11 @@ fn most_until(grid: &Grid, facet: Facet, t: Tri, bounds: Bounds, limit: u32) -> 
     requires ordered { bounds.low ≤ bounds.high }
     ensures { IsMostUntil (IsInBounds facet.corners bounds) (off_plane grid.now.n grid.now.heights t) limit result }
 {
+    let plane = plane_of(facet);
     let mut most = 0;
     for y in bounds.low..bounds.high + 1 {
-        most = farther(most, row_off(grid, facet, t, y, bounds.left, bounds.right));
+        let row = row_off(grid, facet, plane, t, y, bounds.left, bounds.right);
+        most = farther(most, row);
         if most > limit {
             return most;
         }
@@ -182,7 +193,6 @@ pub fn exceeds(grid: &Grid, t: Tri, tolerance: u32) -> bool
 {
     let _address = t.number();
     let facet = facet_of(grid, t);
-    let limit = facet.area * u64::from(tolerance) / side(grid.n());
-    middle_gap(grid, facet) > limit
+    off_middle(grid, facet, t) > tolerance
         || most_until(grid, facet, t, bounds_of(facet.corners), tolerance) > tolerance
 }

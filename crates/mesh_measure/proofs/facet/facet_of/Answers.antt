@@ -1,9 +1,11 @@
 -- The corners lie in the largest square, and the heights and the area are those of the definitions.
-use Rattle.std.proofs.Common.{◌-◌, ◌*◌, ◌∙◌, ap, arith}
+use Rattle.std.proofs.Common.{◌-◌, ◌*◌, ◌∙◌, sym, ap, subst, arith}
 use Rattle.mesh_defs.specs.declared.point.Corners.{Corners}
 use Rattle.mesh_defs.specs.Triangle.{corners_of}
 use Rattle.mesh_measure.proofs.AreaLemmas.{area-across, area-power}
 use Rattle.bintree_laws.proofs.CornerLemmas.{IsWithin-largest}
+use Rattle.mesh_measure.specs.Edges.{HasStraightEdges}
+use Rattle.mesh_measure.proofs.EdgeLemmas.{HasStraightEdges-corners_of}
 use Rattle.mesh_measure.proofs.facet.facet_of.Goals as goal
 
 pub of-requires-clause-r_in_grid : goal.of-requires-clause-r_in_grid
@@ -27,6 +29,9 @@ returns-clause-valid c =
     record {
       in_grid = let high = c.n.ensures.high in let same = c.n.ensures.value in omega arith;
       within = IsWithin-largest c.n.result d c.n.ensures.high c.corners-corners.ensures.within;
+      straight = subst HasStraightEdges
+          (sym (c.corners-corners.ensures.value ∙ ap (λ k. corners_of k c.args.t) c.n.ensures.value))
+          (HasStraightEdges-corners_of c.args.grid.now.n c.args.t c.requires.level);
       apex = c.height.ensures.value;
       v0 = c.height-2.ensures.value;
       v1 = c.height-3.ensures.value;

@@ -36,3 +36,12 @@ returns c =
     IsMostUntil-all c.args.facet.corners c.args.bounds
     (gap_beyond (2 ^ n) c.args.facet.corners (height_of n c.args.grid.now.heights) (height_of n c.args.tolerances.now))
     0 c.loop-y.y c.loop-y.most (omega arith) end c.loop-y.invariant
+
+pub row_excess-row-requires-clause-plane : goal.row_excess-row-requires-clause-plane
+row_excess-row-requires-clause-plane c =
+    let f = height_of c.args.grid.now.n c.args.grid.now.heights in
+    let valid = c.requires.facet in
+    record {
+      line = λ y. c.plane_of-plane.ensures.line f y (record { apex = valid.apex; v0 = valid.v0; v1 = valid.v1 });
+      small = c.plane_of-plane.ensures.small;
+    }

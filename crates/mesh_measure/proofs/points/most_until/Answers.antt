@@ -1,6 +1,7 @@
 -- A row more, until a distance is above the limit.
 use Rattle.std.proofs.Common.{ℕ, ◌+◌, ◌≤◌, sym, subst, arith}
 use Rattle.mesh_defs.specs.declared.point.Point.{Point}
+use Rattle.mesh_defs.specs.Thickness.{height_of}
 use Rattle.fit_laws.specs.PlaneHeight.{off_plane}
 use Rattle.mesh_measure.specs.Most.{IsMost, IsInRows}
 use Rattle.mesh_measure.proofs.MostLemmas.{IsMost-rows_next, IsMostUntil-all, IsMostUntil-some}
@@ -13,16 +14,16 @@ returns-then-most-limit c =
     IsMostUntil-some c.args.facet.corners c.args.bounds f c.args.limit (c.loop-y.y + 1) c.farther-most.result
     (omega arith) c.if-most-limit.true
     (subst (λ z. IsMost (IsInRows c.args.facet.corners c.args.bounds (c.loop-y.y + 1)) f z) (sym c.farther-most.ensures)
-    (IsMost-rows_next c.args.facet.corners c.args.bounds c.loop-y.y f c.loop-y.most c.row_off.result from
-    c.loop-y.invariant c.row_off.ensures))
+    (IsMost-rows_next c.args.facet.corners c.args.bounds c.loop-y.y f c.loop-y.most c.row_off-row.result from
+    c.loop-y.invariant c.row_off-row.ensures))
 
 pub loop-y-preserved : goal.loop-y-preserved
 loop-y-preserved c =
     let f : Point → ℕ = off_plane c.args.grid.now.n c.args.grid.now.heights c.args.t in
     let from : c.args.bounds.low ≤ c.loop-y.y = omega arith in
     subst (λ z. IsMost (IsInRows c.args.facet.corners c.args.bounds (c.loop-y.y + 1)) f z) (sym c.farther-most.ensures)
-    (IsMost-rows_next c.args.facet.corners c.args.bounds c.loop-y.y f c.loop-y.most c.row_off.result from
-    c.loop-y.invariant c.row_off.ensures)
+    (IsMost-rows_next c.args.facet.corners c.args.bounds c.loop-y.y f c.loop-y.most c.row_off-row.result from
+    c.loop-y.invariant c.row_off-row.ensures)
 
 pub returns : goal.returns
 returns c =
@@ -31,3 +32,12 @@ returns c =
     IsMostUntil-all c.args.facet.corners c.args.bounds
     (off_plane c.args.grid.now.n c.args.grid.now.heights c.args.t) c.args.limit
     c.loop-y.y c.loop-y.most (omega arith) end c.loop-y.invariant
+
+pub row_off-row-requires-clause-plane : goal.row_off-row-requires-clause-plane
+row_off-row-requires-clause-plane c =
+    let f = height_of c.args.grid.now.n c.args.grid.now.heights in
+    let valid = c.requires.facet in
+    record {
+      line = λ y. c.plane_of-plane.ensures.line f y (record { apex = valid.apex; v0 = valid.v0; v1 = valid.v1 });
+      small = c.plane_of-plane.ensures.small;
+    }
