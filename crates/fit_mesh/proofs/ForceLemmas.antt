@@ -1,6 +1,7 @@
 -- Closures of lists, with one entry more; parents; and what is behind a list that is behind another.
-use Rattle.std.proofs.Common.{◌≡◌, ℕ, ◌*◌, ◌/◌, ◌^◌, ◌+◌, ◌≤◌, List, ◌++◌}
+use Rattle.std.proofs.Common.{◌≡◌, ℕ, ◌*◌, ◌/◌, ◌^◌, ◌+◌, ◌≤◌, List, [], ◌++◌, sym}
 use Rattle.std.proofs.Common.{◌∙◌, ap, append_assoc, arith, pow-add}
+use Rattle.std.proofs.lemmas.List.{append-nil}
 use Rattle.mesh_defs.specs.Triangle.{IsAddress, IsSplittable}
 use Rattle.mesh_laws.proofs.SweepLemmas.{lt-splittable}
 use Rattle.fit_mesh.specs.Log.{Extends}
@@ -12,6 +13,10 @@ parent-splittable n a address big =
     ∙ pow-add 2 (2 * n + 1) 1 in
     let high = address.high in
     lt-splittable n (a / 2) (omega arith) (omega arith)
+
+-- of one list
+pub extends-same : (log : List ℕ) → Extends log log
+extends-same log = ([], sym (append-nil log))
 
 -- of three lists
 pub extends-extends : (some more all : List ℕ) → Extends some more → Extends more all → Extends some all

@@ -1,6 +1,6 @@
 -- What a turn of refinement leaves, and what its end is.
 use Rattle.std.proofs.Common.{◌≡◌, ℕ, ◌+◌, ◌-◌, ◌*◌, ◌/◌, ◌^◌, ◌<◌, ◌≤◌, ◌⊎◌, Bool, false, max, List, [], ◌∷◌, ◌++◌}
-use Rattle.std.proofs.Common.{length, take, Contains, refl, sym, ◌∙◌, ap, ap₂, subst, arith, ⊎_elim, length-append}
+use Rattle.std.proofs.Common.{length, take, drop, Contains, inl, inr, refl, sym, ◌∙◌, ap, ap₂, subst, arith, ⊎_elim, length-append}
 use Rattle.std.proofs.Math.Seq.{take-length}
 use Rattle.std.proofs.Math.Pow.{pow_mono}
 use Rattle.std.proofs.lemmas.List.{take-append-le}
@@ -19,16 +19,16 @@ use Rattle.mesh_laws.proofs.LeafLemmas.{leaves_under-whole}
 use Rattle.mesh_laws.specs.Sweep.{is_flagged}
 use Rattle.fit_laws.specs.Settled.{IsNeeded, IsLeastSettled}
 use Rattle.fit_laws.specs.Budget.{IsBudgetMesh}
-use Rattle.fit_laws.proofs.SettledLemmas.{needed-step, needed-lower}
+use Rattle.fit_laws.proofs.SettledLemmas.{outer-leaf, needed-step, needed-lower}
 use Rattle.fit_laws.specs.Error.{IsExactAtFinest}
 use Rattle.fit_laws.proofs.FitLemmas.{closed-same, splittable-error}
 use Rattle.fit_laws.proofs.BudgetLemmas.{budget_end}
 use Rattle.fit_mesh.specs.Log.{Extends, HasLog}
-use Rattle.fit_mesh.specs.Waiting.{pair_cmp, IsWaitingEntry, AreKept, AreLeft, IsFirst, IsWaiting}
+use Rattle.fit_mesh.specs.Waiting.{pair_cmp, IsWaitingEntry, AreKept, AreLeft, IsFirst, IsPending, IsWaiting}
 use Rattle.fit_mesh.specs.Grown.{IsNeededBelow, IsBest}
 use Rattle.fit_mesh.specs.Found.{IsFound}
 use Rattle.fit_mesh.proofs.LogLemmas.{log-none}
-use Rattle.fit_mesh.proofs.PendingLemmas.{outer-of}
+use Rattle.fit_mesh.proofs.PendingLemmas.{outer-of, unsplit}
 
 -- there are two leaves more than entries of the log
 pub counted : (n : ℕ) (flags : List Bool) (log : List ℕ) → HasLog n flags log →
@@ -82,10 +82,7 @@ module _ (n : ℕ) (p : ℕ → ℕ) (flags : List Bool) (log : List ℕ) (items
   waiting-left new ordered left only = record {
     ordered = ordered;
     entries = λ r h. w.entries r (only r h);
-    leaves = λ a leaf some. left (p a, a) (w.leaves a leaf some) (⊎_elim
-        (λ is. absurd ((outer-of n (is_flagged flags) a g.closed leaf).outside is))
-        (λ (lacks : is_flagged flags a ≡ false). lacks)
-        (cases_Bool (is_flagged flags a)));
+    leaves = λ a leaf some. left (p a, a) (w.leaves a leaf some) (unsplit n (is_flagged flags) a g.closed leaf);
   }
 
 -- the first leaf has an error, so it can be split
@@ -99,13 +96,13 @@ module _ (n : ℕ) (p : ℕ → ℕ) (exact : IsExactAtFinest n p) (flags : List
 
 -- marks
 
--- a new one
-pub best-mark : (n : ℕ) (p : ℕ → ℕ) (tolerance budget low least : ℕ) (flags : List Bool) (log : List ℕ) (mark : ℕ) →
+-- of all that is split
+best-at : (n : ℕ) (p : ℕ → ℕ) (tolerance budget least : ℕ) (flags : List Bool) (log : List ℕ) (mark : ℕ) →
     mark ≡ length log → HasLog n flags log →
-    IsNeededBelow n p low (is_flagged flags) → least < low → tolerance < low →
+    IsNeeded n (max least tolerance) p (is_flagged flags) →
     worst_of p (leaves_of n (is_flagged flags)) ≡ least →
     length log + 2 ≤ budget → IsBest n p tolerance budget least log mark
-best-mark n p tolerance budget low least flags log mark at g needed less above worst few =
+best-at n p tolerance budget least flags log mark at g needed worst few =
     let all : take mark log ≡ log = ap (λ k. take k log) at ∙ take-length log in
     let same : (a : ℕ) → is_flagged flags a ≡ among (take mark log) a =
     λ a. g.logged.same a ∙ ap (λ (l : List ℕ). among l a) (sym all) in
@@ -117,9 +114,18 @@ best-mark n p tolerance budget low least flags log mark at g needed less above w
       place = omega arith;
       closed = closed-same n (is_flagged flags) (among (take mark log)) same g.closed;
       worst = sym (ap (λ (l : List ℕ). worst_of p l) leaves) ∙ worst;
-      needed = λ other s a h. needed (max least tolerance) (omega arith) other s a (same a ∙ h);
+      needed = λ other s a h. needed other s a (same a ∙ h);
       within = subst (λ (l : List ℕ). length l ≤ budget) leaves longer;
     }
+
+-- a new one
+pub best-mark : (n : ℕ) (p : ℕ → ℕ) (tolerance budget low least : ℕ) (flags : List Bool) (log : List ℕ) (mark : ℕ) →
+    mark ≡ length log → HasLog n flags log →
+    IsNeededBelow n p low (is_flagged flags) → least < low → tolerance < low →
+    worst_of p (leaves_of n (is_flagged flags)) ≡ least →
+    length log + 2 ≤ budget → IsBest n p tolerance budget least log mark
+best-mark n p tolerance budget low least flags log mark at g needed less above worst few =
+    best-at n p tolerance budget least flags log mark at g (needed (max least tolerance) (omega arith)) worst few
 
 -- an old one in a longer log
 pub best-kept : (n : ℕ) (p : ℕ → ℕ) (tolerance budget low : ℕ) (log next : List ℕ) (mark : ℕ) → Extends log next →
@@ -147,13 +153,6 @@ below-step n p low has next t needed outer above least k less =
 
 -- the beginning
 
--- the empty set has the two halves of the square as leaves
-pub base_leaves : (n : ℕ) → leaves_of n (among []) ≡ 2 ∷ (3 ∷ [])
-unfolding leaves_of
-base_leaves n =
-    ap₂ (λ (x y : List ℕ). x ++ y) (leaves_under-whole (2 * n) (among []) 2 refl)
-    (leaves_under-whole (2 * n) (among []) 3 refl)
-
 -- addresses are small
 pub address-small : (n a : ℕ) → n ≤ 11 → IsAddress n a → (2 ≤ a) × (a < 2 ^ 24)
 address-small n a high address =
@@ -161,66 +160,111 @@ address-small n a high address =
     let most : 2 ^ (2 * n + 2) ≤ 2 ^ 24 = pow_mono few in
     (address.low, (let h = address.high in omega arith))
 
-module _ (n : ℕ) (p : ℕ → ℕ) (flags : List Bool) (empty : (a : ℕ) → is_flagged flags a ≡ false) where
-  pub start-grown : length flags ≡ 2 ^ (2 * n + 1) → HasLog n flags []
-  start-grown room = record {
-    room = room;
-    logged = log-none flags empty;
-    closed = closed-same n (λ a. false) (is_flagged flags) (λ a. sym (empty a)) (nothing_closed n);
-  }
+-- the empty set has the two halves of the square as leaves
+pub base_leaves : (n : ℕ) → leaves_of n (among []) ≡ 2 ∷ (3 ∷ [])
+unfolding leaves_of
+base_leaves n =
+    ap₂ (λ (x y : List ℕ). x ++ y) (leaves_under-whole (2 * n) (among []) 2 refl)
+    (leaves_under-whole (2 * n) (among []) 3 refl)
 
-  pub start-needed : (low : ℕ) → IsNeededBelow n p low (is_flagged flags)
-  start-needed low k less other s a h = absurd (both_ways (is_flagged flags a) (empty a) h)
+-- no triangle is split
+pub start-grown : (n : ℕ) (flags : List Bool) → ((a : ℕ) → is_flagged flags a ≡ false) → length flags ≡ 2 ^ (2 * n + 1) →
+    HasLog n flags []
+start-grown n flags empty room = record {
+  room = room;
+  logged = log-none flags empty;
+  closed = closed-same n (λ a. false) (is_flagged flags) (λ a. sym (empty a)) (nothing_closed n);
+}
 
-  -- the two halves of the square
-  pub start-best : (tolerance budget low : ℕ) → low ≡ max (p 2) (p 3) → 2 ≤ budget →
-      IsBest n p tolerance budget low [] 0
-  start-best tolerance budget low is some =
-      let two : leaves_of n (among []) ≡ 2 ∷ (3 ∷ []) = base_leaves n in
-      record {
-        place = omega arith;
-        closed = nothing_closed n;
-        worst = ap (λ (l : List ℕ). worst_of p l) two ∙ omega arith;
-        needed = λ other s a h. absurd (false≢true h);
-        within = (let count : length (leaves_of n (among [])) ≡ 2 = ap (λ (l : List ℕ). length l) two in omega arith);
-      }
+-- which is the least settled set where no error is above the tolerance
+pub start-settled : (n tolerance : ℕ) (p : ℕ → ℕ) (flags : List Bool) → ((a : ℕ) → is_flagged flags a ≡ false) →
+    ((a : ℕ) → IsAddress n a → p a ≤ tolerance) → IsLeastSettled n tolerance p (is_flagged flags)
+start-settled n tolerance p flags empty small =
+    let closed : IsClosed n (is_flagged flags) =
+    closed-same n (λ a. false) (is_flagged flags) (λ a. sym (empty a)) (nothing_closed n) in
+    record {
+      settled = record {
+        closed = closed;
+        within = worst-le p tolerance (leaves_of n (is_flagged flags)) (λ a leaf.
+            small a (outer-leaf n (is_flagged flags) a closed leaf).address);
+      };
+      needed = λ other s a h. absurd (both_ways (is_flagged flags a) (empty a) h);
+    }
 
-  pub start-waiting : (none one two : List (ℕ × ℕ)) → none ≡ [] → 1 ≤ n → IsAddress n 2 → IsAddress n 3 →
-      IsHeap pair_cmp two → AreKept one two →
-      (0 < p 2 → Contains one (p 2, 2)) → (0 < p 3 → Contains two (p 3, 3)) →
-      ((r : ℕ × ℕ) → Contains one r → Contains none r ⊎ ((r ≡ (p 2, 2)) × (0 < p 2))) →
-      ((r : ℕ × ℕ) → Contains two r → Contains one r ⊎ ((r ≡ (p 3, 3)) × (0 < p 3))) →
-      IsWaiting n p (is_flagged flags) two
-  start-waiting none one two nothing low lower upper ordered kept first second only_one only_two = record {
-    ordered = ordered;
-    entries = λ r h. ⊎_elim
-        (λ early. ⊎_elim
-        (λ (older : Contains none r). absurd (no_entry r (subst (λ (l : List (ℕ × ℕ)). Contains l r) nothing older)))
-        (λ new. subst (λ (z : ℕ × ℕ). IsWaitingEntry n p (is_flagged flags) z) (sym new.0)
-        record { address = lower; parent = λ big. absurd (omega arith); value = refl; some = new.1 })
-        (only_one r early))
-        (λ new. subst (λ (z : ℕ × ℕ). IsWaitingEntry n p (is_flagged flags) z) (sym new.0)
-        record { address = upper; parent = λ big. absurd (omega arith); value = refl; some = new.1 })
-        (only_two r h);
-    leaves = λ a leaf some.
-        let closed : IsClosed n (is_flagged flags) =
-        closed-same n (λ a. false) (is_flagged flags) (λ a. sym (empty a)) (nothing_closed n) in
-        let outer : IsOuter n (is_flagged flags) a = outer-of n (is_flagged flags) a closed leaf in
-        ⊎_elim
-        (λ (small : a < 4). ⊎_elim
-        (λ (less : a < 3).
-        let same : 2 ≡ a = (let l = outer.address.low in omega arith) in
-        subst (λ z. 0 < p z → Contains two (p z, z)) same (λ some. kept (p 2, 2) (first some)) some)
-        (λ (more : 3 ≤ a).
-        let same : 3 ≡ a = omega arith in
-        subst (λ z. 0 < p z → Contains two (p z, z)) same second some)
-        (cases_lt a 3))
-        (λ big. absurd (both_ways (is_flagged flags (a / 2)) (empty (a / 2)) (outer.parent big)))
-        (cases_lt a 4);
-  }
-    where
-      no_entry : (r : ℕ × ℕ) → Contains [] r → ⊥
-      no_entry r (k, below, is) = omega arith
+-- the least settled set of another test
+pub settled-same : (n tolerance : ℕ) (p : ℕ → ℕ) (has other : ℕ → Bool) → ((a : ℕ) → has a ≡ other a) →
+    IsLeastSettled n tolerance p has → IsLeastSettled n tolerance p other
+settled-same n tolerance p has other same least = record {
+  settled = record {
+    closed = closed-same n has other same least.settled.closed;
+    within = subst (λ (l : List ℕ). worst_of p l ≤ tolerance) (leaves_of-same n has other same) least.settled.within;
+  };
+  needed = λ others fine a is. least.needed others fine a (same a ∙ is);
+}
+
+-- the log of another table
+pub log-same : (n : ℕ) (flags next : List Bool) (log : List ℕ) → length next ≡ length flags →
+    ((a : ℕ) → is_flagged flags a ≡ is_flagged next a) → HasLog n flags log → HasLog n next log
+log-same n flags next log long same g = record {
+  room = long ∙ g.room;
+  logged = record { same = λ a. sym (same a) ∙ g.logged.same a; new = g.logged.new; once = g.logged.once };
+  closed = closed-same n (is_flagged flags) (is_flagged next) same g.closed;
+}
+
+-- a least settled set is needed below its greatest error, and the best so far
+module _ (n : ℕ) (p : ℕ → ℕ) (from : ℕ) (flags : List Bool) (log : List ℕ) (g : HasLog n flags log)
+    (fit : IsLeastSettled n from p (is_flagged flags)) where
+  pub start-needed : (low : ℕ) → low ≡ worst_of p (leaves_of n (is_flagged flags)) →
+      IsNeededBelow n p low (is_flagged flags)
+  start-needed low is k less =
+      let within = fit.settled.within in needed-lower n from p (is_flagged flags) k (omega arith) fit.needed
+
+  pub start-best : (tolerance budget low : ℕ) → tolerance ≤ from → low ≡ worst_of p (leaves_of n (is_flagged flags)) →
+      length log + 2 ≤ budget → IsBest n p tolerance budget low log (length log)
+  start-best tolerance budget low wide is few =
+      let within = fit.settled.within in
+      best-at n p tolerance budget low flags log (length log) refl g
+      (needed-lower n from p (is_flagged flags) (max low tolerance) (omega arith) fit.needed) (sym is) few
+
+-- and its leaves wait
+pub start-pending : (n : ℕ) (p : ℕ → ℕ) (flags : List Bool) (log : List ℕ) → HasLog n flags log →
+    (none one two : List (ℕ × ℕ)) → none ≡ [] → IsAddress n 2 → IsAddress n 3 →
+    IsHeap pair_cmp two → AreKept one two →
+    (is_flagged flags 2 ≡ false → 0 < p 2 → Contains one (p 2, 2)) →
+    (is_flagged flags 3 ≡ false → 0 < p 3 → Contains two (p 3, 3)) →
+    ((r : ℕ × ℕ) → Contains one r → Contains none r ⊎ ((r ≡ (p 2, 2)) × (0 < p 2))) →
+    ((r : ℕ × ℕ) → Contains two r → Contains one r ⊎ ((r ≡ (p 3, 3)) × (0 < p 3))) →
+    IsPending n p (is_flagged flags) (drop 0 log) two
+start-pending n p flags log g none one two nothing lower upper ordered kept first second only_one only_two = record {
+  ordered = ordered;
+  entries = λ r h. ⊎_elim
+      (λ early. ⊎_elim
+      (λ (older : Contains none r). absurd (no_entry r (subst (λ (l : List (ℕ × ℕ)). Contains l r) nothing older)))
+      (λ new. subst (λ (z : ℕ × ℕ). IsWaitingEntry n p (is_flagged flags) z) (sym new.0)
+      record { address = lower; parent = λ big. absurd (omega arith); value = refl; some = new.1 })
+      (only_one r early))
+      (λ new. subst (λ (z : ℕ × ℕ). IsWaitingEntry n p (is_flagged flags) z) (sym new.0)
+      record { address = upper; parent = λ big. absurd (omega arith); value = refl; some = new.1 })
+      (only_two r h);
+  leaves = λ a leaf some.
+      let outer : IsOuter n (is_flagged flags) a = outer-of n (is_flagged flags) a g.closed leaf in
+      let lacks : is_flagged flags a ≡ false = unsplit n (is_flagged flags) a g.closed leaf in
+      ⊎_elim
+      (λ (small : a < 4). inl (⊎_elim
+      (λ (less : a < 3).
+      let same : 2 ≡ a = (let l = outer.address.low in omega arith) in
+      subst (λ z. is_flagged flags z ≡ false → 0 < p z → Contains two (p z, z)) same
+      (λ free some. kept (p 2, 2) (first free some)) lacks some)
+      (λ (more : 3 ≤ a).
+      let same : 3 ≡ a = omega arith in
+      subst (λ z. is_flagged flags z ≡ false → 0 < p z → Contains two (p z, z)) same second lacks some)
+      (cases_lt a 3)))
+      (λ big. inr (big, sym (g.logged.same (a / 2)) ∙ outer.parent big))
+      (cases_lt a 4);
+}
+  where
+    no_entry : (r : ℕ × ℕ) → Contains [] r → ⊥
+    no_entry r (k, below, is) = omega arith
 
 -- the end
 

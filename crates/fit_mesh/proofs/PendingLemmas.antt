@@ -27,6 +27,13 @@ outer-of n has a closed leaf = outer-leaf n has a closed (IsIn-contains a (leave
 pub leaf-of : (n : ℕ) (has : ℕ → Bool) (a : ℕ) → IsClosed n has → IsOuter n has a → Contains (leaves_of n has) a
 leaf-of n has a closed outer = Contains-in a (leaves_of n has) (leaf-outer n has a closed outer)
 
+-- it is not split
+pub unsplit : (n : ℕ) (has : ℕ → Bool) (a : ℕ) → IsClosed n has → Contains (leaves_of n has) a → has a ≡ false
+unsplit n has a closed leaf = ⊎_elim
+    (λ is. absurd ((outer-of n has a closed leaf).outside is))
+    (λ lacks. lacks)
+    (cases_Bool (has a))
+
 -- new members
 
 -- after a forced split
@@ -71,12 +78,13 @@ pending-init n p old new log next t items closed before after extends least wait
 
 -- the children of one member
 pub pending-step : (n : ℕ) (p : ℕ → ℕ) (has : ℕ → Bool) (log : List ℕ) (place t : ℕ) (old new : List (ℕ × ℕ)) →
-    place < length log → t ≡ get_or log place t → IsTrue (has t) → IsHeap pair_cmp new → AreKept old new →
-    ((a : ℕ) → 2 ≤ a → a / 2 ≡ t → 0 < p a → Contains new (p a, a)) →
+    place < length log → t ≡ get_or log place t → IsTrue (has t) → IsClosed n has → IsHeap pair_cmp new →
+    AreKept old new →
+    ((a : ℕ) → 2 ≤ a → a / 2 ≡ t → has a ≡ false → 0 < p a → Contains new (p a, a)) →
     ((r : ℕ × ℕ) → Contains new r →
     Contains old r ⊎ ((r.1 / 2 ≡ t) × (4 ≤ r.1) × (r.0 ≡ p r.1) × (0 < r.0) × IsAddress n r.1)) →
     IsPending n p has (drop place log) old → IsPending n p has (drop (place + 1) log) new
-pending-step n p has log place t old new below at member ordered kept added only pending = record {
+pending-step n p has log place t old new below at member closed ordered kept added only pending = record {
   ordered = ordered;
   entries = λ r h. ⊎_elim
       (λ there. pending.entries r there)
@@ -94,7 +102,8 @@ pending-step n p has log place t old new below at member ordered kept added only
       let split : drop place log ≡ get_or log place t ∷ drop (place + 1) log =
       drop-cons log place t below ∙ ap (λ k. get_or log place t ∷ drop k log) after in
       ⊎_elim
-      (λ (first : get_or log place t ≡ a / 2). inl (added a (omega (arith, late.0)) (sym first ∙ sym at) some))
+      (λ (first : get_or log place t ≡ a / 2).
+      inl (added a (omega (arith, late.0)) (sym first ∙ sym at) (unsplit n has a closed leaf) some))
       (λ rest. inr (late.0, among-in (a / 2) (drop (place + 1) log) rest))
       (IsIn-among (a / 2) (get_or log place t ∷ drop (place + 1) log)
       (subst (λ (l : List ℕ). IsTrue (among l (a / 2))) split late.1)))
@@ -117,17 +126,18 @@ child-address n t a s low half =
     record { low = low; high = omega arith }
 
 -- both children
-pub pair-added : (p : ℕ → ℕ) (t left right : ℕ) (first second : List (ℕ × ℕ)) → left ≡ 2 * t → right ≡ 2 * t + 1 →
-    (0 < p left → Contains first (p left, left)) → AreKept first second →
-    (0 < p right → Contains second (p right, right)) →
-    (a : ℕ) → 2 ≤ a → a / 2 ≡ t → 0 < p a → Contains second (p a, a)
-pair-added p t left right first second is_left is_right one kept two a low half some = ⊎_elim
+pub pair-added : (p : ℕ → ℕ) (has : ℕ → Bool) (t left right : ℕ) (first second : List (ℕ × ℕ)) → left ≡ 2 * t →
+    right ≡ 2 * t + 1 →
+    (has left ≡ false → 0 < p left → Contains first (p left, left)) → AreKept first second →
+    (has right ≡ false → 0 < p right → Contains second (p right, right)) →
+    (a : ℕ) → 2 ≤ a → a / 2 ≡ t → has a ≡ false → 0 < p a → Contains second (p a, a)
+pair-added p has t left right first second is_left is_right one kept two a low half lacks some = ⊎_elim
     (λ even.
     let same : left ≡ a = omega arith in
-    kept (p a, a) (subst (λ z. 0 < p z → Contains first (p z, z)) same one some))
+    kept (p a, a) (subst (λ z. has z ≡ false → 0 < p z → Contains first (p z, z)) same one lacks some))
     (λ odd.
     let same : right ≡ a = omega arith in
-    subst (λ z. 0 < p z → Contains second (p z, z)) same two some)
+    subst (λ z. has z ≡ false → 0 < p z → Contains second (p z, z)) same two lacks some)
     (cases_lt (a % 2) 1)
 
 pub pair-only : (n : ℕ) (p : ℕ → ℕ) (t left right : ℕ) (old first second : List (ℕ × ℕ)) → IsSplittable n t →

@@ -9,11 +9,15 @@ use bintree_addr::Tri;
 use mesh_measure::{off_point, off_triangle};
 use pgm_grid::Grid;
 
-/// The error of the triangle, in units of height, times 2^n.
+/// The error of the triangle, in units of height, times 2^n: of a finest one, which holds its corners alone, none.
 pub fn error(grid: &Grid, t: Tri) -> u32
     requires level { level_of t ≤ 2 * grid.now.n }
     ensures { result ≡ error_of grid.now.n grid.now.heights t }
 {
+    let _address = t.number();
+    if t.level() >= 2 * grid.n() {
+        return 0;
+    }
     off_triangle(grid, t)
 }
 

@@ -12,9 +12,9 @@ ghost use Rattle.fit_mesh.specs.Waiting.{pair_cmp, IsPending, IsWaiting};
 ghost use Rattle.fit_mesh.specs.Grown.{IsNeededBelow, IsBest};
 ghost use Rattle.fit_mesh.specs.Found.{IsFound};
 
-use crate::error::{error, greater};
-use crate::force::{clear, force, set_back};
-use crate::leaves::{next_leaf, push_leaf, push_pair};
+use crate::force::{force, set_back};
+use crate::leaves::{next_leaf, push_pair, push_unsplit};
+use crate::start::start;
 use bintree_addr::Tri;
 use pgm_grid::Grid;
 use std::collections::BinaryHeap;
@@ -51,15 +51,54 @@ pub fn grow(
         result ≡ worst_of e (leaves_of grid.now.n (is_flagged flags.new)) }
 {
     let _level = grid.n();
-    clear(flags);
-    log.clear();
+    start(grid, tolerance, budget, flags, log);
     heap.clear();
-    push_leaf(grid, heap, Tri::LOWER);
-    push_leaf(grid, heap, Tri::UPPER);
-    let first = greater(error(grid, Tri::LOWER), error(grid, Tri::UPPER));
+    fill(grid, heap, flags, log);
+    let first = greatest_waiting(grid, heap, flags, log);
     let growth = refine(grid, tolerance, budget, heap, flags, log, first);
     set_back(flags, log, growth.mark);
     growth.low
+}
+
+/// Lets all leaves wait.
+fn fill(grid: &Grid, heap: &mut BinaryHeap<(u32, u32)>, flags: &[bool], log: &[Tri])
+    requires grown { HasLog grid.now.n flags.now log.now }
+    requires room { 2 * length log.now + 2 ≤ heap_capacity heap.old }
+    requires empty { heap_items heap.old ≡ [] }
+    requires len { heap_len heap.old ≡ 0 }
+    requires ordered { IsHeap pair_cmp (heap_items heap.old) }
+    ensures capacity { heap_capacity heap.old ≤ heap_capacity heap.new }
+    ensures len { heap_len heap.new ≤ 2 * length log.now + 2 }
+    ensures waiting { let e = error_of grid.now.n grid.now.heights in
+        IsWaiting grid.now.n e (is_flagged flags.now) (heap_items heap.new) }
+{
+    let _level = grid.n();
+    push_unsplit(grid, heap, flags, Tri::LOWER);
+    push_unsplit(grid, heap, flags, Tri::UPPER);
+    push_children(grid, heap, flags, log, 0);
+}
+
+/// The greatest error of a leaf.
+fn greatest_waiting(
+    grid: &Grid,
+    heap: &mut BinaryHeap<(u32, u32)>,
+    flags: &[bool],
+    log: &[Tri],
+) -> u32
+    requires grown { HasLog grid.now.n flags.now log.now }
+    requires waiting { let e = error_of grid.now.n grid.now.heights in
+        IsWaiting grid.now.n e (is_flagged flags.now) (heap_items heap.old) }
+    ensures capacity { heap_capacity heap.new ≡ heap_capacity heap.old }
+    ensures len { heap_len heap.new ≤ heap_len heap.old }
+    ensures waiting { let e = error_of grid.now.n grid.now.heights in
+        IsWaiting grid.now.n e (is_flagged flags.now) (heap_items heap.new) }
+    ensures value { let e = error_of grid.now.n grid.now.heights in
+        result ≡ worst_of e (leaves_of grid.now.n (is_flagged flags.now)) }
+{
+    match next_leaf(heap, flags) {
+        None => 0,
+        Some(first) => first.0,
+    }
 }
 
 /// Splits the leaf with the greatest error, with what that forces, until no error exceeds the tolerance or the
@@ -77,16 +116,16 @@ fn refine(
 ) -> Growth
     requires some { 2 ≤ budget }
     requires capacity { 2 * budget ≤ heap_capacity heap.old }
-    requires len { heap_len heap.old ≤ 2 }
+    requires len { heap_len heap.old ≤ 2 * length log.old.items + 2 }
+    requires few { length log.old.items + 2 ≤ budget }
     requires room { 2 ^ (2 * grid.now.n + 1) ≤ vec_capacity log.old }
-    requires empty { log.old.items ≡ [] }
     requires grown { HasLog grid.now.n flags.old log.old.items }
     requires waiting { let e = error_of grid.now.n grid.now.heights in
         IsWaiting grid.now.n e (is_flagged flags.old) (heap_items heap.old) }
     requires needed { let e = error_of grid.now.n grid.now.heights in
         IsNeededBelow grid.now.n e first (is_flagged flags.old) }
     requires best { let e = error_of grid.now.n grid.now.heights in
-        IsBest grid.now.n e tolerance budget first log.old.items 0 }
+        IsBest grid.now.n e tolerance budget first log.old.items (length log.old.items) }
     ensures capacity { heap_capacity heap.old ≤ heap_capacity heap.new }
     ensures room { vec_capacity log.new ≡ vec_capacity log.old }
     ensures grown { HasLog grid.now.n flags.new log.new.items }
@@ -98,7 +137,7 @@ fn refine(
 {
     let _level = grid.n();
     let mut low = first;
-    let mut mark = 0;
+    let mut mark = log.len();
     while low > tolerance {
         match next_leaf(heap, flags) {
             None => {
@@ -143,6 +182,6 @@ fn push_children(
         IsWaiting grid.now.n e (is_flagged flags.now) (heap_items heap.new) }
 {
     for place in before..log.len() {
-        push_pair(grid, heap, log[place]);
+        push_pair(grid, heap, flags, log[place]);
     }
 }

@@ -1,6 +1,6 @@
 //! The leaves that wait for a split, the one with the greatest error first.
 
-ghost use Rattle.std.specs.Prelude.{◌≡◌, ℕ, ◌+◌, ◌*◌, ◌^◌, ◌/◌, ◌<◌, ◌≤◌, ◌⊎◌, IfSome, IfNone, [], Contains};
+ghost use Rattle.std.specs.Prelude.{◌≡◌, ℕ, ◌+◌, ◌*◌, ◌^◌, ◌/◌, ◌<◌, ◌≤◌, ◌⊎◌, IfSome, IfNone, [], Contains, false};
 ghost use Rattle.std.specs.Prelude.{slice_index_or};
 ghost use Rattle.std.specs.BinaryHeap.{IsHeap, heap_items, heap_len, heap_capacity};
 ghost use Rattle.mesh_defs.specs.Triangle.{level_of, IsAddress, IsSplittable};
@@ -9,12 +9,13 @@ ghost use Rattle.fit_laws.specs.Error.{error_of};
 ghost use Rattle.fit_mesh.specs.Waiting.{pair_cmp, AreKept, AreLeft, IsFirst};
 
 use crate::error::error;
+use address_flags::is_set;
 use bintree_addr::Tri;
 use pgm_grid::Grid;
 use std::collections::BinaryHeap;
 
 /// Lets the triangle wait, where it has an error.
-pub fn push_leaf(grid: &Grid, heap: &mut BinaryHeap<(u32, u32)>, t: Tri)
+fn push_leaf(grid: &Grid, heap: &mut BinaryHeap<(u32, u32)>, t: Tri)
     requires level { level_of t ≤ 2 * grid.now.n }
     requires room { heap_len heap.old < heap_capacity heap.old }
     requires ordered { IsHeap pair_cmp (heap_items heap.old) }
@@ -36,8 +37,28 @@ pub fn push_leaf(grid: &Grid, heap: &mut BinaryHeap<(u32, u32)>, t: Tri)
     }
 }
 
-/// Lets the children of a triangle wait.
-pub fn push_pair(grid: &Grid, heap: &mut BinaryHeap<(u32, u32)>, t: Tri)
+/// The same, where it is not split.
+pub fn push_unsplit(grid: &Grid, heap: &mut BinaryHeap<(u32, u32)>, flags: &[bool], t: Tri)
+    requires level { level_of t ≤ 2 * grid.now.n }
+    requires room { heap_len heap.old < heap_capacity heap.old }
+    requires ordered { IsHeap pair_cmp (heap_items heap.old) }
+    ensures capacity { heap_capacity heap.old ≤ heap_capacity heap.new }
+    ensures len { heap_len heap.new ≤ heap_len heap.old + 1 }
+    ensures ordered { IsHeap pair_cmp (heap_items heap.new) }
+    ensures kept { AreKept (heap_items heap.old) (heap_items heap.new) }
+    ensures added { let e = error_of grid.now.n grid.now.heights in
+        is_flagged flags.now t ≡ false → 0 < e t → Contains (heap_items heap.new) (e t, t) }
+    ensures only { let e = error_of grid.now.n grid.now.heights in
+        (r : ℕ × ℕ) → Contains (heap_items heap.new) r →
+        Contains (heap_items heap.old) r ⊎ ((r ≡ (e t, t)) × (0 < e t)) }
+{
+    if !is_set(flags, t) {
+        push_leaf(grid, heap, t);
+    }
+}
+
+/// Lets the children of a triangle wait that are not split.
+pub fn push_pair(grid: &Grid, heap: &mut BinaryHeap<(u32, u32)>, flags: &[bool], t: Tri)
     requires splittable { IsSplittable grid.now.n t }
     requires room { heap_len heap.old + 2 ≤ heap_capacity heap.old }
     requires ordered { IsHeap pair_cmp (heap_items heap.old) }
@@ -46,14 +67,15 @@ pub fn push_pair(grid: &Grid, heap: &mut BinaryHeap<(u32, u32)>, t: Tri)
     ensures ordered { IsHeap pair_cmp (heap_items heap.new) }
     ensures kept { AreKept (heap_items heap.old) (heap_items heap.new) }
     ensures added { let e = error_of grid.now.n grid.now.heights in
-        (a : ℕ) → 2 ≤ a → a / 2 ≡ t → 0 < e a → Contains (heap_items heap.new) (e a, a) }
+        (a : ℕ) → 2 ≤ a → a / 2 ≡ t → is_flagged flags.now a ≡ false → 0 < e a →
+        Contains (heap_items heap.new) (e a, a) }
     ensures only { let e = error_of grid.now.n grid.now.heights in
         (r : ℕ × ℕ) → Contains (heap_items heap.new) r → Contains (heap_items heap.old) r
         ⊎ ((r.1 / 2 ≡ t) × (4 ≤ r.1) × (r.0 ≡ e r.1) × (0 < r.0) × IsAddress grid.now.n r.1) }
 {
     let _level = grid.n();
-    push_leaf(grid, heap, t.left());
-    push_leaf(grid, heap, t.right());
+    push_unsplit(grid, heap, flags, t.left());
+    push_unsplit(grid, heap, flags, t.right());
 }
 
 /// The leaf with the greatest error, where one has an error. Drops what was split before.

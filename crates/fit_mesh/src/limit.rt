@@ -20,13 +20,17 @@ pub enum Limit<'a> {
     Own(&'a [u32]),
 }
 
-/// Whether the triangle is off by more.
+/// Whether the triangle is off by more, which no finest one is.
 pub(crate) fn is_over(grid: &Grid, t: Tri, limit: Limit) -> bool
     requires level { level_of t ≤ 2 * grid.now.n }
     requires complete { IsComplete grid.now.n limit }
     ensures { IsTrue result
         ↔ (tolerance_of limit.entry < error_within grid.now.n grid.now.heights limit.entry t) }
 {
+    let _address = t.number();
+    if t.level() >= 2 * grid.n() {
+        return false;
+    }
     match limit {
         Limit::Common(tolerance) => exceeds(grid, t, tolerance),
         Limit::Own(tolerances) => exceeds_own(grid, t, tolerances),

@@ -1,6 +1,6 @@
 //! The fewest triangles within a limit: what is required is split, and then whatever is off by more, in any order.
 
-ghost use Rattle.std.specs.Prelude.{◌≡◌, ℕ, ◌+◌, ◌-◌, ◌*◌, ◌/◌, ◌^◌, ◌<◌, ◌≤◌, Bool, IsTrue, [], length, vec_capacity};
+ghost use Rattle.std.specs.Prelude.{◌≡◌, ℕ, ◌+◌, ◌-◌, ◌*◌, ◌/◌, ◌^◌, ◌<◌, ◌≤◌, ◌↔◌, Bool, IsTrue, [], length, vec_capacity};
 ghost use Rattle.mesh_defs.specs.Triangle.{IsAddress, IsSplittable};
 ghost use Rattle.mesh_defs.specs.ClosedSet.{IsClosed, IsSubset, among};
 ghost use Rattle.mesh_laws.specs.Sweep.{is_flagged};
@@ -43,7 +43,7 @@ pub fn settle_anew(
     split_required(flags, log, grid.n(), required);
     ask(grid, limit, flags, log, Tri::LOWER);
     ask(grid, limit, flags, log, Tri::UPPER);
-    settle(grid, limit, flags, log);
+    settle(grid, limit, usize::MAX, flags, log);
 }
 
 /// Goes on from a closed set: splits what is required, and whatever is off by more of what comes with that.
@@ -73,13 +73,20 @@ pub fn settle_more(
 {
     log.clear();
     split_required(flags, log, grid.n(), required);
-    settle(grid, limit, flags, log);
+    settle(grid, limit, usize::MAX, flags, log);
 }
 
-/// Splits the children of the log's entries that are off by more than the limit.
+/// Splits the children of the log's entries that are off by more than the limit, until there is none, or more entries
+/// than `most`: answers whether there is none.
 ///
 /// What that splits is logged, and the entries come up in turn: the children of each are asked once.
-fn settle(grid: &Grid, limit: Limit, flags: &mut [bool], log: &mut Vec<Tri>)
+pub fn settle(
+    grid: &Grid,
+    limit: Limit,
+    most: usize,
+    flags: &mut [bool],
+    log: &mut Vec<Tri>,
+) -> bool
     requires complete { IsComplete grid.now.n limit }
     requires flags { length flags.old ≡ 2 ^ (2 * grid.now.n + 1) }
     requires room { 2 ^ (2 * grid.now.n + 1) ≤ vec_capacity log.old }
@@ -88,21 +95,27 @@ fn settle(grid: &Grid, limit: Limit, flags: &mut [bool], log: &mut Vec<Tri>)
     ensures flags { length flags.new ≡ length flags.old }
     ensures capacity { vec_capacity log.new ≡ vec_capacity log.old }
     ensures log { KeepsLog flags.old log.old.items flags.new log.new.items }
+    ensures kept { Extends log.old.items log.new.items }
     ensures closed { IsClosed grid.now.n (is_flagged flags.new) }
     ensures more { IsSubset (is_flagged flags.old) (is_flagged flags.new) }
-    ensures least { let e = error_within grid.now.n grid.now.heights limit.entry in (other : ℕ → Bool) →
-        IsClosed grid.now.n other → IsSubset (is_flagged flags.old) other →
+    ensures count { IsTrue result ↔ (length log.new.items ≤ most) }
+    ensures least { let e = error_within grid.now.n grid.now.heights limit.entry in IsTrue result →
+        (other : ℕ → Bool) → IsClosed grid.now.n other → IsSubset (is_flagged flags.old) other →
         IsSettledIn grid.now.n e (tolerance_of limit.entry) (among log.new.items) other →
         IsSubset (is_flagged flags.new) other }
-    ensures settled { let e = error_within grid.now.n grid.now.heights limit.entry in
+    ensures settled { let e = error_within grid.now.n grid.now.heights limit.entry in IsTrue result →
         AreSettled grid.now.n e (tolerance_of limit.entry) (is_flagged flags.new) log.new.items }
 {
     let mut next = 0;
     while next < log.len() {
+        if log.len() > most {
+            return false;
+        }
         let t = log[next];
         ask_pair(grid, limit, flags, log, t);
         next += 1;
     }
+    log.len() <= most
 }
 
 /// Splits each child of a member that is off by more than the limit.
@@ -133,7 +146,7 @@ fn ask_pair(grid: &Grid, limit: Limit, flags: &mut [bool], log: &mut Vec<Tri>, t
 }
 
 /// Splits a triangle whose parent is split, where it is off by more than the limit.
-fn ask(grid: &Grid, limit: Limit, flags: &mut [bool], log: &mut Vec<Tri>, t: Tri)
+pub fn ask(grid: &Grid, limit: Limit, flags: &mut [bool], log: &mut Vec<Tri>, t: Tri)
     requires complete { IsComplete grid.now.n limit }
     requires address { IsAddress grid.now.n t }
     requires flags { length flags.old ≡ 2 ^ (2 * grid.now.n + 1) }

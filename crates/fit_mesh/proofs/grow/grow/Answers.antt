@@ -1,83 +1,41 @@
--- The beginning is the empty set, and the end is that of the loop.
-use Rattle.std.proofs.Common.{◌≡◌, ℕ, ◌+◌, ◌*◌, ◌^◌, Bool, false, IsTrue, List, length, take, max, sym, ◌∙◌, subst, ap, ap₂}
-use Rattle.std.proofs.Common.{arith}
-use Rattle.std.specs.BinaryHeap.{heap_items}
-use Rattle.std.proofs.lemmas.List.{length-replicate}
-use Rattle.bintree_laws.proofs.LevelLemmas.{level_of-root}
-use Rattle.mesh_laws.proofs.DescentLemmas.{IsAddress-down, IsDown-2, IsDown-3}
+-- The beginning is a least settled set, and the end is that of the loop.
+use Rattle.std.proofs.Common.{ℕ, ◌+◌, ◌*◌, ◌^◌, IsTrue, List, take, sym, ◌∙◌, subst, ap, arith}
 use Rattle.mesh_defs.specs.ClosedSet.{among}
 use Rattle.mesh_laws.specs.Sweep.{is_flagged}
-use Rattle.mesh_laws.proofs.FlagLemmas.{flagged-unset}
 use Rattle.mesh_laws.proofs.SweepLemmas.{splittable-lt}
 use Rattle.fit_laws.specs.Error.{error_of}
 use Rattle.fit_mesh.specs.Log.{HasLog}
-use Rattle.fit_mesh.specs.Grown.{IsBest}
-use Rattle.fit_mesh.proofs.GrownLemmas.{start-grown, start-needed, start-best, start-waiting}
-use Rattle.fit_mesh.proofs.GrownLemmas.{end-found, end-worst}
+use Rattle.fit_mesh.proofs.GrownLemmas.{start-needed, start-best, end-found, end-worst}
 use Rattle.fit_mesh.proofs.grow.grow.Goals as goal
 
-pub push_leaf-requires-clause-level : goal.push_leaf-requires-clause-level
-push_leaf-requires-clause-level c = let l = level_of-root 2 (omega arith) (omega arith) in omega arith
+pub fill-requires-clause-grown : goal.fill-requires-clause-grown
+fill-requires-clause-grown c =
+    subst (λ (l : List ℕ). HasLog c.args.grid.now.n c.start.new.flags l) (sym c.deref.ensures.value) c.start.ensures.grown
 
-pub push_leaf-requires-2-clause-level : goal.push_leaf-requires-2-clause-level
-push_leaf-requires-2-clause-level c = let l = level_of-root 3 (omega arith) (omega arith) in omega arith
-
-pub error-requires : goal.error-requires
-error-requires c = let l = level_of-root 2 (omega arith) (omega arith) in record { level = omega arith }
-
-pub error-requires-2 : goal.error-requires-2
-error-requires-2 c = let l = level_of-root 3 (omega arith) (omega arith) in record { level = omega arith }
-
-pub refine-growth-requires-clause-grown : goal.refine-growth-requires-clause-grown
-refine-growth-requires-clause-grown c =
-    let n : ℕ = c.args.grid.now.n in
-    let empty : (a : ℕ) → is_flagged c.clear.new.flags a ≡ false =
-    λ a. subst (λ (l : List Bool). is_flagged l a ≡ false) (sym c.clear.ensures)
-    (flagged-unset (length c.args.flags.now) a) in
-    let room : length c.clear.new.flags ≡ 2 ^ (2 * n + 1) =
-    ap (λ (l : List Bool). length l) c.clear.ensures
-    ∙ length-replicate (length c.args.flags.now) false ∙ c.requires.flags in
-    subst (λ (l : List ℕ). HasLog n c.clear.new.flags l) (sym c.clear-2.ensures.items)
-    (start-grown n (error_of n c.args.grid.now.heights) c.clear.new.flags empty room)
-
-pub refine-growth-requires-clause-waiting : goal.refine-growth-requires-clause-waiting
-refine-growth-requires-clause-waiting c =
-    let n : ℕ = c.args.grid.now.n in
-    let empty : (a : ℕ) → is_flagged c.clear.new.flags a ≡ false =
-    λ a. subst (λ (l : List Bool). is_flagged l a ≡ false) (sym c.clear.ensures)
-    (flagged-unset (length c.args.flags.now) a) in
-    let low = c.n-level.ensures.low in
-    let value = c.n-level.ensures.value in
-    start-waiting n (error_of n c.args.grid.now.heights) c.clear.new.flags empty _ _
-    (heap_items c.push_leaf-2.new.heap) c.clear-3.ensures.items
-    (omega arith) (IsAddress-down n (2 * n) 2 (IsDown-2 n)) (IsAddress-down n (2 * n) 3 (IsDown-3 n))
-    c.push_leaf-2.ensures.ordered c.push_leaf-2.ensures.kept c.push_leaf.ensures.added c.push_leaf-2.ensures.added
-    c.push_leaf.ensures.only c.push_leaf-2.ensures.only
+pub greatest_waiting-first-requires-clause-grown : goal.greatest_waiting-first-requires-clause-grown
+greatest_waiting-first-requires-clause-grown c =
+    subst (λ (l : List ℕ). HasLog c.args.grid.now.n c.start.new.flags l) (sym c.deref-2.ensures.value)
+    c.start.ensures.grown
 
 pub refine-growth-requires-clause-needed : goal.refine-growth-requires-clause-needed
 refine-growth-requires-clause-needed c =
     let n : ℕ = c.args.grid.now.n in
-    let empty : (a : ℕ) → is_flagged c.clear.new.flags a ≡ false =
-    λ a. subst (λ (l : List Bool). is_flagged l a ≡ false) (sym c.clear.ensures)
-    (flagged-unset (length c.args.flags.now) a) in
-    start-needed n (error_of n c.args.grid.now.heights) c.clear.new.flags empty c.greater-first.result
+    let from = c.start.ensures.fit in
+    start-needed n (error_of n c.args.grid.now.heights) from.0 c.start.new.flags c.start.new.log.items
+    c.start.ensures.grown from.2 c.greatest_waiting-first.result c.greatest_waiting-first.ensures.value
 
 pub refine-growth-requires-clause-best : goal.refine-growth-requires-clause-best
 refine-growth-requires-clause-best c =
     let n : ℕ = c.args.grid.now.n in
-    let empty : (a : ℕ) → is_flagged c.clear.new.flags a ≡ false =
-    λ a. subst (λ (l : List Bool). is_flagged l a ≡ false) (sym c.clear.ensures)
-    (flagged-unset (length c.args.flags.now) a) in
-    subst (λ (l : List ℕ). IsBest n (error_of n c.args.grid.now.heights) c.args.tolerance c.args.budget
-    c.greater-first.result l 0) (sym c.clear-2.ensures.items)
-    (start-best n (error_of n c.args.grid.now.heights) c.clear.new.flags empty c.args.tolerance
-    c.args.budget c.greater-first.result
-    (c.greater-first.ensures ∙ ap₂ max c.error.ensures c.error-2.ensures) c.requires.some)
+    let from = c.start.ensures.fit in
+    start-best n (error_of n c.args.grid.now.heights) from.0 c.start.new.flags c.start.new.log.items
+    c.start.ensures.grown from.2 c.args.tolerance c.args.budget c.greatest_waiting-first.result from.1
+    c.greatest_waiting-first.ensures.value c.start.ensures.few
 
 pub set_back-requires-clause-addresses : goal.set_back-requires-clause-addresses
 set_back-requires-clause-addresses c a h =
     let grown = c.refine-growth.ensures.grown in
-    let listed = subst (λ (l : List ℕ). IsTrue (among l a)) c.deref.ensures.value h in
+    let listed = subst (λ (l : List ℕ). IsTrue (among l a)) c.deref-3.ensures.value h in
     let lt = splittable-lt c.args.grid.now.n a (grown.closed.splittable a (grown.logged.same a ∙ listed)) in
     let room = grown.room in omega arith
 
@@ -88,7 +46,7 @@ returns-clause-found c =
     end-found n (error_of n c.args.grid.now.heights) c.args.tolerance c.args.budget growth.low
     c.refine-growth.new.log.items growth.mark
     c.set_back.new.flags (is_flagged c.refine-growth.new.flags) c.refine-growth.ensures.best
-    (λ a. c.set_back.ensures.same a ∙ ap (λ (l : List ℕ). among (take growth.mark l) a) c.deref.ensures.value)
+    (λ a. c.set_back.ensures.same a ∙ ap (λ (l : List ℕ). among (take growth.mark l) a) c.deref-3.ensures.value)
     c.refine-growth.ensures.end
 
 pub returns-clause-worst : goal.returns-clause-worst
@@ -97,4 +55,4 @@ returns-clause-worst c =
     let growth = c.refine-growth.result in
     end-worst n (error_of n c.args.grid.now.heights) c.args.tolerance c.args.budget growth.low
     c.refine-growth.new.log.items growth.mark c.set_back.new.flags c.refine-growth.ensures.best
-    (λ a. c.set_back.ensures.same a ∙ ap (λ (l : List ℕ). among (take growth.mark l) a) c.deref.ensures.value)
+    (λ a. c.set_back.ensures.same a ∙ ap (λ (l : List ℕ). among (take growth.mark l) a) c.deref-3.ensures.value)

@@ -25,6 +25,6 @@ loop-place-preserved c =
           c.index-log-place.result _ _ c.loop-place-test.true c.index-log-place.is
           (listed-member c.args.flags.now c.args.log.now c.loop-place.place c.index-log-place.result
           c.requires.grown.logged c.loop-place-test.true c.index-log-place.is)
-          c.push_pair.ensures.ordered c.push_pair.ensures.kept c.push_pair.ensures.added c.push_pair.ensures.only
+          c.requires.grown.closed c.push_pair.ensures.ordered c.push_pair.ensures.kept c.push_pair.ensures.added c.push_pair.ensures.only
           i.pending;
     }

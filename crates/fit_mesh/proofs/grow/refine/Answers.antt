@@ -33,8 +33,8 @@ loop-low-preserved-in-None c =
       grown = i.grown;
       waiting = w;
       needed = λ k less. absurd (omega arith);
-      best = best-mark n p c.args.tolerance c.args.budget c.loop-low.low 0 c.loop-low.flags log c.len-mark.result
-          (let e = c.len-mark.ensures in omega arith) i.grown i.needed
+      best = best-mark n p c.args.tolerance c.args.budget c.loop-low.low 0 c.loop-low.flags log c.len-mark-in-None.result
+          (let e = c.len-mark-in-None.ensures in omega arith) i.grown i.needed
           (omega arith) above
           (none-worst n p c.loop-low.flags log (heap_items c.next_leaf.new.heap) i.grown w c.in-None.ensures.none)
           (let few = i.few in omega arith);

@@ -6,6 +6,7 @@ use Rattle.mesh_laws.specs.Sweep.{is_flagged}
 use Rattle.fit_mesh.specs.Limit.{tolerance_of, error_within}
 use Rattle.fit_mesh.specs.Grown.{AreSettled}
 use Rattle.fit_mesh.specs.Splits.{IsSettledIn}
+use Rattle.fit_mesh.proofs.ForceLemmas.{extends-same, extends-extends}
 use Rattle.fit_mesh.proofs.SettleLemmas.{entry-flagged, asked-next, asked-none, least-next}
 use Rattle.fit_mesh.proofs.settle.settle.Goals as goal
 
@@ -15,6 +16,7 @@ loop-next-init c = record {
   capacity = refl;
   place = omega arith;
   log = λ before logged. logged;
+  kept = extends-same c.args.log.now.items;
   closed = c.requires.closed;
   more = λ a is. is;
   least = λ other closed inside settled. inside;
@@ -55,6 +57,7 @@ loop-next-preserved c =
       capacity = c.ask_pair.ensures.capacity ∙ i.capacity;
       place = omega arith;
       log = λ before logged. c.ask_pair.ensures.log before (i.log before logged);
+      kept = extends-extends c.args.log.now.items log next i.kept c.ask_pair.ensures.kept;
       closed = c.ask_pair.ensures.closed;
       more = λ a is. c.ask_pair.ensures.more a (i.more a is);
       least = least-next n (error_within n c.args.grid.now.heights c.args.limit) (tolerance_of c.args.limit)
@@ -70,7 +73,7 @@ pub returns-clause-log : goal.returns-clause-log
 returns-clause-log c before logged = c.loop-next.invariant.log before logged
 
 pub returns-clause-settled : goal.returns-clause-settled
-returns-clause-settled c =
+returns-clause-settled c few =
     let n : ℕ = c.args.grid.now.n in
     let log : List ℕ = c.loop-next.log.items in
     let all : take c.loop-next.next log ≡ log = take_all c.loop-next.next log (omega arith) in
@@ -78,7 +81,7 @@ returns-clause-settled c =
     (is_flagged c.loop-next.flags) l) all c.loop-next.invariant.asked
 
 pub returns-clause-least : goal.returns-clause-least
-returns-clause-least c other closed inside settled =
+returns-clause-least c few other closed inside settled =
     let n : ℕ = c.args.grid.now.n in
     let log : List ℕ = c.loop-next.log.items in
     let all : take c.loop-next.next log ≡ log = take_all c.loop-next.next log (omega arith) in

@@ -1,5 +1,5 @@
 -- From nothing: what is required, the halves, and then the children of all members.
-use Rattle.std.proofs.Common.{◌≡◌, ℕ, ◌+◌, ◌*◌, ◌^◌, replicate, Bool, false, ◌||◌, List, [], length, sym, ◌∙◌, subst, ap, arith}
+use Rattle.std.proofs.Common.{◌≡◌, ℕ, ◌+◌, ◌*◌, ◌^◌, replicate, Bool, IsTrue, false, ◌||◌, List, [], length, sym, ◌∙◌, subst, ap, arith}
 use Rattle.std.proofs.lemmas.Bool.{or_right}
 use Rattle.std.proofs.lemmas.List.{length-replicate}
 use Rattle.mesh_laws.proofs.DescentLemmas.{IsAddress-down, IsDown-2, IsDown-3}
@@ -69,6 +69,7 @@ settle-requires-clause-log c =
 pub returns-clause-fit : goal.returns-clause-fit
 returns-clause-fit c =
     let n : ℕ = c.args.grid.now.n in
+    let all : IsTrue c.settle.result = c.settle.ensures.count.1 (omega arith) in
     let e : ℕ → ℕ = error_within n c.args.grid.now.heights c.args.limit in
     let tolerance : ℕ = tolerance_of c.args.limit in
     let empty : (a : ℕ) → is_flagged c.clear.new.flags a ≡ false =
@@ -85,7 +86,7 @@ returns-clause-fit c =
     settled-with n tolerance e required last c.settle.ensures.closed
     (λ a is. c.settle.ensures.more a (c.ask-2.ensures.more a (c.ask.ensures.more a
     (least.holds a (or_right (is_flagged c.clear.new.flags a) (required a) is)))))
-    (λ other fine splits. c.settle.ensures.least other fine.closed
+    (λ other fine splits. c.settle.ensures.least all other fine.closed
     (c.ask-2.ensures.least other fine.closed
     (c.ask.ensures.least other fine.closed
     (first-needed n tolerance e (is_flagged c.clear.new.flags) required first empty least other fine splits)
@@ -95,4 +96,4 @@ returns-clause-fit c =
     (anew-outer n tolerance e last c.settle.new.log.items since.same
     (λ above. c.settle.ensures.more 2 (c.ask-2.ensures.more 2 (c.ask.ensures.settled above)))
     (λ above. c.settle.ensures.more 3 (c.ask-2.ensures.settled above))
-    c.settle.ensures.settled)
+    (c.settle.ensures.settled all))

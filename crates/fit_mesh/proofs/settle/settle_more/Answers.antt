@@ -1,5 +1,5 @@
 -- What is required, and then the children of all that is new.
-use Rattle.std.proofs.Common.{◌≡◌, ℕ, ◌/◌, Bool, true, false, not, IsTrue, ◌||◌, List, [], refl, sym, ◌∙◌, ap, subst, ⊎_elim}
+use Rattle.std.proofs.Common.{◌≡◌, ℕ, ◌/◌, Bool, true, false, not, IsTrue, ◌||◌, List, [], refl, sym, ◌∙◌, ap, subst, arith, ⊎_elim}
 use Rattle.mesh_defs.specs.ClosedSet.{IsLeastClosed, among}
 use Rattle.std.proofs.lemmas.Bool.{or_cases, or_left, or_right, both_ways}
 use Rattle.mesh_laws.specs.Sweep.{is_flagged}
@@ -29,6 +29,7 @@ settle-requires-clause-log c = (
 pub returns-clause-fit : goal.returns-clause-fit
 returns-clause-fit c earlier before =
     let n : ℕ = c.args.grid.now.n in
+    let all : IsTrue c.settle.result = c.settle.ensures.count.1 (omega arith) in
     let e : ℕ → ℕ = error_within n c.args.grid.now.heights c.args.limit in
     let tolerance : ℕ = tolerance_of c.args.limit in
     let old : ℕ → Bool = is_flagged c.args.flags.now in
@@ -42,12 +43,12 @@ returns-clause-fit c earlier before =
     let since = c.settle.ensures.log old (c.split_required.ensures.log old logged) in
     settled-with n tolerance e (λ a. earlier a || required a) last c.settle.ensures.closed
     (λ a is. c.settle.ensures.more a (more-splits n tolerance e earlier old required first before least a is))
-    (λ other fine splits. c.settle.ensures.least other fine.closed
+    (λ other fine splits. c.settle.ensures.least all other fine.closed
     (more-needed n tolerance e earlier old required first before least other fine splits)
     (λ a address big asked parent. settled-inside n tolerance e other a fine address (λ _. parent)))
     (more-outer n tolerance e old last c.settle.new.log.items before.settled
     (λ a is. c.settle.ensures.more a (least.holds a (or_left (old a) (required a) is))) since.same
-    c.settle.ensures.settled)
+    (c.settle.ensures.settled all))
 
 -- what was not there
 absent : (x : Bool) → IsTrue (not x) → x ≡ false
@@ -57,6 +58,7 @@ absent false is = refl
 pub returns-clause-grown : goal.returns-clause-grown
 returns-clause-grown c =
     let n : ℕ = c.args.grid.now.n in
+    let all : IsTrue c.settle.result = c.settle.ensures.count.1 (omega arith) in
     let old : ℕ → Bool = is_flagged c.args.flags.now in
     let first : ℕ → Bool = is_flagged c.split_required.new.flags in
     let required : ℕ → Bool = is_required n c.args.required in
@@ -69,13 +71,13 @@ returns-clause-grown c =
       closed = c.settle.ensures.closed;
       keeps = λ a is. c.settle.ensures.more a (least.holds a (or_left (old a) (required a) is));
       splits = λ a is. c.settle.ensures.more a (least.holds a (or_right (old a) (required a) is));
-      settled = λ a address big new member above. c.settle.ensures.settled a address big
+      settled = λ a address big new member above. c.settle.ensures.settled all a address big
           (⊎_elim
           (λ is. absurd (both_ways (old (a / 2)) (absent (old (a / 2)) new) is))
           (λ is. is)
           (or_cases (old (a / 2)) (among c.settle.new.log.items (a / 2)) (sym (since.same (a / 2)) ∙ member)))
           above;
-      least = λ other closed keeps splits settled. c.settle.ensures.least other closed
+      least = λ other closed keeps splits settled. c.settle.ensures.least all other closed
           (least.least other closed (λ a is. ⊎_elim
           (λ h. keeps a h)
           (λ h. splits a h)
