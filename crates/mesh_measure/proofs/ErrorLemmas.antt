@@ -1,9 +1,8 @@
 -- The error of a triangle: how great it is by its gaps, and whether it is above a tolerance.
-use Rattle.std.proofs.Common.{◌≡◌, ℕ, ◌-◌, ◌*◌, ◌/◌, ◌^◌, ◌<◌, ◌≤◌, ◌↔◌, true, List, sym}
-use Rattle.std.proofs.Common.{◌∙◌, ap, subst, arith, ⊎_elim, mul-le-mul_left}
-use Rattle.std.proofs.Math.Nat.{le-div_iff_mul-le, le_of_mul-le-mul_left, mul-sub}
+use Rattle.std.proofs.Common.{◌≡◌, ℕ, ◌-◌, ◌*◌, ◌^◌, ◌<◌, ◌≤◌, ◌↔◌, true, List, sym}
+use Rattle.std.proofs.Common.{◌∙◌, ap, subst, arith, ⊎_elim}
+use Rattle.std.proofs.Math.Nat.{le_of_mul-le-mul_left, mul-sub}
 use Rattle.std.proofs.lemmas.Bool.{cases_lt}
-use Rattle.std.proofs.lemmas.Nat.{pow_pos}
 use Rattle.mesh_defs.specs.declared.point.Point.{Point}
 use Rattle.mesh_defs.specs.declared.point.Corners.{Corners}
 use Rattle.mesh_defs.specs.Triangle.{IsAddress, corners_of}
@@ -16,7 +15,7 @@ use Rattle.fit_laws.specs.PlaneHeight.{area_of, off_plane, offs_in, excess_at, e
 use Rattle.fit_laws.proofs.PlaneLemmas.{area_of-some, held-le}
 use Rattle.mesh_measure.specs.declared.shape.Bounds.{Bounds}
 use Rattle.mesh_measure.specs.Facet.{AreBounds}
-use Rattle.mesh_measure.specs.Most.{gap_of, gap_beyond, IsMostUntil, IsInBounds}
+use Rattle.mesh_measure.specs.Most.{gap_beyond, IsMostUntil, IsInBounds}
 use Rattle.mesh_measure.proofs.GapLemmas.{off_plane-gap}
 use Rattle.mesh_measure.proofs.BoxLemmas.{IsInBounds-held, greatest-most}
 

@@ -1,5 +1,5 @@
 -- The midpoint of a base: the triangle holds it, and there its plane is halfway between the heights at the ends.
-use Rattle.std.proofs.Common.{◌≡◌, ℕ, suc, ◌+◌, ◌-◌, ◌*◌, ◌/◌, ◌^◌, ◌<◌, ◌≤◌, true, List, sym, ◌∙◌, ap, subst, arith}
+use Rattle.std.proofs.Common.{◌≡◌, ℕ, suc, ◌+◌, ◌-◌, ◌*◌, ◌^◌, ◌<◌, ◌≤◌, true, List, sym, ◌∙◌, ap, subst, arith}
 use Rattle.std.proofs.Math.Nat.{pow-succ'}
 use Rattle.std.proofs.lemmas.Nat.{pow_pos}
 use Rattle.std.proofs.lemmas.Bool.{le-leb, and_from}
@@ -13,7 +13,7 @@ use Rattle.bintree_laws.proofs.LatticeLemmas.{HasEvenBase-corners_of}
 use Rattle.bintree_laws.proofs.MateLemmas.{cancel}
 use Rattle.bintree_laws.proofs.WeightLemmas.{HasArea, HasArea-corners_of}
 use Rattle.fit_laws.specs.PlaneHeight.{doubled_area, area_of, weighted, plane_height, off_plane, offs_in}
-use Rattle.fit_laws.proofs.PlaneLemmas.{area_of-some, plane_height-exact, apart-scaled, held-le}
+use Rattle.fit_laws.proofs.PlaneLemmas.{plane_height-exact, apart-scaled, held-le}
 
 module _ (c : Corners) (d : ℕ) (even : HasEvenBase c) (h : HasArea c d) where
   abbrev m : Point

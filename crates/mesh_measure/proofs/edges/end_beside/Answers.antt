@@ -1,5 +1,5 @@
 -- Upright, to the right, to the left.
-use Rattle.std.proofs.Common.{◌+◌, ◌-◌, ◌<◌, ◌≤◌, arith}
+use Rattle.std.proofs.Common.{arith}
 use Rattle.mesh_measure.proofs.EdgeLemmas.{left-up, left-up_right, left-up_left}
 use Rattle.mesh_measure.proofs.edges.end_beside.Goals as goal
 

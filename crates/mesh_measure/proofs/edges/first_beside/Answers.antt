@@ -1,5 +1,5 @@
 -- Upright, to the right, to the left.
-use Rattle.std.proofs.Common.{◌+◌, ◌-◌, ◌<◌, ◌≤◌, arith}
+use Rattle.std.proofs.Common.{arith}
 use Rattle.mesh_measure.proofs.EdgeLemmas.{left-down, left-down_right, left-down_left}
 use Rattle.mesh_measure.proofs.edges.first_beside.Goals as goal
 

@@ -1,5 +1,5 @@
 -- To the right, and to the left.
-use Rattle.std.proofs.Common.{◌<◌, inl, inr, arith}
+use Rattle.std.proofs.Common.{inl, inr, arith}
 use Rattle.std.proofs.lemmas.Bool.{ltb-true, ltb-false}
 use Rattle.mesh_measure.proofs.EdgeLemmas.{left-level, left-level_inner}
 use Rattle.mesh_measure.proofs.edges.is_beyond.Goals as goal

@@ -1,5 +1,5 @@
 -- A level edge has the row on its outer side, or not.
-use Rattle.std.proofs.Common.{◌<◌, ◌≤◌, arith}
+use Rattle.std.proofs.Common.{arith}
 use Rattle.mesh_measure.proofs.edges.left_of.Goals as goal
 
 pub returns-then-is_beyond : goal.returns-then-is_beyond

@@ -1,5 +1,4 @@
 -- The six sums are those of the three edges.
-use Rattle.std.proofs.Common.{arith}
 use Rattle.mesh_measure.proofs.AreaLemmas.{product}
 use Rattle.mesh_measure.proofs.LineLemmas.{plane-lines}
 use Rattle.mesh_measure.proofs.line.plane_of.Goals as goal

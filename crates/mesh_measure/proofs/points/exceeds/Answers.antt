@@ -1,5 +1,5 @@
 -- The midpoint shows it, or the rows do.
-use Rattle.std.proofs.Common.{ℕ, ◌*◌, ◌^◌, ◌<◌, ◌≤◌, arith}
+use Rattle.std.proofs.Common.{ℕ, ◌≤◌, arith}
 use Rattle.std.proofs.lemmas.Bool.{lt-ltb, ltb-true}
 use Rattle.mesh_laws.proofs.DescentLemmas.{IsAddress-level}
 use Rattle.mesh_measure.proofs.ErrorLemmas.{bounds-in_grid, off-iff}
