@@ -1,5 +1,5 @@
 -- A triangle of the list that is off by so much.
-use Rattle.std.proofs.Common.{ℕ, ◌<◌, ◌≤◌, length, sym, arith}
+use Rattle.std.proofs.Common.{◌<◌, length, sym, arith}
 use Rattle.mesh_defs.proofs.ListLemmas.{IsIn-contains}
 use Rattle.mesh_defs.proofs.WorstLemmas.{le-worst}
 use Rattle.fit_laws.specs.Error.{error_of}

@@ -1,5 +1,5 @@
 -- The midpoint is a point of the grid, and where the triangle holds it, its distance is at most the error.
-use Rattle.std.proofs.Common.{◌≡◌, ℕ, ◌^◌, ◌*◌, ◌≤◌, refl, ap, arith}
+use Rattle.std.proofs.Common.{◌≡◌, ℕ, ◌^◌, ◌≤◌, refl, ap, arith}
 use Rattle.mesh_defs.specs.declared.point.Point.{Point}
 use Rattle.mesh_defs.specs.BoundingBox.{point}
 use Rattle.bintree_laws.proofs.CornerLemmas.{IsWithin-corners_of}

@@ -1,5 +1,5 @@
 -- The mesh that is told of is that of the set.
-use Rattle.std.proofs.Common.{ℕ, ◌*◌, ◌≤◌, sym, subst}
+use Rattle.std.proofs.Common.{◌*◌, ◌≤◌, sym, subst}
 use Rattle.std.specs.Prelude.{All}
 use Rattle.mesh_defs.specs.Triangle.{level_of}
 use Rattle.fit_mesh.proofs.fit.told.Goals as goal

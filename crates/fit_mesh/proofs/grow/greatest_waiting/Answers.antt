@@ -1,5 +1,5 @@
 -- It is that of the first leaf that waits.
-use Rattle.std.proofs.Common.{ℕ, List, sym}
+use Rattle.std.proofs.Common.{ℕ, sym}
 use Rattle.std.specs.BinaryHeap.{heap_items}
 use Rattle.fit_laws.specs.Error.{error_of}
 use Rattle.fit_mesh.proofs.GrownLemmas.{first-worst, none-worst, waiting-left}

@@ -1,5 +1,5 @@
 -- The beginning is a least settled set, and the end is that of the loop.
-use Rattle.std.proofs.Common.{ℕ, ◌+◌, ◌*◌, ◌^◌, IsTrue, List, take, sym, ◌∙◌, subst, ap, arith}
+use Rattle.std.proofs.Common.{ℕ, IsTrue, List, take, sym, ◌∙◌, subst, ap, arith}
 use Rattle.mesh_defs.specs.ClosedSet.{among}
 use Rattle.mesh_laws.specs.Sweep.{is_flagged}
 use Rattle.mesh_laws.proofs.SweepLemmas.{splittable-lt}

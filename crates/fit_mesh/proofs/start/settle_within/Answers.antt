@@ -1,5 +1,5 @@
 -- The halves, and then the children of all that is split.
-use Rattle.std.proofs.Common.{ℕ, ◌*◌, ◌≤◌, ◌∙◌, arith}
+use Rattle.std.proofs.Common.{ℕ, ◌*◌, ◌∙◌, arith}
 use Rattle.mesh_laws.proofs.DescentLemmas.{IsAddress-down, IsDown-2, IsDown-3}
 use Rattle.mesh_laws.specs.Sweep.{is_flagged}
 use Rattle.fit_laws.specs.Error.{error_of}

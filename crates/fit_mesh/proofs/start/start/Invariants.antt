@@ -1,4 +1,4 @@
-use Rattle.std.proofs.Common.{◌+◌, ◌*◌, ◌≡◌, ◌≤◌, length, vec_capacity}
+use Rattle.std.proofs.Common.{◌+◌, ◌≡◌, ◌≤◌, length, vec_capacity}
 use Rattle.mesh_laws.specs.Sweep.{is_flagged}
 use Rattle.fit_laws.specs.Error.{error_of}
 use Rattle.fit_laws.specs.Settled.{IsLeastSettled}
