@@ -4,7 +4,9 @@ is killed; prints rows for results.md. All have to write the same bytes. Nothing
 python3-distributed for Dask.
 
 usage: bench/scale.py [ERROR..]     after `lib/build`; SIDE=20000 TILE=513 ROOM=a folder with room, which is left; RUNS=one,pool,..;
-                                    CHECK=1 checks the tiles of each run, too"""
+                                    CHECK=1 checks the tiles of each run, too, by so many processes; PLANT=1 those of
+                                    the last one with three faults"""
+import contextlib
 import hashlib
 import json
 import os
@@ -22,7 +24,7 @@ TOP = pathlib.Path(__file__).resolve().parents[1]
 sys.path.insert(0, str(TOP / "python/src"))
 SIDE, TILE = int(os.environ.get("SIDE", 20_000)), int(os.environ.get("TILE", 513))
 ROOM = pathlib.Path(os.environ.get("ROOM", "/tmp/calfrewin-scale"))
-RUNS = os.environ.get("RUNS", "alone,within,one,pool,cluster,hand").split(",")
+RUNS = os.environ.get("RUNS", "alone,within,sums,one,pool,cluster,hand").split(",")
 STRIP, OCTAVES, RELIEF, SMOOTHNESS = 128, 12, 1500.0, 1.2
 SECONDS = 0.5  # between looks at the memory of workers
 
@@ -131,6 +133,75 @@ class Spent:
         return call
 
 
+def timed(function, words):
+    """A task, with the process that did it, and the seconds that it took there by the clock and of the processor."""
+    clock, processor = time.perf_counter(), time.process_time()
+    found = function(*words)
+    return found, os.getpid(), time.perf_counter() - clock, time.process_time() - processor
+
+
+class Timed:
+    """Workers that note of each of their tasks what `timed` tells, by the times they were given some."""
+    def __init__(self, hands, waves):
+        self.hands, self.waves = hands, waves
+
+    def do(self, tasks):
+        self.waves.append([])
+        for task, (found, *spent) in self.hands.do({task: (timed, call) for task, call in tasks.items()}):
+            self.waves[-1].append(spent)
+            yield task, found
+
+
+def sums(path, error, what, client=None, workers=1):
+    """One run, and what of it was within tasks. Along the longest way a wave of tasks takes as long as the process that did
+    most of it, and what is in no task is done in between: that is how long a run takes where each process has a processor of its own."""
+    from calfrewin import raster, tiles
+    waves, was = [], tiles.workers_of
+
+    @contextlib.contextmanager
+    def hands(*words):
+        with was(*words) as found:
+            yield Timed(found, waves)
+
+    tiles.workers_of = hands
+    out = ROOM / "sums"
+    shutil.rmtree(out, ignore_errors=True)
+    plan = tiles.plan_of(raster.open_raster(str(path)), str(out), error=error, tile=TILE)
+    clock, processor = time.perf_counter(), time.process_time()
+    told = tiles.build(plan, client=client, workers=workers)
+    clock, processor = time.perf_counter() - clock, time.process_time() - processor
+    tiles.workers_of = was
+    spent = [it for wave in waves for it in wave]
+    within = sum(it[2] for it in spent)
+    own = processor - (within if spent[0][0] == os.getpid() else 0.0)
+    longest = own + sum(max(sum(it[2] for it in wave if it[0] == process) for process in {it[0] for it in wave}) for wave in waves)
+    by_wave = [sum(it[2] for it in wave) for wave in waves]
+    rounds = len(told["rounds"])
+    print(f"# {error:g}, {what}: {len(spent)} tasks; clock {clock:.1f} s, in tasks {sum(it[1] for it in spent):.1f}, load "
+          f"{os.getloadavg()[0]:.0f}; processor: in tasks {within:.1f} s, beside them {own:.1f}, along the longest way {longest:.1f}; "
+          f"rounds {', '.join(f'{it:.1f}' for it in by_wave[:rounds])}, writing {sum(by_wave[rounds:]):.1f}; SHA-256 "
+          f"{digest(out)[:16]}", flush=True)
+    shutil.rmtree(out)
+    return (clock - sum(it[1] for it in spent)) / len(spent), longest
+
+
+def all_sums(path, error):
+    """Dask's overhead a task, which a run in one process has not; and two workers beside one, by processor time."""
+    from distributed import Client, LocalCluster
+    here, one = sums(path, error, "one process")
+    _, two = sums(path, error, "two processes", workers=2)
+    for workers in (1, 2):
+        with LocalCluster(n_workers=workers, threads_per_worker=1, host="127.0.0.1", dashboard_address=None,
+                          local_directory=str(ROOM / "dask")) as cluster, Client(cluster) as client:
+            client.wait_for_workers(workers)
+            over, longest = sums(path, error, f"Dask, {workers} workers", client=client)
+            if workers == 1:
+                print(f"# {error:g}: beside its tasks one worker of Dask takes {1000 * over:.1f} ms a task by the clock, one process "
+                      f"{1000 * here:.1f} ms", flush=True)
+    print(f"# {error:g}: by processor time two are {one / two:.2f} times as fast as one in a pool, {one / longest:.2f} times by Dask",
+          flush=True)
+
+
 def digest(folder):
     found = hashlib.sha256()
     for path in sorted(folder.rglob("*")):
@@ -230,9 +301,42 @@ def row(error, what, told, memory, same):
 
 
 def checked(path, out, error):
-    words = (sys.executable, "-m", "calfrewin", "check", str(out), "--raster", str(path), "--error", str(error), "--quiet")
+    words = (sys.executable, "-m", "calfrewin", "check", str(out), "--raster", str(path), "--error", str(error), "--quiet", "--json",
+             "--workers", os.environ.get("CHECK", "1"))
     told = subprocess.run(words, stdout=subprocess.PIPE, text=True, env=os.environ | {"PYTHONPATH": str(TOP / "python/src")})
-    print(f"# {told.stdout.strip()}", flush=True)
+    found = json.loads(told.stdout)
+    print(f"# check: {json.dumps(found | {'wrong': len(found['wrong'])})}", flush=True)
+    return found["wrong"]
+
+
+def planted(path, out, error):
+    """The same check of the tiles with a crack, a hole and an error in three tiles of the finest level, that has to find each."""
+    sys.path.insert(0, str(TOP / "python/tests"))
+    from calfrewin import blocks, tiles
+    from calfrewin.raster import open_raster
+    from calfrewin.tile import Part, write_tile
+    from calfrewin.tileset import name
+    from made import triangles_changed, vertex_moved
+    raster = open_raster(str(path))
+    unit = tiles.plan_of(raster, str(out), error=error, tile=TILE).unit
+    plan = tiles.plan_of(raster, str(out), error=error / 5, tile=TILE, unit=unit)
+    rows, columns = plan.count(0)
+    at = [(row % rows, column % columns) for row, column in ((rows // 2, columns // 2), (1, 2), (rows - 2, 1))]
+    names = [name(plan, 0, *it) for it in at]
+    write_tile(plan, 0, *at[0], Part(blocks.read(plan, 0, *at[0])), {})  # finer than its neighbours, and fitted alone
+
+    def doubled(triangles):
+        triangles[0] = triangles[1]
+
+    def raised(points):
+        points[len(points) // 2, 1] += 2 * error
+
+    triangles_changed(out / names[1], doubled)
+    vertex_moved(out / names[2], raised)
+    wrong = checked(path, out, error)
+    # The edge that has a vertex of another tile within is that of a neighbour.
+    for it, who, text in zip(names, ("", *names[1:]), ("a crack", "on one side", "is off by")):
+        print(f"# planted in {it}: {next((line for line in wrong if who in line and text in line), 'NOT FOUND')}", flush=True)
 
 
 def main():
@@ -250,6 +354,8 @@ def main():
             whole, reading, fitting = within(path, error)
             print(f"| {error:g} | one process, timed within: GDAL {reading:.1f}, the library {fitting:.1f} | | {whole:.1f} | | | | "
                   "| | |", flush=True)
+        if "sums" in RUNS:
+            all_sums(path, error)
         first = None
         for run in RUNS:
             out = ROOM / f"{run}_{error:g}"
@@ -271,6 +377,8 @@ def main():
             first = first or same
             if same != first:
                 sys.exit(f"bench/scale.py: {run} wrote other bytes")
+            if os.environ.get("PLANT") and run == RUNS[-1]:
+                planted(path, out, error)
             if run != RUNS[-1] or not os.environ.get("KEEP"):
                 shutil.rmtree(out, ignore_errors=True)
 

@@ -1,4 +1,7 @@
-"""Inputs of the tests: hills, and the files that hold them."""
+"""Inputs of the tests: hills, the files that hold them, and damaged tiles."""
+import json
+import struct
+
 import numpy as np
 
 
@@ -42,3 +45,29 @@ def write_pgm(path, heights, most=65535, is_plain=False):
         body = heights.astype(">u2" if most > 255 else "u1").tobytes()
     path.write_bytes(head + body)
     return str(path)
+
+
+def vertex_moved(path, change):
+    """A GLB whose positions are changed."""
+    data = bytearray(open(path, "rb").read())
+    size, = struct.unpack_from("<I", data, 12)
+    head = json.loads(data[20:20 + size])
+    count = head["accessors"][0]["count"]
+    points = np.frombuffer(data, "<f4", 3 * count, 28 + size).reshape(-1, 3).copy()
+    change(points)
+    data[28 + size:28 + size + points.nbytes] = points.tobytes()
+    open(path, "wb").write(data)
+
+
+def triangles_changed(path, change):
+    """A GLB whose triangles are changed, as many as before."""
+    data = bytearray(open(path, "rb").read())
+    size, = struct.unpack_from("<I", data, 12)
+    head = json.loads(data[20:20 + size])
+    it = head["accessors"][-1]
+    kind = {5123: "<u2", 5125: "<u4"}[it["componentType"]]
+    at = 28 + size + head["bufferViews"][it["bufferView"]]["byteOffset"]
+    triangles = np.frombuffer(data, kind, it["count"], at).reshape(-1, 3).copy()
+    change(triangles)
+    data[at:at + triangles.nbytes] = triangles.tobytes()
+    open(path, "wb").write(data)

@@ -19,7 +19,7 @@ from calfrewin import ANY, blocks, join, run, tiles
 from calfrewin.check import check
 from calfrewin.ground import Ground
 from calfrewin.raster import open_raster
-from made import hills, write_tif
+from made import hills, triangles_changed, vertex_moved, write_tif
 from readers import read_glb, up_of
 
 
@@ -123,32 +123,6 @@ def test_with_skirts_there_are_fewer_triangles_and_the_check_says_why_not(tmp_pa
     assert ends[0] == ends[1] == told["tiles"] and "rounds" not in fewer
     with pytest.raises(ValueError, match="skirts"):
         checked(terrain, tmp_path / "s")
-
-
-def vertex_moved(path, change):
-    """A GLB whose positions are changed."""
-    data = bytearray(open(path, "rb").read())
-    size, = struct.unpack_from("<I", data, 12)
-    head = json.loads(data[20:20 + size])
-    count = head["accessors"][0]["count"]
-    points = np.frombuffer(data, "<f4", 3 * count, 28 + size).reshape(-1, 3).copy()
-    change(points)
-    data[28 + size:28 + size + points.nbytes] = points.tobytes()
-    open(path, "wb").write(data)
-
-
-def triangles_changed(path, change):
-    """A GLB whose triangles are changed, as many as before."""
-    data = bytearray(open(path, "rb").read())
-    size, = struct.unpack_from("<I", data, 12)
-    head = json.loads(data[20:20 + size])
-    it = head["accessors"][-1]
-    kind = {5123: "<u2", 5125: "<u4"}[it["componentType"]]
-    at = 28 + size + head["bufferViews"][it["bufferView"]]["byteOffset"]
-    triangles = np.frombuffer(data, kind, it["count"], at).reshape(-1, 3).copy()
-    change(triangles)
-    data[at:at + triangles.nbytes] = triangles.tobytes()
-    open(path, "wb").write(data)
 
 
 def test_the_check_finds_what_is_planted(tmp_path, terrain):
@@ -347,23 +321,44 @@ def test_workers_that_die_at_each_task_are_given_up():
     pool.close()
 
 
-def words_of(*words):
-    return subprocess.Popen([sys.executable, "-m", "calfrewin", *map(str, words)], stderr=subprocess.PIPE, stdout=subprocess.PIPE, text=True,
-                            env=os.environ | {"PYTHONPATH": os.pathsep.join(sys.path)})
+def words_of(*words, program=("-m", "calfrewin"), stdin=None):
+    return subprocess.Popen([sys.executable, *program, *map(str, words)], stdin=stdin, stderr=subprocess.PIPE, stdout=subprocess.PIPE,
+                            text=True, env=os.environ | {"PYTHONPATH": os.pathsep.join(sys.path)})
+
+
+# The program, that gets a signal as soon as it has written a file into a folder; and that waits as soon as a task is done.
+STRUCK = """import os, sys
+from calfrewin import files
+from calfrewin.__main__ import main
+write, part, number = files.write_bytes, sys.argv.pop(1), int(sys.argv.pop(1))
+def struck(path, *data):
+    write(path, *data)
+    if part in path:
+        os.kill(os.getpid(), number)
+files.write_bytes = struck
+main()"""
+HELD = """import sys
+from calfrewin.__main__ import main
+from calfrewin.workers import Dask
+do = Dask.do
+def held(self, tasks):
+    for it in do(self, tasks):
+        yield it
+        print("held", flush=True)
+        sys.stdin.read()
+Dask.do = held
+main()"""
 
 
 def test_a_run_that_is_killed_goes_on_and_the_same_call_says_so(tmp_path, terrain):
     built(terrain, tmp_path / "whole", tile=33)
     words = (terrain, tmp_path / "t/", "--error", 2, "--tile", 33, "--quiet")
     said_of = {}
-    for number, what in ((signal.SIGINT, "meshes_*/*"), (signal.SIGKILL, "made/*")):
-        it = words_of(*words)
-        deadline = time.monotonic() + 60
-        while it.poll() is None and not glob.glob(f"{tmp_path}/t/.calfrewin/{what}") and time.monotonic() < deadline:
-            time.sleep(0.01)
-        it.send_signal(number)
+    for number, part in ((signal.SIGINT, "/meshes_"), (signal.SIGKILL, "/made/")):
+        it = words_of(part, int(number), *words, program=("-c", STRUCK))
         _, said_of[number] = it.communicate()
         assert it.returncode != 0 and not os.path.exists(tmp_path / "t/tileset.json")
+        assert glob.glob(f"{tmp_path}/t/.calfrewin{part}*")
     assert "the same call goes on" in said_of[signal.SIGINT]
     it = words_of(*words, "--json")
     told = json.loads(it.communicate()[0])
@@ -393,39 +388,43 @@ def test_a_cluster_makes_the_same_with_a_worker_killed_and_with_its_scheduler_ki
         built(terrain, tmp_path / "t", depth=1, client=client, progress=tell)
         assert digest(tmp_path / "t") == digest(tmp_path / "whole") and os.path.exists(tmp_path / "killed")
     env = os.environ | {"PYTHONPATH": os.pathsep.join(sys.path)}
-    port = str(20_000 + os.getpid() % 20_000)
 
     def started(name, *words):
         return subprocess.Popen([sys.executable, "-m", f"distributed.cli.{name}", *words], env=env, stdout=subprocess.DEVNULL,
                                 stderr=subprocess.DEVNULL)
 
-    def cluster():
-        return [started("dask_scheduler", "--host", "127.0.0.1", "--port", port, "--no-dashboard"),
-                *(started("dask_worker", f"tcp://127.0.0.1:{port}", "--no-dashboard", "--nthreads", "1", "--no-nanny",
-                          "--local-directory", str(tmp_path / f"w{k}")) for k in range(2))]
-
-    processes = cluster()
-    try:
-        it = words_of(terrain, tmp_path / "s/", "--error", 2, "--tile", 33, "--dask", f"tcp://127.0.0.1:{port}", "--quiet")
-        deadline = time.monotonic() + 60
-        while it.poll() is None and not glob.glob(f"{tmp_path}/s/.calfrewin/meshes_*/*") and time.monotonic() < deadline:
+    def cluster(name):
+        """A scheduler that listens, on a port of its own, two workers, and the words that go to them."""
+        file = str(tmp_path / name)
+        processes = [started("dask_scheduler", "--host", "127.0.0.1", "--port", "0", "--no-dashboard", "--scheduler-file", file)]
+        while not os.path.exists(file):
+            assert processes[0].poll() is None
             time.sleep(0.01)
+        processes += [started("dask_worker", "--scheduler-file", file, "--no-dashboard", "--nthreads", "1", "--no-nanny",
+                              "--local-directory", f"{file}_{k}") for k in range(2)]
+        address = json.load(open(file))["address"]
+        return processes, (terrain, tmp_path / "s/", "--error", 2, "--tile", 33, "--dask", address, "--quiet")
+
+    def killed(processes):
         for process in processes:
             process.kill()
+            process.wait()
+
+    processes, words = cluster("one.json")
+    try:
+        it = words_of(*words, program=("-c", HELD), stdin=subprocess.PIPE)
+        assert it.stdout.readline() == "held\n"
+        killed(processes)
         it.kill()
         it.communicate()
-        for process in processes:
-            process.wait()
-        assert not os.path.exists(tmp_path / "s/tileset.json")
-        processes = cluster()
-        it = words_of(terrain, tmp_path / "s/", "--error", 2, "--tile", 33, "--dask", f"tcp://127.0.0.1:{port}", "--quiet")
-        _, said = it.communicate(timeout=120)
+        assert not os.path.exists(tmp_path / "s/tileset.json") and glob.glob(f"{tmp_path}/s/.calfrewin/meshes_*/*")
+        processes, words = cluster("two.json")
+        it = words_of(*words)
+        _, said = it.communicate()
         assert it.returncode == 0, said
         assert digest(tmp_path / "s") == digest(tmp_path / "whole")
     finally:
-        for process in processes:
-            process.kill()
-            process.wait()
+        killed(processes)
 
 
 def edges_of(triangles, count):
