@@ -253,6 +253,8 @@ def test_another_plan_a_changed_raster_and_a_second_run_are_refused(tmp_path, te
         built(path, tmp_path / "t", progress=stopping(2))
     with pytest.raises(run.Other, match="--overwrite"):
         built(path, tmp_path / "t", error=3.0)
+    with pytest.raises(run.Other, match="--overwrite"):
+        built(path, tmp_path / "t", depth=1)
     plan = tiles.plan_of(open_raster(path), str(tmp_path / "t"), error=2.0, tile=33)
     with run.locked(plan, False):
         with pytest.raises(run.Busy, match="another run"):

@@ -40,6 +40,10 @@ class Points(NamedTuple):
         counts = None if self.counts is None or self.counts[at].all() else self.counts[at]
         return Points(self.numbers[at], counts)
 
+    def turned(self) -> Points:
+        """Rows for columns."""
+        return Points(self.numbers.T, None if self.counts is None else self.counts.T)
+
 
 def refuse_changed(plan: Plan) -> None:
     """Refuses a raster whose files are not what they were when the plan was made."""
@@ -48,27 +52,39 @@ def refuse_changed(plan: Plan) -> None:
             raise Changed(f"{path} has changed since this run began: begin anew with --overwrite")
 
 
-def read(plan: Plan, level: int, row: int, column: int) -> Points:
-    """The points of all that a tile of a level covers, from the raster."""
+def read(plan: Plan, level: int, row: int, column: int, right: Optional[Points] = None, below: Optional[Points] = None) -> Points:
+    """The points of all that a tile of a level covers, from the raster.
+
+    Args:
+        right, below: the first column of what lies to the right, and the first row of what lies below, where these are known:
+            they are the last ones here, and are not read again.
+    """
     refuse_changed(plan)
     span = plan.steps << level
-    rows, columns = plan.raster.shape
     top, left = row * span, column * span
-    height, width = min(span + 1, rows - top), min(span + 1, columns - left)
+    ends = plan.raster.shape[0] - top, plan.raster.shape[1] - left
+    height, width = min(span + (below is None), ends[0]), min(span + (right is None), ends[1])
     heights = plan.raster.heights(top, left, height, width)
-    counts = None
+    is_there: Any = True
     if np.isnan(heights.min()):
         holes = np.isnan(heights)
         heights = np.where(holes, _filled(plan, top, left, height, width), heights)
-        counts = None if plan.fill is not None else ~holes
-    numbers = np.empty(heights.shape, np.int32)
+        is_there = True if plan.fill is not None else ~holes
+    numbers = np.empty((span + 1, span + 1), np.int32)
     for begin in range(0, height, AT_ONCE):
         exact = heights[begin:begin + AT_ONCE] / plan.unit
-        numbers[begin:begin + AT_ONCE] = np.rint(exact, exact)
-    beyond = ((0, span + 1 - height), (0, span + 1 - width))
-    if beyond != ((0, 0), (0, 0)):
-        numbers = np.pad(numbers, beyond, mode="edge")
-        counts = np.pad(np.ones((height, width), bool) if counts is None else counts, beyond)
+        numbers[begin:min(begin + AT_ONCE, height), :width] = np.rint(exact, exact)
+    numbers[:height, width:] = numbers[:height, width - 1:width]
+    numbers[height:] = numbers[height - 1]
+    shared = [(at, it) for at, it in ((np.s_[:, span], right), (np.s_[span], below)) if it is not None]
+    counts = None
+    if is_there is not True or min(ends) <= span or any(it.counts is not None for _, it in shared):
+        counts = np.zeros(numbers.shape, bool)
+        counts[:height, :width] = is_there
+    for at, it in shared:
+        numbers[at] = it.numbers
+        if counts is not None:
+            counts[at] = True if it.counts is None else it.counts
     refuse_changed(plan)
     return Points(numbers, counts)
 
@@ -98,14 +114,19 @@ class BlockPoints:
 
     def __init__(self, plan: Plan, row: int, column: int) -> None:
         self._plan, self._at = plan, (row, column)
-        self._path = os.path.join(plan.run, "points", f"{row}_{column}")
+        self._path = _path(plan, row, column)
         self._whole: Optional[Points] = None
         if not os.path.exists(self._path):
             self._read()
 
     def _read(self) -> Points:
-        """All of them from the raster."""
-        whole, arrays = read(self._plan, self._plan.depth, *self._at), {}
+        """All of them from the raster, but for what neighbours have kept that were read before."""
+        row, column = self._at
+        rows, columns = self._plan.count(self._plan.depth)
+        right = self._kept(row, column + 1, "first_column") if column + 1 < columns else None
+        below = self._kept(row + 1, column, "first_row") if row + 1 < rows else None
+        whole = read(self._plan, self._plan.depth, row, column, right, below)
+        arrays = {}
         for place in np.ndindex(1 << self._plan.depth, 1 << self._plan.depth):
             own = whole.tile(place[0], place[1], self._plan.steps)
             low, high = own.numbers.min(), own.numbers.max()
@@ -115,9 +136,18 @@ class BlockPoints:
             arrays["numbers" + name] = np.subtract(own.numbers, low, dtype=kind, casting="unsafe")
             if own.counts is not None:
                 arrays["counts" + name] = np.packbits(own.counts)
+        for name, turned in (("first_row", whole), ("first_column", whole.turned())):
+            arrays["numbers" + name] = turned.numbers[0]
+            if turned.counts is not None:
+                arrays["counts" + name] = turned.counts[0]
         keep(self._path, arrays)
         self._whole = whole
         return whole
+
+    def _kept(self, row: int, column: int, line: str) -> Optional[Points]:
+        """A line of another block, where that has been read."""
+        kept = load(_path(self._plan, row, column), line)
+        return None if kept is None else Points(kept["numbers" + line], kept.get("counts" + line))
 
     def tile(self, row: int, column: int) -> Points:
         """Those of the tile (row, column) of the block: nothing else is read."""
@@ -127,9 +157,7 @@ class BlockPoints:
         if kept is None:
             return (self._whole or self._read()).tile(row, column, steps)
         counts = None if "counts" + name not in kept else _bits(kept["counts" + name], (steps + 1, steps + 1))
-        numbers = kept["numbers" + name].astype(np.int32)
-        numbers += kept["low" + name]
-        return Points(numbers, counts)
+        return Points(np.add(kept["numbers" + name], kept["low" + name], dtype=np.int32), counts)
 
     def numbers(self) -> Multiples:
         """Those of all tiles together."""
@@ -141,6 +169,10 @@ class BlockPoints:
             own = self.tile(row, column).numbers
             found[row * steps:(row + 1) * steps + 1, column * steps:(column + 1) * steps + 1] = own
         return found
+
+
+def _path(plan: Plan, row: int, column: int) -> str:
+    return os.path.join(plan.run, "points", f"{row}_{column}")
 
 
 def _bits(packed: npt.NDArray[np.uint8], shape: tuple[int, ...]) -> Flags:

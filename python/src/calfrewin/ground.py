@@ -86,8 +86,10 @@ def _drop(plan: Plan, form: tuple[float, float, float], level: int, row: int, co
     exact += (rr / plan.unit * y * y)[:, None]
     found = np.rint(exact, exact).astype(np.int32)
     last, half = plan.steps, plan.steps // 2
-    across, down = (int(found[half, last] - found[half, 0]) // last, int(found[last, half] - found[0, half]) // last)
+    across, down = (round(int(rise) / last) for rise in (found[half, last] - found[half, 0], found[last, half] - found[0, half]))
     steps = np.arange(plan.steps + 1, dtype=np.int32)
-    found -= across * steps
-    found -= (down * steps)[:, None]
+    if across:
+        found -= across * steps
+    if down:
+        found -= (down * steps)[:, None]
     return found

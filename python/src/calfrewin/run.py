@@ -30,7 +30,7 @@ def locked(plan: Plan, overwrite: bool, triangles: Optional[int] = None) -> Iter
     """
     os.makedirs(plan.out, exist_ok=True)
     with _lock(os.path.join(plan.out, ".calfrewin.lock")) as lock:
-        digest = f"{plan.digest} {triangles}"
+        digest = f"{plan.digest} {plan.depth} {triangles}"  # what is kept is kept by blocks
         path = os.path.join(plan.run, "plan.json")
         if overwrite:
             shutil.rmtree(plan.run, ignore_errors=True)

@@ -207,8 +207,7 @@ def halved(own: Points, unit: float) -> tuple[Points, float]:
     most = 0
     for at, ends in ((np.s_[::2, 1::2], even[:, :-1] + even[:, 1:]), (np.s_[1::2, ::2], even[:-1] + even[1:]),
                      (np.s_[1::2, 1::2], falling)):
-        ends -= numbers[at]
-        ends -= numbers[at]
+        ends -= 2 * numbers[at]
         low, high = (ends.min(), ends.max()) if counts is None else (
             ends.min(where=counts[at], initial=0), ends.max(where=counts[at], initial=0))
         most = max(most, -int(low), int(high))
