@@ -147,7 +147,7 @@ class BlockPoints:
     def _kept(self, row: int, column: int, line: str) -> Optional[Points]:
         """A line of another block, where that has been read."""
         kept = load(_path(self._plan, row, column), line)
-        return None if kept is None else Points(kept["numbers" + line], kept.get("counts" + line))
+        return Points(kept["numbers" + line], kept.get("counts" + line)) if kept else None
 
     def tile(self, row: int, column: int) -> Points:
         """Those of the tile (row, column) of the block: nothing else is read."""

@@ -61,7 +61,7 @@ def points_mesh(indices: Numbers, numbers: npt.NDArray[Any]) -> GridMesh:
     side = numbers.shape[0]
     places, triangles = compact(indices, side * side)
     row, column = np.divmod(places, side)
-    return GridMesh(column.astype(np.float64), row.astype(np.float64), numbers.reshape(-1)[places].astype(np.float64), triangles)
+    return GridMesh(column.astype(np.float64), row.astype(np.float64), numbers[row, column].astype(np.float64), triangles)
 
 
 def as_far_as(found: GridMesh, last_column: float, last_row: float, steps: int) -> GridMesh:

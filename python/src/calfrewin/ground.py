@@ -7,6 +7,7 @@ it lies. Where the earth bends too differently over the raster for that, each ti
 """
 from __future__ import annotations
 
+import functools
 import math
 from fractions import Fraction
 from typing import NamedTuple, Union
@@ -15,7 +16,7 @@ import numpy as np
 import numpy.typing as npt
 
 from ._types import Numbers
-from .blocks import Multiples, Points
+from .blocks import AT_ONCE, Multiples, Points
 from .engine import MOST_HEIGHT, MOST_TOLERANCE
 from .fitter import ANY
 from .tileset import Plan
@@ -29,8 +30,7 @@ class Ground(NamedTuple):
 
     def tolerance(self, error: float) -> int:
         """The tolerance in thousandths of the unit that is within an error in metres, with the rounding."""
-        # By the decimals that floats print as, so that 0.3 is three tenths.
-        exact = math.floor((Fraction(str(error)) - Fraction(str(self.rounding))) / Fraction(str(self.unit)) * 1000)
+        exact = _thousandths(error, self.rounding, self.unit)
         if exact < 0:
             raise ValueError(f"error is {error:g}, and has to be at least {self.rounding:.3g}, by which the heights of a tile "
                              "are rounded for their relief: give a greater one, or smaller tiles")
@@ -42,6 +42,12 @@ class Ground(NamedTuple):
         if points.counts is None:
             return one / 1000
         return np.where(points.counts, np.uint32(one), np.uint32(ANY))
+
+
+@functools.lru_cache(maxsize=256)
+def _thousandths(error: float, rounding: float, unit: float) -> int:
+    """An error less the rounding in thousandths of a unit, by the decimals that floats print as, so that 0.3 is three tenths."""
+    return math.floor((Fraction(str(error)) - Fraction(str(rounding))) / Fraction(str(unit)) * 1000)
 
 
 def ground_of(plan: Plan, level: int, row: int, column: int, points: Points) -> Ground:
@@ -80,11 +86,15 @@ def _drop(plan: Plan, form: tuple[float, float, float], level: int, row: int, co
     rows, columns = plan.raster.shape
     x, y = ((at * plan.steps + np.arange(plan.steps + 1)) * float(1 << level) - (points - 1) / 2
             for at, points in ((column, columns), (row, rows)))
-    cc, cr, rr = form
-    exact = (cr / plan.unit * x) * y[:, None]
-    exact += cc / plan.unit * x * x
-    exact += (rr / plan.unit * y * y)[:, None]
-    found = np.rint(exact, exact).astype(np.int32)
+    cc, cr, rr = (it / plan.unit for it in form)
+    both, by_column, by_row = cr * x, cc * x * x, rr * y * y
+    found = np.empty((len(y), len(x)), np.int32)
+    for begin in range(0, len(y), AT_ONCE):
+        at = np.s_[begin:begin + AT_ONCE, None]
+        exact = both * y[at]
+        exact += by_column
+        exact += by_row[at]
+        found[begin:begin + AT_ONCE] = np.rint(exact, exact)
     last, half = plan.steps, plan.steps // 2
     across, down = (round(int(rise) / last) for rise in (found[half, last] - found[half, 0], found[last, half] - found[0, half]))
     steps = np.arange(plan.steps + 1, dtype=np.int32)

@@ -215,19 +215,23 @@ class Curvature:
     Attributes:
         jacobian: 2 x 2: metres to the east and to the north of a step along columns and along rows.
         form: (cc, cr, rr): `drop` is cc column^2 + cr column row + rr row^2, in metres, below 0.
+        frame: 4 x 4: from metres to the east, to the north and up about the place to those of the earth; without a system x and
+            y, which are as they are, and height.
     """
 
     def __init__(self, crs: Optional[str], transform: Transform, column: float, row: float, reach: float) -> None:
         """About a place of a raster, from places `reach` columns and rows away."""
         a, b, c, d, e, f = transform
         if crs is None:
-            self.jacobian, self.form = np.array([[a, b], [d, e]]), (0.0, 0.0, 0.0)
+            self.jacobian, self.form, self.frame = np.array([[a, b], [d, e]]), (0.0, 0.0, 0.0), np.eye(4)
+            self.frame[:2, 3] = a * column + b * row + c, d * column + e * row + f
             return
         steps = np.array([(0, 0), (-1, 0), (1, 0), (0, -1), (0, 1), (1, 1), (-1, -1)], float) * reach
         columns, rows = column + steps[:, 0], row + steps[:, 1]
         x, y = a * columns + b * rows + c, d * columns + e * rows + f
         places = np.column_stack(transformer(crs, GEOCENTRIC).transform(x, y, np.zeros(len(steps))))
-        local = (places - places[0]) @ east_north_up(*places[0])[:3, :3]
+        self.frame = east_north_up(*places[0])
+        local = (places - places[0]) @ self.frame[:3, :3]
         across, down = local[2, :2] - local[1, :2], local[4, :2] - local[3, :2]
         self.jacobian = np.column_stack((across, down)) / (2 * reach)
         up = local[:, 2]

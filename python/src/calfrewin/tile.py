@@ -25,7 +25,7 @@ from .mesh import surface
 from .shapes import have_any
 from .sides import Sides, required_of, sides_of, with_fans
 from .systems import GEODETIC, Curvature, geocentric, transformer
-from .tileset import Frame, Plan, Tile, name
+from .tileset import Plan, Tile, name
 
 MARGIN = 1e-8  # radians, around a region
 WHOLE = 1e-6  # of a unit: what is off by less is a multiple, but for the last bits of a float
@@ -103,9 +103,8 @@ def write_tile(plan: Plan, level: int, row: int, column: int, part: Part, second
     if not len(mesh.triangles):
         return Written(None, sides)
     skirt = 2 * (plan.error * 2 ** level + part.away) if plan.skirts else 0.0
-    frame = plan.frame(*place.middle)
-    placed = _on_earth(plan, place, mesh, frame, skirt)
-    pieces = _glb(plan, place, mesh, placed, part.points.numbers, frame, mesh.error)
+    placed = _on_earth(plan, place, mesh, skirt)
+    pieces = _glb(plan, place, mesh, placed, part.points.numbers, mesh.error)
     done = time.perf_counter()
     path = os.path.join(plan.out, name(plan, level, row, column))
     os.makedirs(os.path.dirname(path), exist_ok=True)
@@ -201,7 +200,8 @@ def cut(plan: Plan, place: Place, mesh: GridMesh) -> GridMesh:
     return found._replace(number=np.where(np.abs(number - nearest) < WHOLE, nearest, number) * plan.unit)
 
 
-def _on_earth(plan: Plan, place: Place, mesh: Fitted, frame: Frame, skirt: float) -> Placed:
+def _on_earth(plan: Plan, place: Place, mesh: Fitted, skirt: float) -> Placed:
+    frame = place.earth.frame
     step, (a, b, c, d, e, f) = float(1 << place.level), plan.raster.transform
     column, row = (place.column * plan.steps + mesh.column) * step, (place.row * plan.steps + mesh.row) * step
     x, y = a * column + b * row + c, d * column + e * row + f
@@ -224,7 +224,7 @@ class Pieces(NamedTuple):
     triangles: int
 
 
-def _glb(plan: Plan, place: Place, mesh: Fitted, placed: Placed, numbers: Multiples, frame: Frame, error: float) -> Pieces:
+def _glb(plan: Plan, place: Place, mesh: Fitted, placed: Placed, numbers: Multiples, error: float) -> Pieces:
     points, triangles = placed.points, mesh.triangles
     normals = _normals(plan, place, mesh, numbers) if plan.normals else None
     if plan.skirts:
@@ -232,7 +232,7 @@ def _glb(plan: Plan, place: Place, mesh: Fitted, placed: Placed, numbers: Multip
         triangles = np.concatenate((triangles, _walls(loop, len(points))))
         points = np.concatenate((points, placed.feet[loop]))
         normals = None if normals is None else np.concatenate((normals, normals[loop]))
-    within = Y_UP @ np.linalg.inv(plan.root_frame) @ frame @ Y_UP.T
+    within = Y_UP @ np.linalg.inv(plan.root_frame) @ place.earth.frame @ Y_UP.T
     data = glb(y_up(points).astype("<f4"), triangles, normals=None if normals is None else y_up(normals),
                matrix=within.T.reshape(-1).tolist(), extras={"error": error})
     return Pieces(data, len(triangles))

@@ -81,16 +81,6 @@ class Plan:
     def root_frame(self) -> Frame:
         return np.array(self.root).reshape(4, 4).T
 
-    def frame(self, column: float, row: float) -> Frame:
-        """East, north and up about a place of the raster; where it has no coordinate system, x, y and height."""
-        a, b, c, d, e, f = self.raster.transform
-        x, y = a * column + b * row + c, d * column + e * row + f
-        if self.crs is not None:
-            return east_north_up(*transformer(self.crs, GEOCENTRIC).transform(x, y, 0.0))
-        found = np.eye(4)
-        found[:3, 3] = x, y, 0
-        return found
-
     def curvature(self, column: float, row: float, level: int) -> Curvature:
         """That of the earth about the middle of a tile."""
         return Curvature(self.crs, self.raster.transform, column, row, (self.steps << level) / 2)
