@@ -194,6 +194,7 @@ def all_sums(path, error):
         with LocalCluster(n_workers=workers, threads_per_worker=1, host="127.0.0.1", dashboard_address=None,
                           local_directory=str(ROOM / "dask")) as cluster, Client(cluster) as client:
             client.wait_for_workers(workers)
+            client.run(__import__, "calfrewin.tiles")  # which takes as long as a hundred tasks' ways
             over, longest = sums(path, error, f"Dask, {workers} workers", client=client)
             if workers == 1:
                 print(f"# {error:g}: beside its tasks one worker of Dask takes {1000 * over:.1f} ms a task by the clock, one process "

@@ -328,8 +328,9 @@ def words_of(*words, program=("-m", "calfrewin"), stdin=None):
                             text=True, env=os.environ | {"PYTHONPATH": os.pathsep.join(sys.path)})
 
 
-# The program, that gets a signal as soon as it has written a file into a folder; and that waits as soon as a task is done.
-STRUCK = """import os, sys
+# The program, that gets a signal as soon as it has written a file into a folder; and that waits as soon as a task is done. What a
+# shell runs in the background does not heed SIGINT, unless it says so.
+STRUCK = """import os, signal, sys
 from calfrewin import files
 from calfrewin.__main__ import main
 write, part, number = files.write_bytes, sys.argv.pop(1), int(sys.argv.pop(1))
@@ -338,6 +339,7 @@ def struck(path, *data):
     if part in path:
         os.kill(os.getpid(), number)
 files.write_bytes = struck
+signal.signal(signal.SIGINT, signal.default_int_handler)
 main()"""
 HELD = """import sys
 from calfrewin.__main__ import main
