@@ -96,7 +96,7 @@ def _drop(plan: Plan, form: tuple[float, float, float], level: int, row: int, co
         exact += by_row[at]
         found[begin:begin + AT_ONCE] = np.rint(exact, exact)
     last, half = plan.steps, plan.steps // 2
-    across, down = (round(int(rise) / last) for rise in (found[half, last] - found[half, 0], found[last, half] - found[0, half]))
+    across, down = (int(rise) // last for rise in (found[half, last] - found[half, 0], found[last, half] - found[0, half]))
     steps = np.arange(plan.steps + 1, dtype=np.int32)
     if across:
         found -= across * steps
