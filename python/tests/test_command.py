@@ -4,10 +4,8 @@ import os
 import pathlib
 import pty
 import re
-import signal
 import subprocess
 import sys
-import time
 
 import numpy as np
 import pytest
@@ -32,10 +30,10 @@ def report(result):
     return json.loads(result.stdout)
 
 
-def process(*words, **options):
+def process(*words, program=("-m", "calfrewin"), **options):
     """The program as a process."""
     env = os.environ | {"PYTHONPATH": os.pathsep.join(sys.path)}
-    return subprocess.Popen([sys.executable, "-m", "calfrewin", *words], env=env, stdout=subprocess.PIPE, text=True,
+    return subprocess.Popen([sys.executable, *program, *words], env=env, stdout=subprocess.PIPE, text=True,
                             **{"stderr": subprocess.PIPE} | options)
 
 
@@ -227,15 +225,20 @@ def test_a_full_disk_leaves_the_old_file(run):
     assert open("a.glb", "rb").read() == old and names() == before
 
 
+# The program, that is interrupted as a file is to take its place. What a shell runs in the background does not heed SIGINT, unless it
+# says so.
+STRUCK = """import os, signal
+from calfrewin.__main__ import main
+signal.signal(signal.SIGINT, signal.default_int_handler)
+os.replace = lambda *_: os.kill(os.getpid(), signal.SIGINT)
+main()"""
+
+
 def test_an_interrupt_leaves_the_old_file(run):
-    np.save("big.npy", np.random.default_rng(1).integers(0, 60000, (2049, 2049)).astype(np.uint16))
+    np.save("big.npy", np.random.default_rng(1).integers(0, 60000, (129, 129)).astype(np.uint16))
     open("a.glb", "w").write("old")
     before = names()
-    it = process("big.npy", "a.glb", "--error", "1", "--spacing", "10", "--overwrite")
-    line = it.stderr.readline()
-    assert line == "calfrewin: reading big.npy, 2049 x 2049 points, and meshing\n"
-    time.sleep(0.3)
-    it.send_signal(signal.SIGINT)
+    it = process("big.npy", "a.glb", "--error", "1", "--spacing", "10", "--overwrite", program=("-c", STRUCK))
     out, said = it.communicate()
     assert it.returncode == 1 and out == "" and "interrupted; a.glb is as it was" in said and "Traceback" not in said
     assert open("a.glb").read() == "old" and names() == before
