@@ -6,8 +6,8 @@ use Rattle.run_laws.specs.CertFile.{FilePlace, HaveCome}
 use Rattle.run_files.specs.declared.cert_file.CertStop.{CertStop}
 use Rattle.run_files.specs.declared.cert_file.CertStop.TheVariants.{BadLine}
 
--- the reader goes on, the lines are as many as it counts, so that 32 bits number the next one too, and the line that has
--- begun has no more bytes than one may have
+-- the reader goes on, the lines are as many as it counts, and 32 bits number the next one too; the line that has begun
+-- has no more bytes than one may have
 pub record IsStage (goes : Type 0) (count lines : ℕ) (begun : List ℕ) : Type 0 where
   pub goes_on : goes
   pub counted : lines ≡ count

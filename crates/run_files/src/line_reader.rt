@@ -1,7 +1,7 @@
 //! What reads the lines of a certificate.
 
-ghost use Rattle.std.specs.Prelude.{◌≡◌, ◌≢◌, ◌+◌, ◌-◌, ◌^◌, ◌<◌, ◌≤◌, ℕ, List, All, Option, None, Some, Result, Ok, Err};
-ghost use Rattle.std.specs.Prelude.{OnOk, IfOk};
+ghost use Rattle.std.specs.Prelude.{◌≡◌, ◌≢◌, ◌+◌, ◌-◌, ◌^◌, ◌<◌, ◌≤◌, ℕ, List, All, Option, None, Some, Result};
+ghost use Rattle.std.specs.Prelude.{Ok, Err, OnOk, IfOk};
 ghost use Rattle.mesh_defs.specs.Triangle.{IsAddress};
 ghost use Rattle.mesh_defs.specs.declared.level.TheConstants.{GREATEST_LEVEL};
 ghost use Rattle.cert_text.specs.CertReader.{ReadSoFar, nothing_read, cert_line_in};
