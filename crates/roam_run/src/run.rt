@@ -5,7 +5,8 @@ ghost use Rattle.std.specs.Prelude.{IsTrue, IsSome, false, if◌then◌else◌, 
 ghost use Rattle.mesh_defs.specs.declared.level.TheConstants.{GREATEST_LEVEL};
 ghost use Rattle.roam_edge.specs.Shelf.{NamedFile};
 ghost use Rattle.run_words.specs.Words.{OnGrid, Generated, Frames, command_of};
-ghost use Rattle.run_laws.specs.Outcome.{Outcome, EngineEnd, IsOutcome, MakesNoCertificate};
+ghost use Rattle.run_words.specs.Jobs.{MakesNoCertificate};
+ghost use Rattle.run_laws.specs.Outcome.{Outcome, EngineEnd, IsOutcome};
 ghost use Rattle.run_laws.specs.Promise.{IsAccepted, ends_script};
 ghost use Rattle.run_laws.specs.Moment.{moment};
 ghost use Rattle.run_laws.specs.Statement.{KeepsBestMeshes, CertifiesMesh, TellsCertificates, EndsByStatus};
@@ -213,11 +214,11 @@ fn run_of_words<O: Outside>(alloc: Global, words: &[String], outside: &mut O) ->
     ensures untouched { result.status ≡ Status.Usage → outside.new ≡ outside.old }
 {
     match command_in(words) {
-        None => Run {
+        Err(_) => Run {
             status: Status::Usage,
             engine: None,
         },
-        Some(command) => run_command(alloc, &command, outside),
+        Ok(command) => run_command(alloc, &command, outside),
     }
 }
 

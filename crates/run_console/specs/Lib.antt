@@ -1,4 +1,3 @@
-pub mod Form
 pub mod Opened
 pub mod Prefix
 pub mod Watching

@@ -6,7 +6,6 @@ ghost use Rattle.run_words.specs.Words.{command_of};
 ghost use Rattle.run_console.specs.Ending.{IsExit};
 
 use crate::explanation::{Topic, topic_after};
-use crate::first_wrong::word_fault;
 use crate::hint::{GridHint, grid_hint};
 use crate::note::Note;
 use crate::noted_files::{Noted, NotedFiles};
@@ -16,8 +15,10 @@ use crate::prefix::mesh_prefix;
 use crate::runs::Runs;
 use crate::usage::{Asked, VERSION, asked_for, tell_usage};
 use crate::watched::{WatchedShelf, WatchedSink};
+use crate::word_text::WordText;
 use roam_edge::{FileMeshes, FileShelf, StdSink};
 use run_laws::Status;
+use run_words::command_in;
 use std::env::Env;
 use std::fmt::Display;
 use std::io::ErrorKind;
@@ -119,8 +120,8 @@ fn say_words(rt: &impl Eprint, words: &[String]) {
         }
         Some(Asked::Usage) => tell_usage(rt),
         None => {
-            if let Some(fault) = word_fault(words) {
-                say(rt, fault);
+            if let Err(fault) = command_in(words) {
+                say(rt, WordText { fault });
             }
             tell_usage(rt);
         }

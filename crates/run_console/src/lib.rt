@@ -1,8 +1,8 @@
 //! The program at a console: words from the system, real files, standard output, and what standard error says.
 //!
 //! For the program alone, which hands its run in. Words of the command line are handed to the run, and its status is
-//! the exit status. Standard output has the report alone. Of words that are no command the first wrong one is found by
-//! the form of the command, stage by stage; the file that failed by the number of files that were opened; why it
+//! the exit status. Standard output has the report alone. Of words that are no command the first wrong one is that of
+//! `run_words`; the file that failed by the number of files that were opened; why it
 //! failed by wrappers that hand each call on and keep what the system said. These texts are for people: no clause
 //! speaks of them. Nothing here knows what a command does.
 
@@ -10,7 +10,7 @@
 
 mod console;
 mod explanation;
-mod first_wrong;
+mod forms;
 mod head;
 mod hint;
 mod kinds;
@@ -22,19 +22,17 @@ mod prefix;
 mod quoted;
 mod runs;
 mod usage;
-mod wanted;
 mod watched;
 mod word_text;
 
 pub use console::carry_out;
-pub use first_wrong::{WordFault, word_fault};
 pub use hint::{GridHint, grid_hint};
 pub use note::{Failure, Note, Step};
 pub use noted_files::{Noted, NotedFiles};
-pub use opened::{NamedFile, Role, opened_file};
+pub use opened::{NamedFile, opened_file};
 pub use outside_text::{MeshFault, ReadFault, ReportFault};
 pub use prefix::mesh_prefix;
 pub use quoted::Quoted;
 pub use runs::Runs;
-pub use wanted::Wanted;
 pub use watched::{HEAD, LINE, WatchedShelf, WatchedSink};
+pub use word_text::WordText;

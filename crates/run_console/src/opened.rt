@@ -5,22 +5,7 @@ ghost use Rattle.run_words.specs.Words.{command_of};
 ghost use Rattle.run_words.specs.WordView.{command_seen};
 ghost use Rattle.run_console.specs.Opened.{opened_name, opened_role, entry};
 
-use run_words::{Command, FrameWords, KeptCheckWords, command_in};
-
-/// What a file of a command is.
-#[derive(Clone, Copy, Debug, PartialEq, Eq)]
-pub enum Role {
-    /// The grid.
-    Grid,
-    /// The script.
-    Script,
-    /// A certificate that a mesh is checked by.
-    Certificate,
-    /// A mesh that is checked.
-    Mesh,
-    /// The points that a mesh keeps.
-    Points,
-}
+use run_words::{Command, FrameWords, KeptCheckWords, Role, command_in};
 
 /// A file that the words of a command name.
 #[derive(Clone, Copy)]
@@ -40,8 +25,8 @@ pub fn opened_file(words: &[String], number: u64) -> Option<NamedFile<'_>>
         opened_role (command_of (map string_bytes words.now)) number }
 {
     match command_in(words) {
-        None => None,
-        Some(command) => file_of(&command, number),
+        Err(_) => None,
+        Ok(command) => file_of(&command, number),
     }
 }
 

@@ -1,8 +1,9 @@
 //! What is said of a file that could not be opened, read or written.
 
 use crate::note::{Failure, Step};
-use crate::opened::{NamedFile, Role};
+use crate::opened::NamedFile;
 use crate::quoted::Quoted;
+use run_words::Role;
 use std::fmt;
 
 /// A file that could not be opened or read. Its text says which one, and what the system says.

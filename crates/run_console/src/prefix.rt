@@ -13,9 +13,9 @@ pub fn mesh_prefix(words: &[String]) -> Option<&str>
     ensures { option_map (λ prefix. prefix.now) result ≡ command_prefix (command_of (map string_bytes words.now)) }
 {
     match command_in(words) {
-        Some(Command::Frames(words)) => prefix_for(words.meshing),
-        Some(Command::Fit(words)) => Some(words.prefix),
-        Some(Command::Keep(words)) => Some(words.prefix),
+        Ok(Command::Frames(words)) => prefix_for(words.meshing),
+        Ok(Command::Fit(words)) => Some(words.prefix),
+        Ok(Command::Keep(words)) => Some(words.prefix),
         _ => None,
     }
 }

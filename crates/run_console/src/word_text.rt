@@ -1,23 +1,35 @@
 //! What is said of words that are no command.
 
-use crate::first_wrong::WordFault;
+use crate::forms::{has_goal, has_keep, label, write_goal_form, write_labels};
 use crate::quoted::Quoted;
-use crate::wanted::{
-    GREATEST_BUDGET, GREATEST_LEVEL, GREATEST_SEED, GREATEST_SPACING, GREATEST_TOLERANCE,
-    LEAST_BUDGET, REACH, Stage, Wanted, command_form, task_form,
-};
 use roam_edge::LONGEST_PREFIX;
+use run_words::{
+    GREATEST_BUDGET, GREATEST_LEVEL, GREATEST_SEED, GREATEST_SPACING, GREATEST_TOLERANCE,
+    LEAST_BUDGET, REACH, Row, Stage, Wanted, WordFault, commands, goals, row_of, tasks,
+};
 use std::fmt;
 
-impl<'a> fmt::Display for WordFault<'a> {
+/// What is said of words that are no command, in one line.
+#[derive(Clone, Copy)]
+pub struct WordText<'a> {
+    /// What is wrong with them.
+    pub fault: WordFault<'a>,
+}
+
+impl<'a> fmt::Display for WordText<'a> {
     fn fmt<W: fmt::Write>(&self, f: &mut fmt::Formatter<W>) -> fmt::Result {
-        match (self.wanted, self.words.get(self.place)) {
+        let fault = self.fault;
+        match (fault.wanted, fault.words.get(fault.place)) {
             (Some(Wanted::Command), None) => {
                 f.write_str("no word is given, and a command is wanted")
             }
-            (Some(Wanted::Task), None) => write!(f, "certify wants {TASKS} behind it"),
-            (Some(wanted), Some(word)) => write_wrong(f, wanted, word.as_str(), self.words),
-            (_, _) => match form_of(self.words) {
+            (Some(Wanted::Task), None) => {
+                f.write_str("certify wants ")?;
+                write_choice(f, tasks())?;
+                f.write_str(" behind it")
+            }
+            (Some(wanted), Some(word)) => write_wrong(f, wanted, word.as_str(), fault.words),
+            (_, _) => match form_of(fault.words) {
                 Some(form) => write_count(f, &form),
                 None => f.write_str("the words are no command"),
             },
@@ -38,7 +50,11 @@ fn write_wrong<W: fmt::Write>(
             f,
             "no command {word}; the commands are info, try, mesh, strip, least, measure, fit and certify"
         ),
-        Wanted::Task => write!(f, "certify wants {TASKS} behind it, and not {word}"),
+        Wanted::Task => {
+            f.write_str("certify wants ")?;
+            write_choice(f, tasks())?;
+            write!(f, " behind it, and not {word}")
+        }
         Wanted::Goal => write_goal(f, word, words),
         Wanted::Keep => write_keep(f, word, words),
         _ => {
@@ -49,8 +65,20 @@ fn write_wrong<W: fmt::Write>(
     }
 }
 
-/// The tasks of `certify`.
-const TASKS: &str = "'make', 'check', 'make-fit' or 'check-fit'";
+/// Writes the words of these rows, of which one is wanted.
+fn write_choice<W: fmt::Write>(f: &mut fmt::Formatter<W>, rows: &[Row]) -> fmt::Result {
+    let mut left = rows.len();
+    for row in rows {
+        write!(f, "'{}'", row.word)?;
+        left = left.saturating_sub(1);
+        match left {
+            0 => {}
+            1 => f.write_str(" or ")?,
+            _ => f.write_str(", ")?,
+        }
+    }
+    Ok(())
+}
 
 /// Writes what is wanted in the place of this word: what a mesh is fitted to.
 fn write_goal<W: fmt::Write>(
@@ -60,7 +88,9 @@ fn write_goal<W: fmt::Write>(
 ) -> fmt::Result {
     if let Some(form) = form_of(words) {
         write_name(f, &form)?;
-        f.write_str(" wants 'error' or 'budget' behind")?;
+        f.write_str(" wants ")?;
+        write_choice(f, goals())?;
+        f.write_str(" behind")?;
         write_labels(f, form.behind)?;
     }
     write!(f, ", and not {word}")
@@ -90,46 +120,38 @@ fn write_other_count<W: fmt::Write>(f: &mut fmt::Formatter<W>, words: &[String])
     }
 }
 
-/// The form of a command, and how many words stand behind its name.
+/// The places of the command that some words name, and how many words stand behind its name.
 #[derive(Clone, Copy)]
-struct Form<'a> {
-    name: &'a str,
+struct Given {
+    name: &'static str,
     /// The task of `certify`; of other commands it is empty.
-    task: &'a str,
+    task: &'static str,
     behind: Stage,
     given: usize,
 }
 
-/// The form of the command that the first words name.
-fn form_of(words: &[String]) -> Option<Form<'_>> {
+/// The places of the command that the first words name.
+fn form_of(words: &[String]) -> Option<Given> {
     let [name, rest @ ..] = words else {
         return None;
     };
-    let name = name.as_str();
-    match rest {
-        [task, rest @ ..] if name == "certify" => {
-            let task = task.as_str();
-            Some(form_with(name, task, task_form(task)?, rest.len()))
+    let row = row_of(commands(), name.as_str())?;
+    match (row.behind, rest) {
+        ([Wanted::Task], [task, rest @ ..]) => {
+            let task = row_of(tasks(), task.as_str())?;
+            Some(given_words(row.word, task.word, task.behind, rest.len()))
         }
-        _ => Some(form_with(name, "", command_form(name)?, rest.len())),
+        _ => Some(given_words(row.word, "", row.behind, rest.len())),
     }
 }
 
-/// The form with these parts.
-fn form_with<'a>(name: &'a str, task: &'a str, behind: Stage, given: usize) -> Form<'a> {
-    Form {
+/// The places with these parts.
+fn given_words(name: &'static str, task: &'static str, behind: Stage, given: usize) -> Given {
+    Given {
         name,
         task,
         behind,
         given,
-    }
-}
-
-/// Whether the last place is the goal of a fitted mesh, behind which points may be kept: two more words.
-fn has_goal(behind: Stage) -> bool {
-    match behind.last() {
-        Some(Wanted::Goal) => true,
-        _ => false,
     }
 }
 
@@ -143,13 +165,13 @@ fn count_of(behind: Stage) -> usize {
 }
 
 /// Whether as many words are given as the command wants.
-fn is_asked(form: &Form<'_>) -> bool {
+fn is_asked(form: &Given) -> bool {
     let count = count_of(form.behind);
     form.given == count || (has_goal(form.behind) && form.given == count.saturating_add(2))
 }
 
 /// Writes how many words the command wants behind its name, how many are there, and which they are.
-fn write_count<W: fmt::Write>(f: &mut fmt::Formatter<W>, form: &Form<'_>) -> fmt::Result {
+fn write_count<W: fmt::Write>(f: &mut fmt::Formatter<W>, form: &Given) -> fmt::Result {
     write_asked(f, form)?;
     match form.given {
         1 => f.write_str("1 was given:")?,
@@ -159,7 +181,7 @@ fn write_count<W: fmt::Write>(f: &mut fmt::Formatter<W>, form: &Form<'_>) -> fmt
 }
 
 /// Writes the command, and how many words it wants behind its name.
-fn write_asked<W: fmt::Write>(f: &mut fmt::Formatter<W>, form: &Form<'_>) -> fmt::Result {
+fn write_asked<W: fmt::Write>(f: &mut fmt::Formatter<W>, form: &Given) -> fmt::Result {
     write_name(f, form)?;
     match count_of(form.behind) {
         1 => f.write_str(" wants 1 word behind it, "),
@@ -172,7 +194,7 @@ fn write_asked<W: fmt::Write>(f: &mut fmt::Formatter<W>, form: &Form<'_>) -> fmt
 }
 
 /// Writes the name of the command, and of `certify` its task.
-fn write_name<W: fmt::Write>(f: &mut fmt::Formatter<W>, form: &Form<'_>) -> fmt::Result {
+fn write_name<W: fmt::Write>(f: &mut fmt::Formatter<W>, form: &Given) -> fmt::Result {
     f.write_str(form.name)?;
     if form.task.is_empty() {
         Ok(())
@@ -181,52 +203,23 @@ fn write_name<W: fmt::Write>(f: &mut fmt::Formatter<W>, form: &Form<'_>) -> fmt:
     }
 }
 
-/// Writes which words a command wants behind its name.
+/// Writes which words a command wants behind its name, in each of its forms.
 fn write_places<W: fmt::Write>(f: &mut fmt::Formatter<W>, behind: Stage) -> fmt::Result {
-    write_labels(f, behind)?;
     if !has_goal(behind) {
-        return Ok(());
+        return write_labels(f, behind);
     }
-    f.write_str(" error E SPACING,")?;
-    write_labels(f, behind)?;
-    f.write_str(" error E SPACING keep POINTS, or")?;
-    write_labels(f, behind)?;
-    f.write_str(" budget BUDGET SPACING")
-}
-
-/// Writes the names of these places, but for that of a goal.
-fn write_labels<W: fmt::Write>(f: &mut fmt::Formatter<W>, behind: Stage) -> fmt::Result {
-    for wanted in behind {
-        if *wanted != Wanted::Goal {
-            write!(f, " {}", label(*wanted))?;
+    let mut between = "";
+    for goal in goals() {
+        if has_keep(goal.behind) {
+            f.write_str(between)?;
+            write_goal_form(f, behind, goal, false)?;
+            between = ",";
         }
+        f.write_str(between)?;
+        write_goal_form(f, behind, goal, true)?;
+        between = ", or";
     }
     Ok(())
-}
-
-/// The name of a place of a command, as the usage has it.
-fn label(wanted: Wanted) -> &'static str {
-    match wanted {
-        Wanted::Command => "COMMAND",
-        Wanted::Task => "TASK",
-        Wanted::Goal => "GOAL",
-        Wanted::Error => "E",
-        Wanted::Grid => "GRID",
-        Wanted::Script => "SCRIPT",
-        Wanted::Mesh => "OBJ",
-        Wanted::Certificate => "CERT",
-        Wanted::Points => "POINTS",
-        Wanted::Prefix => "PREFIX",
-        Wanted::X => "X",
-        Wanted::Y => "Y",
-        Wanted::Z => "Z",
-        Wanted::Level => "N",
-        Wanted::Seed => "SEED",
-        Wanted::Budget => "BUDGET",
-        Wanted::Tolerance => "TOLERANCE",
-        Wanted::Spacing => "SPACING",
-        Wanted::Keep => "keep",
-    }
 }
 
 /// Writes what is wanted in a place.
@@ -239,11 +232,11 @@ fn write_wanted<W: fmt::Write>(f: &mut fmt::Formatter<W>, wanted: Wanted) -> fmt
         Wanted::Error => f.write_str(
             "a number from 0 to 65535.999 with at most three places behind a point is wanted",
         ),
-        Wanted::Level => write_range(f, 1, GREATEST_LEVEL),
-        Wanted::Seed => write_range(f, 0, GREATEST_SEED),
-        Wanted::Budget => write_range(f, LEAST_BUDGET, GREATEST_BUDGET),
+        Wanted::Level => write_range(f, 1, u64::from(GREATEST_LEVEL)),
+        Wanted::Seed => write_range(f, 0, u64::from(GREATEST_SEED)),
+        Wanted::Budget => write_range(f, u64::from(LEAST_BUDGET), u64::from(GREATEST_BUDGET)),
         Wanted::Tolerance => write_range(f, 0, GREATEST_TOLERANCE),
-        Wanted::Spacing => write_range(f, 1, GREATEST_SPACING),
+        Wanted::Spacing => write_range(f, 1, u64::from(GREATEST_SPACING)),
         _ => f.write_str("another word is wanted"),
     }
 }

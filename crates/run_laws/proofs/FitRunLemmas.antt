@@ -13,7 +13,8 @@ use Rattle.obj_write.specs.Written.{mesh_with}
 use Rattle.run_laws.specs.declared.status.Status.{Status}
 use Rattle.run_laws.specs.declared.status.Status.TheVariants.{Done, NoMemory, Usage, GridRefused, ScriptRefused}
 use Rattle.run_laws.specs.declared.status.Status.TheVariants.{ReadFault, WriteFault, Rejected}
-use Rattle.run_words.specs.Words.{Fitting, Keeping, Job, Fit, Keep, Command, OnGrid, has_script, command_of}
+use Rattle.run_words.specs.Words.{Fitting, Keeping, Job, Fit, Keep, Command, OnGrid, command_of}
+use Rattle.run_words.specs.Jobs.{has_script}
 use Rattle.run_laws.specs.Walk.{Refusal}
 use Rattle.run_laws.specs.Fit.{IsFitFor, IsBestFit, IsKeptFor, IsFewestKeeping, fit_text}
 use Rattle.run_laws.specs.PointFile.{points_in}

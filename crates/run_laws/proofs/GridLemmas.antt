@@ -12,11 +12,13 @@ use Rattle.run_laws.specs.declared.status.Status.{Status}
 use Rattle.run_laws.specs.declared.status.Status.TheVariants as ends
 use Rattle.run_laws.specs.Walk.{Walk, start_walk}
 use Rattle.run_words.specs.Words.{Show, Scripted, Job, Frames, Facts, Command, OnGrid, Make, Check, Fit, Keep}
-use Rattle.run_words.specs.Words.{MakeFit, CheckFit, MakeKept, CheckKept, names_of}
+use Rattle.run_words.specs.Words.{MakeFit, CheckFit, MakeKept, CheckKept}
+use Rattle.run_words.specs.Jobs.{names_of}
 use Rattle.run_laws.specs.Picture.{Picture}
 use Rattle.run_laws.specs.Act.{Act, Told, Stands}
 use Rattle.run_laws.specs.Outcome.{Outcome, EngineEnd, shown_acts, IsGridOutcome}
-use Rattle.run_laws.specs.Promise.{Seen, HasRead, FileReadFault, CommandReadFault, HasReadHeader, most_open}
+use Rattle.run_laws.specs.Promise.{Seen, HasRead, FileReadFault, CommandReadFault, HasReadHeader}
+use Rattle.run_words.specs.Jobs.{most_open}
 use Rattle.run_laws.specs.Promise.{CommandNoMemory, IsUndecided, is_complete}
 use Rattle.run_laws.proofs.ActLemmas.{stands-nothing}
 use Rattle.run_laws.proofs.StepLemmas.{come-read}

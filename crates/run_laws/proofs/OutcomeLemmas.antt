@@ -1,5 +1,5 @@
 -- Outcomes: there is one, it exists, what is accepted ends with Done, and its pictures are certified.
-use Rattle.std.proofs.Common.{◌≡◌, ℕ, ◌≤◌, ◌&&◌, Bool, true, false, nat_le, if◌then◌else◌, ◌⊎◌, IsTrue, is_some, List}
+use Rattle.std.proofs.Common.{◌≡◌, ℕ, ◌≤◌, ◌&&◌, Bool, true, false, nat_le, if◌then◌else◌, IsTrue, is_some, is_none, List}
 use Rattle.std.proofs.Common.{[], ◌∷◌, All, Option, Some, None, IfSome, Result, Ok, Err, refl, sym, ◌∙◌, ap, subst}
 use Rattle.std.proofs.Common.{arith, inl, inr, codes, bytes_eq, length, ◌^◌, ℤ}
 use Rattle.std.specs.Prelude.{unsigned_abs}
@@ -23,15 +23,18 @@ use Rattle.cert_text.specs.Certificate.{Certificate}
 use Rattle.roam_gen.specs.Generated.{made_grid, made_lines}
 use Rattle.run_laws.specs.declared.status.Status.TheVariants.{Done, Usage, GridRefused}
 use Rattle.run_laws.specs.Walk.{Refusal, Walk, start_walk}
-use Rattle.run_words.specs.Words.{Show, as_meshes, as_strips, as_least, as_measures, as_sums, is_of_engine, Scripted}
-use Rattle.run_words.specs.Words.{Making, Target, AtError, InBudget, Job, Frames, Facts, Make, Check, Fit, Keep}
-use Rattle.run_words.specs.Words.{MakeFit, CheckFit, MakeKept, CheckKept, fit_make_command, fit_check_command, Command}
-use Rattle.run_words.specs.Words.{OnGrid, Generated, kept_error_word, kept_make_command, kept_check_command, ten_command}
-use Rattle.run_words.specs.Words.{greatest_level, greatest_seed, number_word, try_command, within, least_budget}
-use Rattle.run_words.specs.Words.{greatest_budget, is_coordinate, budget_word, spacing_word, tolerance_word, is_prefix}
-use Rattle.run_words.specs.Words.{in_reach, coordinate_word, camera_word, frames_command, least_command, meshes_command}
-use Rattle.run_words.specs.Words.{make_command, check_command, greatest_error, error_word, target_word, fit_command}
-use Rattle.run_words.specs.Words.{fit_words, keep_command, keep_words, command_of}
+use Rattle.run_words.specs.declared.table.Wanted.{Wanted}
+use Rattle.run_words.specs.declared.table.Wanted.TheVariants as want
+use Rattle.run_words.specs.declared.table.Kind.{Kind}
+use Rattle.run_words.specs.declared.table.Kind.TheVariants as kinds
+use Rattle.run_words.specs.Table.{Row, commands, tasks, goals, row_of}
+use Rattle.run_words.specs.Words.{Show, as_sums, is_of_engine, Scripted, Making, Job, Frames, Facts, Make, Check, Fit}
+use Rattle.run_words.specs.Words.{Keep, MakeFit, CheckFit, MakeKept, CheckKept, Command, OnGrid, Generated}
+use Rattle.run_words.specs.Words.{greatest_level, greatest_seed, greatest_tolerance, greatest_error, greatest_spacing}
+use Rattle.run_words.specs.Words.{least_budget, greatest_budget, within, number_word, budget_word, spacing_word}
+use Rattle.run_words.specs.Words.{tolerance_word, error_word, is_prefix, is_coordinate, in_reach, coordinate_word}
+use Rattle.run_words.specs.Words.{Found, fill, State as Reading, state, chosen, step, walk, start, first_needed, fit_job}
+use Rattle.run_words.specs.Words.{make_fit_job, check_fit_job, made_of, command_at, command_of}
 use Rattle.certificate_laws.specs.FitCertificate.{FitCertificate}
 use Rattle.certificate_laws.specs.Keeping.{KeptCertificate}
 use Rattle.run_laws.specs.CertFile.{cert_in, fit_cert_in, kept_cert_in}
@@ -40,7 +43,8 @@ use Rattle.run_laws.specs.Picture.{Picture, ArePictures, IsCertified}
 use Rattle.run_laws.specs.ReportText.{info_line, grid_refusal}
 use Rattle.run_laws.specs.Outcome.{Outcome, plain_outcome, text_outcome, stop_status, engine_end, engine_for}
 use Rattle.run_laws.specs.Outcome.{frames_outcome, script_walk, made_budget, made_spacing, made_walk}
-use Rattle.run_laws.specs.Outcome.{MakesNoCertificate, IsFramesOutcome, IsCheckOutcome, IsFitCheckOutcome, IsJobOutcome}
+use Rattle.run_words.specs.Jobs.{MakesNoCertificate}
+use Rattle.run_laws.specs.Outcome.{IsFramesOutcome, IsCheckOutcome, IsFitCheckOutcome, IsJobOutcome}
 use Rattle.run_laws.specs.Outcome.{IsKeepOutcome, IsKeptMakeOutcome, IsKeptCertOutcome, IsKeptCheckOutcome}
 use Rattle.run_laws.specs.Outcome.{IsGridOutcome, IsOutcome}
 use Rattle.run_laws.specs.Promise.{IsAcceptedJob, IsAccepted}
@@ -211,52 +215,6 @@ outcome-engine one lists runs words files end other f g =
 
 -- the budget of a command is at least 2, and a generated grid has a level
 
--- a value that stands behind a test, which was met
-met : {A : Type 0} (test : Bool) (there : Option A) (found : A) →
-    (if test then there else None) ≡ Some found → there ≡ Some found
-met true there found is = is
-met false there found is = absurd (none-some found is)
-
--- a value that stands behind a test, or in its other branch
-either : {A : Type 0} (test : Bool) (there other : Option A) (found : A) →
-    (if test then there else other) ≡ Some found → (there ≡ Some found) ⊎ (other ≡ Some found)
-either true there other found is = inl is
-either false there other found is = inr is
-
--- a number within bounds is at least the lower one
-within-low : (low high number : ℕ) (from : Option ℕ) → within low high from ≡ Some number → low ≤ number
-within-low low high number None is = absurd (none-some number is)
-within-low low high number (Some found) is =
-    let P : Option ℕ → Type 0 = λ o. IfSome o (λ k. low ≤ k) in
-    let Q : Bool → Type 0 = λ b. (if b && nat_le found high then Some found else None) ≡ Some number in
-    elim (leb_tells low found) [
-      | inl p ↦ subst P (met (nat_le low found && nat_le found high) (Some found) number is) p.1
-      | inr p ↦ absurd (none-some number (subst Q p.0 is))
-    ]
-
--- a choice of none
-no-second : (first : Bool) (found number : ℕ) → (if first && false then Some found else None) ≡ Some number →
-    (if first then None else None) ≡ Some number
-no-second true found number is = is
-no-second false found number is = is
-
--- and at most the greater one
-within-range : (low high number : ℕ) (from : Option ℕ) → within low high from ≡ Some number →
-    (low ≤ number) × (number ≤ high)
-within-range low high number None is = absurd (none-some number is)
-within-range low high number (Some found) is =
-    let P : Option ℕ → Type 0 = λ o. IfSome o (λ k. (low ≤ k) × (k ≤ high)) in
-    let Q : Bool → Type 0 = λ b. (if b && nat_le found high then Some found else None) ≡ Some number in
-    let R : Bool → Type 0 = λ b. (if nat_le low found && b then Some found else None) ≡ Some number in
-    elim (leb_tells low found) [
-      | inl p ↦ elim (leb_tells found high) [
-        | inl q ↦ subst P (met (nat_le low found && nat_le found high) (Some found) number is) (p.1, q.1)
-        | inr q ↦ absurd (none-some number
-            (met (nat_le low found) None number (no-second (nat_le low found) found number (subst R q.0 is))))
-      ]
-      | inr p ↦ absurd (none-some number (subst Q p.0 is))
-    ]
-
 -- a certificate is made for a budget within its bounds, and for a camera within its reach
 pub record IsWithinReach (m : Making) : Type 0 where
   pub low : least_budget ≤ m.budget
@@ -282,266 +240,145 @@ abbrev CommandHasBudget : Command → Type 0
 CommandHasBudget (OnGrid name job) = HasBudget job
 CommandHasBudget (Generated n seed) = (1 ≤ n) × (n ≤ 11)
 
-frames_command-budget : (i j : List ℕ) (show : Show) (budget spacing : Option ℕ) (command : Command) →
-    ((number : ℕ) → budget ≡ Some number → 2 ≤ number)
-    → frames_command i j show budget spacing ≡ Some command → CommandHasBudget command
-frames_command-budget i j show None spacing command low is = absurd (none-some command is)
-frames_command-budget i j show (Some budget) None command low is = absurd (none-some command is)
-frames_command-budget i j show (Some budget) (Some spacing) command low is =
-    let P : Option Command → Type 0 = λ c. IfSome c CommandHasBudget in
-    subst P is (low budget refl)
+-- so of what is read of words
+abbrev IsInBounds : Found → Type 0
+IsInBounds f = ((1 ≤ f.level) × (f.level ≤ 11)) × ((least_budget ≤ f.budget) × (f.budget ≤ greatest_budget))
+    × (f.thousandths ≤ greatest_error) × IsTargetOfWords f.target
+    × ((unsigned_abs f.camera.x ≤ 2 ^ 30) × (unsigned_abs f.camera.y ≤ 2 ^ 30) × (unsigned_abs f.camera.z ≤ 2 ^ 30))
 
--- a word's budget is at least 2
-budget_word-low : (word : List ℕ) (number : ℕ) → budget_word word ≡ Some number → 2 ≤ number
-budget_word-low word number found = within-low least_budget greatest_budget number (number_in 19 word) found
-
-least_command-budget : (i j k : List ℕ) (tolerance spacing : Option ℕ) (command : Command) →
-    least_command i j k tolerance spacing ≡ Some command → CommandHasBudget command
-least_command-budget i j k None spacing command is = absurd (none-some command is)
-least_command-budget i j k (Some tolerance) spacing command is =
-    frames_command-budget i j (as_least k tolerance) (Some greatest_budget) spacing command
-    (λ number same. budget-two number same) is
+made-budget : (kind : Kind) (f : Found) → IsInBounds f → CommandHasBudget (made_of kind f)
+made-budget kinds.Mesh f b = b.1.0
+made-budget kinds.Strip f b = b.1.0
+made-budget kinds.Least f b = omega arith
+made-budget kinds.Measure f b = b.1.0
+made-budget kinds.Make f b =
+    record { low = b.1.0; high = b.1.1; x_near = b.4.0; y_near = b.4.1; z_near = b.4.2 }
+made-budget kinds.Check f b = tt
+made-budget kinds.MakeFit f b = by-points f.points
   where
-    budget-two : (number : ℕ) → Some greatest_budget ≡ Some number → 2 ≤ number
-    budget-two number same =
-        let P : Option ℕ → Type 0 = λ o. IfSome o (λ k. 2 ≤ k) in
-        subst P same (omega arith)
-
-meshes_command-budget : (word i j k l m : List ℕ) (command : Command) → meshes_command word i j k l m ≡ Some command →
-    CommandHasBudget command
-meshes_command-budget word i j k l m command is =
-    let least : Option Command = least_command i j k (tolerance_word l) (spacing_word m) in
-    let behind : Option Command = if bytes_eq word (codes "least") then least else None in
-    let strip : Option Command = frames_command i j (as_strips k) (budget_word l) (spacing_word m) in
-    elim (either (bytes_eq word (codes "mesh")) (frames_command i j (as_meshes k) (budget_word l) (spacing_word m))
-    (if bytes_eq word (codes "strip") then strip else behind) command is) [
-      | inl p ↦ frames_command-budget i j (as_meshes k) (budget_word l) (spacing_word m) command (budget_word-low l) p
-      | inr p ↦ elim (either (bytes_eq word (codes "strip")) strip behind command p) [
-        | inl q ↦ frames_command-budget i j (as_strips k) (budget_word l) (spacing_word m) command (budget_word-low l) q
-        | inr q ↦ least_command-budget i j k (tolerance_word l) (spacing_word m) command
-            (met (bytes_eq word (codes "least")) least command q)
-      ]
-    ]
-
-try_command-budget : (n seed : Option ℕ) (command : Command) →
-    ((number : ℕ) → n ≡ Some number → (1 ≤ number) × (number ≤ 11))
-    → try_command n seed ≡ Some command → CommandHasBudget command
-try_command-budget None seed command range is = absurd (none-some command is)
-try_command-budget (Some n) None command range is = absurd (none-some command is)
-try_command-budget (Some n) (Some seed) command range is =
-    let P : Option Command → Type 0 = λ c. IfSome c CommandHasBudget in
-    subst P is (range n refl)
-
--- a number that a test lets through
-let-through : (test : Bool) (found v : ℤ) → (if test then Some found else None) ≡ Some v → (test ≡ true) × (found ≡ v)
-let-through true found v is = (refl, same found v is)
+    by-points : (p : Option (List ℕ)) → HasBudget (make_fit_job f p)
+    by-points None = b.3
+    by-points (Some p) = b.2
+made-budget kinds.CheckFit f b = by-points f.points
   where
-    same : (x y : ℤ) → Some x ≡ Some y → x ≡ y
-    same x y e = cc
-let-through false found v is = absurd (none v is)
+    by-points : (p : Option (List ℕ)) → HasBudget (check_fit_job f p)
+    by-points None = tt
+    by-points (Some p) = tt
+made-budget kinds.Fit f b = by-points f.points
   where
-    none : (x : ℤ) → None ≡ Some x → ⊥
-    none x e = cc
+    by-points : (p : Option (List ℕ)) → HasBudget (fit_job f p)
+    by-points None = b.3
+    by-points (Some p) = tt
+made-budget kinds.Info f b = tt
+made-budget kinds.Try f b = b.0
 
--- a number within the camera's reach
-in_reach-near : (from : Option ℤ) (v : ℤ) → in_reach from ≡ Some v → unsigned_abs v ≤ 2 ^ 30
-in_reach-near None v is = absurd (none v is)
+-- a value that is let through has what its test says
+if-both : {A : Type 0} (P : A → Type 0) (s t : Bool) (a : A) → (s ≡ true → t ≡ true → P a) →
+    IfSome (if s && t then Some a else None) P
+if-both P true true a p = p refl refl
+if-both P true false a p = tt
+if-both P false t a p = tt
+
+within-some : (low high : ℕ) (from : Option ℕ) → IfSome (within low high from) (λ k. (low ≤ k) × (k ≤ high))
+within-some low high None = tt
+within-some low high (Some k) =
+    if-both (λ k. (low ≤ k) × (k ≤ high)) (nat_le low k) (nat_le k high) k
+    (λ s t. (leb-true low k s, leb-true k high t))
+
+reach-some : (from : Option ℤ) → IfSome (in_reach from) (λ v. unsigned_abs v ≤ 2 ^ 30)
+reach-some None = tt
+reach-some (Some v) = let-through (is_coordinate v) refl
   where
-    none : (x : ℤ) → None ≡ Some x → ⊥
-    none x e = cc
-in_reach-near (Some found) v is =
-    let through = let-through (is_coordinate found) found v is in
-    subst (λ (x : ℤ). unsigned_abs x ≤ 2 ^ 30) through.1 (leb-true (unsigned_abs found) (2 ^ 30) through.0)
+    let-through : (t : Bool) → is_coordinate v ≡ t → IfSome (if t then Some v else None) (λ v. unsigned_abs v ≤ 2 ^ 30)
+    let-through true e = leb-true (unsigned_abs v) (2 ^ 30) e
+    let-through false e = tt
 
--- each coordinate of a camera word lies within its reach
-abbrev IsNear : Option ℤ → Type 0
-IsNear coordinate = (v : ℤ) → coordinate ≡ Some v → unsigned_abs v ≤ 2 ^ 30
+if-mapped : {A B : Type 0} (P : A → Type 0) (Q : B → Type 0) (f : A → B) → ((a : A) → P a → Q (f a)) → (o : Option A)
+    → IfSome o P → IfSome (option_map f o) Q
+if-mapped P Q f kept (Some a) p = kept a p
+if-mapped P Q f kept None p = tt
 
-make_command-budget : (i : List ℕ) (x y z : Option ℤ) (budget spacing : Option ℕ) (command : Command) →
-    IsNear x → IsNear y → IsNear z
-    → ((number : ℕ) → budget ≡ Some number → (least_budget ≤ number) × (number ≤ greatest_budget))
-    → make_command i (camera_word x y z) budget spacing ≡ Some command → CommandHasBudget command
-make_command-budget i None y z budget spacing command nx ny nz low is = absurd (none-some command is)
-make_command-budget i (Some x) None z budget spacing command nx ny nz low is = absurd (none-some command is)
-make_command-budget i (Some x) (Some y) None budget spacing command nx ny nz low is = absurd (none-some command is)
-make_command-budget i (Some x) (Some y) (Some z) None spacing command nx ny nz low is = absurd (none-some command is)
-make_command-budget i (Some x) (Some y) (Some z) (Some budget) None command nx ny nz low is =
-    absurd (none-some command is)
-make_command-budget i (Some x) (Some y) (Some z) (Some budget) (Some spacing) command nx ny nz low is =
-    let P : Option Command → Type 0 = λ c. IfSome c CommandHasBudget in
-    let range = low budget refl in
-    subst P is (record { low = range.0; high = range.1; x_near = nx x refl; y_near = ny y refl; z_near = nz z refl })
+if-test : {A : Type 0} (P : A → Type 0) (t : Bool) (a : A) → P a → IfSome (if t then Some a else None) P
+if-test P true a p = p
+if-test P false a p = tt
 
-check_command-budget : (i j k : List ℕ) (budget spacing : Option ℕ) (command : Command) →
-    check_command i j k budget spacing ≡ Some command → CommandHasBudget command
-check_command-budget i j k None spacing command is = absurd (none-some command is)
-check_command-budget i j k (Some budget) None command is = absurd (none-some command is)
-check_command-budget i j k (Some budget) (Some spacing) command is =
-    let P : Option Command → Type 0 = λ c. IfSome c CommandHasBudget in
-    subst P is tt
+-- each word keeps them
+fill-bounds : (place : Wanted) (word : List ℕ) (f : Found) → IsInBounds f → IfSome (fill place word f) IsInBounds
+fill-bounds want.Prefix word f b = if-test IsInBounds (is_prefix word) (record f { prefix = word }) b
+fill-bounds want.Keep word f b = if-test IsInBounds (bytes_eq word (codes "keep")) f b
+fill-bounds want.X word f b =
+    if-mapped (λ v. unsigned_abs v ≤ 2 ^ 30) IsInBounds _
+    (λ v r. (b.0, b.1, b.2, b.3, (r, b.4.1, b.4.2))) (coordinate_word word) (reach-some (signed_in word))
+fill-bounds want.Y word f b =
+    if-mapped (λ v. unsigned_abs v ≤ 2 ^ 30) IsInBounds _
+    (λ v r. (b.0, b.1, b.2, b.3, (b.4.0, r, b.4.2))) (coordinate_word word) (reach-some (signed_in word))
+fill-bounds want.Z word f b =
+    if-mapped (λ v. unsigned_abs v ≤ 2 ^ 30) IsInBounds _
+    (λ v r. (b.0, b.1, b.2, b.3, (b.4.0, b.4.1, r))) (coordinate_word word) (reach-some (signed_in word))
+fill-bounds want.Level word f b =
+    if-mapped (λ k. (1 ≤ k) × (k ≤ greatest_level)) IsInBounds _
+    (λ k r. (r, b.1, b.2, b.3, b.4)) (number_word 1 greatest_level word)
+    (within-some 1 greatest_level (number_in 19 word))
+fill-bounds want.Seed word f b =
+    if-mapped (λ k. (0 ≤ k) × (k ≤ greatest_seed)) IsInBounds _
+    (λ k r. b) (number_word 0 greatest_seed word) (within-some 0 greatest_seed (number_in 19 word))
+fill-bounds want.Budget word f b =
+    if-mapped (λ k. (least_budget ≤ k) × (k ≤ greatest_budget)) IsInBounds _
+    (λ k r. (b.0, r, b.2, r.0, b.4)) (budget_word word) (within-some least_budget greatest_budget (number_in 19 word))
+fill-bounds want.Error word f b =
+    if-mapped (λ k. (0 ≤ k) × (k ≤ greatest_error)) IsInBounds _
+    (λ k r. (b.0, b.1, r.1, r.1, b.4)) (error_word word) (within-some 0 greatest_error (thousandths_in word))
+fill-bounds want.Tolerance word f b =
+    if-mapped (λ k. (0 ≤ k) × (k ≤ greatest_tolerance)) IsInBounds _
+    (λ k r. b) (tolerance_word word) (within-some 0 greatest_tolerance (number_in 19 word))
+fill-bounds want.Spacing word f b =
+    if-mapped (λ k. (1 ≤ k) × (k ≤ greatest_spacing)) IsInBounds _
+    (λ k r. b) (spacing_word word) (within-some 1 greatest_spacing (number_in 19 word))
+fill-bounds want.Command word f b = tt
+fill-bounds want.Task word f b = tt
+fill-bounds want.Goal word f b = tt
+fill-bounds place word f b = b
 
--- a target is one that words may say
+abbrev IsReadingInBounds : Reading → Type 0
+IsReadingInBounds s = IsInBounds s.found
 
-error-high : (thousandths : Option ℕ) (target : Target) →
-    ((number : ℕ) → thousandths ≡ Some number → number ≤ greatest_error) →
-    option_map (λ k. AtError k) thousandths ≡ Some target → IsTargetOfWords target
-error-high None target high is = absurd (none-some target is)
-error-high (Some thousandths) target high is =
-    let P : Option Target → Type 0 = λ o. IfSome o IsTargetOfWords in
-    subst P is (high thousandths refl)
+chosen-bounds : (f : Found) (r : Option Row) → IsInBounds f → IfSome (chosen f r) IsReadingInBounds
+chosen-bounds f None b = tt
+chosen-bounds f (Some r) b = b
 
-budget-low : (budget : Option ℕ) (target : Target) → ((number : ℕ) → budget ≡ Some number → 2 ≤ number) →
-    option_map (λ k. InBudget k) budget ≡ Some target
-    → IsTargetOfWords target
-budget-low None target low is = absurd (none-some target is)
-budget-low (Some budget) target low is =
-    let P : Option Target → Type 0 = λ o. IfSome o IsTargetOfWords in
-    subst P is (low budget refl)
+place-bounds : (place : Wanted) (rest : List Wanted) (word : List ℕ) (f : Found) → IsInBounds f →
+    IfSome (option_map (λ g. state g rest) (fill place word f)) IsReadingInBounds
+place-bounds place rest word f b =
+    if-mapped IsInBounds IsReadingInBounds (λ g. state g rest) (λ g r. r) (fill place word f)
+    (fill-bounds place word f b)
 
-target-said : (word number : List ℕ) (target : Target) → target_word word number ≡ Some target → IsTargetOfWords target
-target-said word number target is =
-    let budgets : Option Target = option_map (λ k. InBudget k) (budget_word number) in
-    let behind : Option Target = if bytes_eq word (codes "budget") then budgets else None in
-    elim (either (bytes_eq word (codes "error")) (option_map (λ k. AtError k) (error_word number)) behind target is) [
-      | inl p ↦ error-high (error_word number) target
-          (λ k found. (within-range 0 greatest_error k (thousandths_in number) found).1) p
-      | inr p ↦ budget-low (budget_word number) target (budget_word-low number)
-          (met (bytes_eq word (codes "budget")) budgets target p)
-    ]
+step-bounds : (f : Found) (stage : List Wanted) (word : List ℕ) → IsInBounds f →
+    IfSome (step (Some (state f stage)) word) IsReadingInBounds
+step-bounds f [] word b = tt
+step-bounds f (want.Command ∷ rest) word b = chosen-bounds f (row_of commands word) b
+step-bounds f (want.Task ∷ rest) word b = chosen-bounds f (row_of tasks word) b
+step-bounds f (want.Goal ∷ rest) word b = chosen-bounds f (row_of goals word) b
+step-bounds f (place ∷ rest) word b = place-bounds place rest word f b
 
-fit_command-budget : (i j : List ℕ) (target : Option Target) (spacing : Option ℕ) (command : Command) →
-    ((t : Target) → target ≡ Some t → IsTargetOfWords t)
-    → fit_command i j target spacing ≡ Some command → CommandHasBudget command
-fit_command-budget i j None spacing command two is = absurd (none-some command is)
-fit_command-budget i j (Some target) None command two is = absurd (none-some command is)
-fit_command-budget i j (Some target) (Some spacing) command two is =
-    let P : Option Command → Type 0 = λ c. IfSome c CommandHasBudget in
-    subst P is (two target refl)
+walk-bounds : (s : Option Reading) (words : List (List ℕ)) → IfSome s IsReadingInBounds →
+    IfSome (walk s words) IsReadingInBounds
+walk-bounds s [] b = b
+walk-bounds None (word ∷ words) b = walk-bounds None words tt
+walk-bounds (Some s) (word ∷ words) b =
+    walk-bounds (step (Some s) word) words (step-bounds s.found s.stage word b)
 
-fit_words-budget : (i j k l m : List ℕ) (command : Command) → fit_words i j k l m ≡ Some command →
-    CommandHasBudget command
-fit_words-budget i j k l m command is =
-    let target : Option Target = target_word k l in
-    fit_command-budget i j target (spacing_word m) command (λ t found. target-said k l t found)
-    (met (is_prefix j) (fit_command i j target (spacing_word m)) command is)
-
-keep_command-budget : (i j : List ℕ) (thousandths spacing : Option ℕ) (k : List ℕ) (command : Command) →
-    keep_command i j thousandths spacing k ≡ Some command → CommandHasBudget command
-keep_command-budget i j None spacing k command is = absurd (none-some command is)
-keep_command-budget i j (Some thousandths) None k command is = absurd (none-some command is)
-keep_command-budget i j (Some thousandths) (Some spacing) k command is =
-    let P : Option Command → Type 0 = λ c. IfSome c CommandHasBudget in
-    subst P is tt
-
-keep_words-budget : (i j k l m o p : List ℕ) (command : Command) → keep_words i j k l m o p ≡ Some command →
-    CommandHasBudget command
-keep_words-budget i j k l m o p command is =
-    let error : Option ℕ = kept_error_word k l o in
-    keep_command-budget i j error (spacing_word m) p command
-    (met (is_prefix j) (keep_command i j error (spacing_word m) p) command is)
-
-kept_make_command-budget : (i : List ℕ) (thousandths spacing : Option ℕ) (k : List ℕ) (command : Command) →
-    ((number : ℕ) → thousandths ≡ Some number → number ≤ greatest_error)
-    → kept_make_command i thousandths spacing k ≡ Some command → CommandHasBudget command
-kept_make_command-budget i None spacing k command high is = absurd (none-some command is)
-kept_make_command-budget i (Some thousandths) None k command high is = absurd (none-some command is)
-kept_make_command-budget i (Some thousandths) (Some spacing) k command high is =
-    let P : Option Command → Type 0 = λ c. IfSome c CommandHasBudget in
-    subst P is (high thousandths refl)
-
-kept_check_command-budget : (i j k : List ℕ) (thousandths spacing : Option ℕ) (l : List ℕ) (command : Command) →
-    kept_check_command i j k thousandths spacing l ≡ Some command → CommandHasBudget command
-kept_check_command-budget i j k None spacing l command is = absurd (none-some command is)
-kept_check_command-budget i j k (Some thousandths) None l command is = absurd (none-some command is)
-kept_check_command-budget i j k (Some thousandths) (Some spacing) l command is =
-    let P : Option Command → Type 0 = λ c. IfSome c CommandHasBudget in
-    subst P is tt
-
-fit_make_command-budget : (i : List ℕ) (target : Option Target) (spacing : Option ℕ) (command : Command) →
-    ((t : Target) → target ≡ Some t → IsTargetOfWords t)
-    → fit_make_command i target spacing ≡ Some command → CommandHasBudget command
-fit_make_command-budget i None spacing command two is = absurd (none-some command is)
-fit_make_command-budget i (Some target) None command two is = absurd (none-some command is)
-fit_make_command-budget i (Some target) (Some spacing) command two is =
-    let P : Option Command → Type 0 = λ c. IfSome c CommandHasBudget in
-    subst P is (two target refl)
-
-fit_check_command-budget : (i j k : List ℕ) (target : Option Target) (spacing : Option ℕ) (command : Command)
-    → fit_check_command i j k target spacing ≡ Some command → CommandHasBudget command
-fit_check_command-budget i j k None spacing command is = absurd (none-some command is)
-fit_check_command-budget i j k (Some target) None command is = absurd (none-some command is)
-fit_check_command-budget i j k (Some target) (Some spacing) command is =
-    let P : Option Command → Type 0 = λ c. IfSome c CommandHasBudget in
-    subst P is tt
+at-budget : (s : Option Reading) → IfSome s IsReadingInBounds → IfSome (command_at s) CommandHasBudget
+at-budget None b = tt
+at-budget (Some s) b =
+    if-test CommandHasBudget (is_none (first_needed s.stage)) (made_of s.found.kind s.found)
+    (made-budget s.found.kind s.found b)
 
 words-budget : (words : List (List ℕ)) (command : Command) → command_of words ≡ Some command → CommandHasBudget command
-words-budget [] command is = absurd (none-some command is)
-words-budget (word ∷ []) command is = absurd (none-some command is)
-words-budget (word ∷ (i ∷ [])) command is =
+words-budget words command is =
+    let low : (least_budget ≤ 2) × (2 ≤ greatest_budget) = (omega arith, omega arith) in
     let P : Option Command → Type 0 = λ c. IfSome c CommandHasBudget in
-    subst P (met (bytes_eq word (codes "info")) (Some (OnGrid i Facts)) command is) tt
-words-budget (word ∷ (i ∷ (j ∷ []))) command is =
-    let n : Option ℕ = number_word 1 greatest_level i in
-    let seed : Option ℕ = number_word 0 greatest_seed j in
-    try_command-budget n seed command (λ number found. within-range 1 greatest_level number (number_in 19 i) found)
-    (met (bytes_eq word (codes "try")) (try_command n seed) command is)
-words-budget (word ∷ (i ∷ (j ∷ (k ∷ [])))) command is = absurd (none-some command is)
-words-budget (word ∷ (i ∷ (j ∷ (k ∷ (l ∷ []))))) command is =
-    frames_command-budget i j as_measures (budget_word k) (spacing_word l) command (budget_word-low k)
-    (met (bytes_eq word (codes "measure")) (frames_command i j as_measures (budget_word k) (spacing_word l)) command is)
-words-budget (word ∷ (i ∷ (j ∷ (k ∷ (l ∷ (m ∷ [])))))) command is =
-    let meshes : Option Command = meshes_command word i j k l m in
-    let behind : Option Command = if is_prefix k then meshes else None in
-    let target : Option Target = target_word k l in
-    let makes : Bool = bytes_eq word (codes "certify") && bytes_eq i (codes "make-fit") in
-    let made : Option Command = fit_make_command j target (spacing_word m) in
-    elim (either (bytes_eq word (codes "fit")) (fit_words i j k l m) (if makes then made else behind) command is) [
-      | inl p ↦ fit_words-budget i j k l m command p
-      | inr p ↦ elim (either makes made behind command p) [
-        | inl q ↦ fit_make_command-budget j target (spacing_word m) command (λ t found. target-said k l t found) q
-        | inr q ↦ meshes_command-budget word i j k l m command (met (is_prefix k) meshes command q)
-      ]
-    ]
-words-budget (word ∷ (i ∷ (j ∷ (k ∷ (l ∷ (m ∷ (o ∷ []))))))) command is =
-    check_command-budget j k l (budget_word m) (spacing_word o) command
-    (met (bytes_eq word (codes "certify") && bytes_eq i (codes "check"))
-    (check_command j k l (budget_word m) (spacing_word o)) command is)
-words-budget (word ∷ (i ∷ (j ∷ (k ∷ (l ∷ (m ∷ (o ∷ (p ∷ [])))))))) command is =
-    let place : Option CameraAt = camera_word (coordinate_word k) (coordinate_word l) (coordinate_word m) in
-    let target : Option Target = target_word m o in
-    let checks : Bool = bytes_eq word (codes "certify") && bytes_eq i (codes "check-fit") in
-    let checked : Option Command = fit_check_command j k l target (spacing_word p) in
-    let kept : Option Command = keep_words i j k l m o p in
-    let makes : Bool = bytes_eq word (codes "certify") && bytes_eq i (codes "make-fit") in
-    let error : Option ℕ = kept_error_word k l o in
-    let made : Option Command = kept_make_command j error (spacing_word m) p in
-    let last : Option Command = if makes then made else None in
-    let behind : Option Command = if bytes_eq word (codes "fit") then kept else last in
-    elim (either (bytes_eq word (codes "certify") && bytes_eq i (codes "make"))
-    (make_command j place (budget_word o) (spacing_word p))
-    (if checks then checked else behind) command is) [
-      | inl f ↦ make_command-budget j (coordinate_word k) (coordinate_word l) (coordinate_word m) (budget_word o)
-          (spacing_word p) command
-          (in_reach-near (signed_in k)) (in_reach-near (signed_in l)) (in_reach-near (signed_in m))
-          (λ number found. within-range least_budget greatest_budget number (number_in 19 o) found) f
-      | inr f ↦ elim (either checks checked behind command f) [
-        | inl q ↦ fit_check_command-budget j k l target (spacing_word p) command q
-        | inr q ↦ elim (either (bytes_eq word (codes "fit")) kept last command q) [
-          | inl r ↦ keep_words-budget i j k l m o p command r
-          | inr r ↦ kept_make_command-budget j error (spacing_word m) p command
-              (λ number found. (within-range 0 greatest_error number (thousandths_in l)
-              (met (bytes_eq k (codes "error") && bytes_eq o (codes "keep")) (error_word l) number found)).1)
-              (met makes made command r)
-        ]
-      ]
-    ]
-words-budget (word ∷ (i ∷ (j ∷ (k ∷ (l ∷ (m ∷ (o ∷ (p ∷ (q ∷ []))))))))) command is = absurd (none-some command is)
-words-budget (word ∷ (i ∷ (j ∷ (k ∷ (l ∷ (m ∷ (o ∷ (p ∷ (q ∷ (r ∷ [])))))))))) command is =
-    let checked : Option Command = kept_check_command j k l (kept_error_word m o q) (spacing_word p) r in
-    kept_check_command-budget j k l (kept_error_word m o q) (spacing_word p) r command
-    (met (bytes_eq word (codes "certify") && bytes_eq i (codes "check-fit")) checked command is)
-words-budget (word ∷ (i ∷ (j ∷ (k ∷ (l ∷ (m ∷ (o ∷ (p ∷ (q ∷ (r ∷ (more ∷ words))))))))))) command is =
-    absurd (none-some command is)
+    subst P is (at-budget (walk start words) (walk-bounds start words
+    ((omega arith, omega arith), low, omega arith, omega arith, (omega arith, omega arith, omega arith))))
 
 -- the budget of a job of words is at least 2
 pub command-budget : (words : List (List ℕ)) (name : List ℕ) (job : Job) →

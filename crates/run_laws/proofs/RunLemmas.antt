@@ -8,8 +8,11 @@ use Rattle.roam_edge.specs.Shelf.{NamedFile, bytes_of}
 use Rattle.run_laws.specs.declared.status.Status.{Status}
 use Rattle.run_laws.specs.declared.status.Status.TheVariants.{Done, NoMemory, Usage, GridRefused, ReadFault, WriteFault}
 use Rattle.run_laws.specs.declared.status.Status.TheVariants.{ScriptRefused, Rejected}
-use Rattle.run_words.specs.Words.{Show, Scripted, Job, Command, OnGrid, is_check, is_of_engine, Frames, Facts, Make}
-use Rattle.run_words.specs.Words.{Check, Fit, Keep, MakeFit, CheckFit, MakeKept, CheckKept, names_of, file_count}
+use Rattle.run_words.specs.Words.{Show, Scripted, Job, Command, OnGrid, is_of_engine, Frames, Facts, Make}
+use Rattle.run_words.specs.Jobs.{is_check}
+use Rattle.run_words.specs.Jobs.{most_open, is_of_text}
+use Rattle.run_words.specs.Words.{Check, Fit, Keep, MakeFit, CheckFit, MakeKept, CheckKept}
+use Rattle.run_words.specs.Jobs.{names_of, file_count}
 use Rattle.mesh_defs.specs.HeightField.{HeightField}
 use Rattle.pgm_grid.specs.declared.fault.PgmFault.{PgmFault}
 use Rattle.pgm_grid.specs.Progress.{grid_of}
@@ -21,8 +24,7 @@ use Rattle.run_laws.specs.Walk.{Walk}
 use Rattle.run_laws.specs.Outcome.{Outcome, EngineEnd, plain_outcome, text_outcome, IsJobOutcome, IsGridOutcome}
 use Rattle.run_laws.specs.Outcome.{IsCommandOutcome}
 use Rattle.run_laws.specs.Promise.{Seen, HasEnded, HasReadHeader, IsUndecided, OpensForStatus, CommandReadFault}
-use Rattle.run_laws.specs.Promise.{CommandNoMemory, most_open, is_complete, ends_script, may_end, leaves_engine}
-use Rattle.run_laws.specs.Promise.{is_of_text}
+use Rattle.run_laws.specs.Promise.{CommandNoMemory, is_complete, ends_script, may_end, leaves_engine}
 use Rattle.run_laws.specs.Maker.{DoesAs, IsScriptEnd, Leaves, EndsScript, ScriptHasCome}
 use Rattle.run_laws.specs.FileStop.{StopsReading}
 use Rattle.run_laws.specs.Moment.{Moment, OnlyReads, SameMeshes}
@@ -52,15 +54,7 @@ and-false false = refl
 none-unended : (name : List ℕ) (job : Job) (status : Status) → ends_script status ≡ false
     → leaves_engine (Some (OnGrid name job)) status ≡ false
 none-unended name (Frames s) status is = ap (λ b. is_of_engine s.show && b) is ∙ and-false (is_of_engine s.show)
-none-unended name Facts status is = refl
-none-unended name (Make m) status is = refl
-none-unended name (Check c) status is = refl
-none-unended name (Fit f) status is = refl
-none-unended name (Keep k) status is = refl
-none-unended name (MakeFit m) status is = refl
-none-unended name (CheckFit c) status is = refl
-none-unended name (MakeKept m) status is = refl
-none-unended name (CheckKept c) status is = refl
+none-unended name job status is = refl
 
 -- a command on a grid names a file
 names-some : (name : List ℕ) (job : Job) → nat_lt 0 (length (names_of (OnGrid name job))) ≡ true

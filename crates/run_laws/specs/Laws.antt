@@ -44,7 +44,8 @@ use Rattle.run_laws.specs.Certify.{makes_at, IsMade, IsFitMade, IsKeptMade}
 use Rattle.run_laws.specs.Act.{Told}
 use Rattle.run_laws.specs.Picture.{Picture, ArePictures, IsCertified, last_members}
 use Rattle.run_laws.specs.Turns.{left_turns, right_turns}
-use Rattle.run_laws.specs.Outcome.{Outcome, IsOutcome, MakesNoCertificate}
+use Rattle.run_laws.specs.Outcome.{Outcome, IsOutcome}
+use Rattle.run_words.specs.Jobs.{MakesNoCertificate}
 use Rattle.run_laws.specs.Promise.{Seen, EndsRight, LeavesAtReadFault, LeavesAtNoMemory, IsAcceptedCheck}
 use Rattle.run_laws.specs.Promise.{IsAcceptedFitCheck, IsAcceptedKeptCheck, IsAccepted}
 use Rattle.run_laws.specs.Headline.{IsRunOf, KeepsGoodMeshes, IsCertifiedMesh, IsCertifiedFit, KeepsFitMesh}

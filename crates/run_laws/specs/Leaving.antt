@@ -14,7 +14,8 @@ use Rattle.pgm_grid.specs.Progress.{grid_of}
 use Rattle.run_laws.specs.declared.status.Status.{Status}
 use Rattle.roam_script.specs.PointText.{most_points}
 use Rattle.run_laws.specs.declared.status.Status.TheVariants.{Done, NoMemory, ScriptRefused, ReadFault, WriteFault}
-use Rattle.run_words.specs.Words.{Command, Job, OnGrid, names_of, file_count}
+use Rattle.run_words.specs.Words.{Command, Job, OnGrid}
+use Rattle.run_words.specs.Jobs.{names_of, file_count}
 use Rattle.run_laws.specs.Walk.{Refusal}
 use Rattle.run_laws.specs.PointFile.{points_in, PointsHaveRead}
 use Rattle.run_laws.specs.ReportText.{line_refusal}

@@ -2,8 +2,7 @@
 -- Words: EngineEnd, Outcome, plain_outcome, text_outcome, picture_acts, shown_acts, sum_acts, stop_acts, stop_status,
 -- engine_end, engine_for, frames_outcome, IsFramesOutcome, script_walk, made_budget, made_spacing, made_walk, fit_acts,
 -- IsKeepOutcome, IsCompared, IsVerdictOutcome, IsCheckOutcome, IsFitVerdictOutcome, IsFitCheckOutcome,
--- IsKeptMakeOutcome, IsKeptCertOutcome, IsKeptCheckOutcome, IsJobOutcome, IsGridOutcome, IsCommandOutcome, IsOutcome,
--- MakesNoCertificate.
+-- IsKeptMakeOutcome, IsKeptCertOutcome, IsKeptCheckOutcome, IsJobOutcome, IsGridOutcome, IsCommandOutcome, IsOutcome.
 use Rattle.std.specs.Prelude.{◌≡◌, ⊤, ℕ, ◌+◌, ◌⊎◌, if◌then◌else◌, List, [], ◌∷◌, ◌++◌, length, sum_by, Option, Some}
 use Rattle.std.specs.Prelude.{None, Result, Ok, Err}
 use Rattle.mesh_defs.specs.declared.point.Point.{Point}
@@ -252,19 +251,3 @@ IsCommandOutcome (Generated n seed) files end = IsFramesOutcome (as_sums n seed)
 abbrev pub IsOutcome : Option Command → List NamedFile → Outcome → Type 0
 IsOutcome None files end = end ≡ plain_outcome [] Usage 0
 IsOutcome (Some command) files end = IsCommandOutcome command files end
-
--- The words are none of `certify make` and `certify make-fit`: of the certificates that may be made any is right, and
--- every other command, and words that are none, have one outcome alone.
-abbrev pub MakesNoCertificate : Option Command → Type 0
-MakesNoCertificate None = ⊤
-MakesNoCertificate (Some (OnGrid grid (Frames s))) = ⊤
-MakesNoCertificate (Some (OnGrid grid Facts)) = ⊤
-MakesNoCertificate (Some (OnGrid grid (Make m))) = ⊥
-MakesNoCertificate (Some (OnGrid grid (Check c))) = ⊤
-MakesNoCertificate (Some (OnGrid grid (Fit f))) = ⊤
-MakesNoCertificate (Some (OnGrid grid (Keep k))) = ⊤
-MakesNoCertificate (Some (OnGrid grid (MakeFit m))) = ⊥
-MakesNoCertificate (Some (OnGrid grid (CheckFit c))) = ⊤
-MakesNoCertificate (Some (OnGrid grid (MakeKept m))) = ⊥
-MakesNoCertificate (Some (OnGrid grid (CheckKept c))) = ⊤
-MakesNoCertificate (Some (Generated n seed)) = ⊤

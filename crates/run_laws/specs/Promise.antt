@@ -1,9 +1,9 @@
 -- What a run of `roam` promises, by its status.
 -- Words: Seen, seen, shelf_tells, AreFiles, is_complete, ends_script, EndsAs, EndsRight, HasEnded, may_end,
 -- OpensForStatus, IsUndecided, ScriptHasRead, CheckHasRead, FitCheckHasRead, KeptCheckHasRead, JobHasRead, HasRead,
--- FileReadFault, CommandReadFault, LeavesAtReadFault, most_open, HasReadHeader, CheckHasCome, FitCheckHasCome,
+-- FileReadFault, CommandReadFault, LeavesAtReadFault, HasReadHeader, CheckHasCome, FitCheckHasCome,
 -- KeptMakeHasCome, KeptCheckHasCome, CommandNoMemory, LeavesAtNoMemory, IsAcceptedCheck, IsAcceptedFitCheck,
--- IsAcceptedKeptCheck, IsAcceptedJob, IsAccepted, is_of_text, leaves_engine.
+-- IsAcceptedKeptCheck, IsAcceptedJob, IsAccepted, leaves_engine.
 use Rattle.std.specs.Prelude.{◌≡◌, ◌≢◌, ⊤, ℕ, zero, suc, ◌+◌, ◌<◌, ◌≤◌, Bool, true, false, ◌&&◌, ◌||◌, nat_lt, IsTrue}
 use Rattle.std.specs.Prelude.{List, [], ◌++◌, length, Option, Some, None, Ok, Err, slice_get}
 use Rattle.mesh_defs.specs.declared.point.Point.{Point}
@@ -24,8 +24,10 @@ use Rattle.run_laws.specs.declared.status.Status.TheVariants.{Done, NoMemory, Us
 use Rattle.run_laws.specs.declared.status.Status.TheVariants.{ReadFault, WriteFault, Rejected}
 use Rattle.run_laws.specs.Walk.{AreWhole, HasBegun}
 use Rattle.run_words.specs.Words.{Scripted, Checking, Job, Frames, Facts, Make, Check, Fit, Keep, FitChecking, MakeFit}
-use Rattle.run_words.specs.Words.{CheckFit, KeptMaking, KeptChecking, MakeKept, CheckKept, Command, OnGrid, Generated, names_of}
-use Rattle.run_words.specs.Words.{file_count, has_script, has_points, is_check, is_of_engine, command_of}
+use Rattle.run_words.specs.Words.{CheckFit, KeptMaking, KeptChecking, MakeKept, CheckKept, Command, OnGrid, Generated}
+use Rattle.run_words.specs.Jobs.{names_of}
+use Rattle.run_words.specs.Words.{is_of_engine, command_of}
+use Rattle.run_words.specs.Jobs.{most_open, file_count, has_script, has_points, is_check}
 use Rattle.run_laws.specs.CertFile.{cert_in, CertHasRead, fit_cert_in, FitCertHasRead, kept_cert_in, KeptCertHasRead}
 use Rattle.run_laws.specs.PointFile.{points_in, PointsHaveRead}
 use Rattle.run_laws.specs.Certify.{checks_at, IsFaultless, IsFitFaultless, IsKeptFaultless}
@@ -216,21 +218,6 @@ pub record LeavesAtReadFault (before now : Told) (old new : Seen) (words : List 
   pub is_command : command_of words ≡ Some command
   pub leaves : CommandReadFault before now old new command
 
--- how many files are open at most when memory runs out: the grid alone, but for a certificate of a mesh that keeps
--- points, which takes memory behind the points, and for a check, which takes memory for its certificate and its mesh too
-abbrev pub most_open : Command → ℕ
-most_open (OnGrid name (Frames s)) = 1
-most_open (OnGrid name Facts) = 1
-most_open (OnGrid name (Make m)) = 1
-most_open (OnGrid name (Check c)) = 3
-most_open (OnGrid name (Fit f)) = 1
-most_open (OnGrid name (Keep k)) = 1
-most_open (OnGrid name (MakeFit m)) = 1
-most_open (OnGrid name (CheckFit c)) = 3
-most_open (OnGrid name (MakeKept m)) = 2
-most_open (OnGrid name (CheckKept c)) = 4
-most_open (Generated n seed) = 0
-
 -- the bytes have a whole accepted header, which was read
 abbrev pub HasReadHeader : List ℕ → Option (List ℕ) → Type 0
 HasReadHeader bytes rest =
@@ -338,32 +325,9 @@ IsAccepted (Some (OnGrid name job)) files =
     (grid : HeightField) × IsHeightField grid × IsFileText grid (bytes_of files name) × IsAcceptedJob job grid files
 IsAccepted (Some (Generated n seed)) files = ⊤
 
--- the words ask neither for frames nor for a mesh: they write one text at most
-abbrev pub is_of_text : Option Command → Bool
-is_of_text None = true
-is_of_text (Some (OnGrid name (Frames s))) = false
-is_of_text (Some (OnGrid name Facts)) = true
-is_of_text (Some (OnGrid name (Make m))) = true
-is_of_text (Some (OnGrid name (Check c))) = true
-is_of_text (Some (OnGrid name (Fit f))) = false
-is_of_text (Some (OnGrid name (Keep k))) = false
-is_of_text (Some (OnGrid name (MakeFit m))) = true
-is_of_text (Some (OnGrid name (CheckFit c))) = true
-is_of_text (Some (OnGrid name (MakeKept m))) = true
-is_of_text (Some (OnGrid name (CheckKept c))) = true
-is_of_text (Some (Generated n seed)) = true
-
 -- an engine is left where it made the frames, and the script came to its end or to a line that is refused
 abbrev pub leaves_engine : Option Command → Status → Bool
 leaves_engine (Some (OnGrid name (Frames s))) status = is_of_engine s.show && ends_script status
-leaves_engine (Some (OnGrid name Facts)) status = false
-leaves_engine (Some (OnGrid name (Make m))) status = false
-leaves_engine (Some (OnGrid name (Check c))) status = false
-leaves_engine (Some (OnGrid name (Fit f))) status = false
-leaves_engine (Some (OnGrid name (Keep k))) status = false
-leaves_engine (Some (OnGrid name (MakeFit m))) status = false
-leaves_engine (Some (OnGrid name (CheckFit c))) status = false
-leaves_engine (Some (OnGrid name (MakeKept m))) status = false
-leaves_engine (Some (OnGrid name (CheckKept c))) status = false
+leaves_engine (Some (OnGrid name job)) status = false
 leaves_engine (Some (Generated n seed)) status = ends_script status
 leaves_engine None status = false

@@ -16,12 +16,14 @@ use Rattle.obj_write.specs.Written.{Grows}
 use Rattle.run_laws.specs.declared.status.Status.{Status}
 use Rattle.run_laws.specs.declared.status.Status.TheVariants.{Done, NoMemory, Usage, ReadFault, WriteFault}
 use Rattle.run_words.specs.Words.{Scripted, Checking, Fitting, Keeping, FitChecking, KeptChecking, Frames, Check, Fit}
-use Rattle.run_words.specs.Words.{Keep, CheckFit, CheckKept, Command, command_of, prefix_of, file_count}
+use Rattle.run_words.specs.Words.{Keep, CheckFit, CheckKept, Command, command_of, prefix_of}
+use Rattle.run_words.specs.Jobs.{file_count}
 use Rattle.run_laws.specs.Act.{Stands, IsCutShort}
 use Rattle.run_laws.specs.Picture.{IsCertified}
 use Rattle.run_laws.specs.Outcome.{EngineEnd, Outcome, IsOutcome}
 use Rattle.run_laws.specs.Promise.{AreFiles, is_complete, HasEnded, may_end, OpensForStatus, CommandReadFault}
-use Rattle.run_laws.specs.Promise.{CommandNoMemory, is_of_text, leaves_engine}
+use Rattle.run_laws.specs.Promise.{CommandNoMemory, leaves_engine}
+use Rattle.run_words.specs.Jobs.{is_of_text}
 use Rattle.run_laws.specs.Headline.{IsRunOf, KeepsGoodMeshes, IsCertifiedMesh, IsCertifiedFit, KeepsFitMesh}
 use Rattle.run_laws.specs.Headline.{IsCertifiedKept, KeepsKeptMesh}
 use Rattle.run_laws.specs.PointFile.{points_in}

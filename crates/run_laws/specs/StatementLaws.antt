@@ -8,7 +8,8 @@ use Rattle.run_laws.specs.declared.status.Status.TheVariants.{Done, NoMemory, Wr
 use Rattle.run_words.specs.Words.{Scripted, Frames, Command, command_of}
 use Rattle.run_laws.specs.Act.{ReportText}
 use Rattle.run_laws.specs.Cause.{StatusHasCause}
-use Rattle.run_laws.specs.Outcome.{EngineEnd, Outcome, IsOutcome, MakesNoCertificate}
+use Rattle.run_laws.specs.Outcome.{EngineEnd, Outcome, IsOutcome}
+use Rattle.run_words.specs.Jobs.{MakesNoCertificate}
 use Rattle.run_laws.specs.Promise.{AreFiles, EndsRight, IsAccepted, is_complete}
 use Rattle.run_laws.specs.Headline.{IsRunOf}
 use Rattle.run_laws.specs.CutShort.{is_by_frame, StandsInText, LeavesAtWriteFault}

@@ -1,4 +1,8 @@
+pub mod Table
+pub mod TableView
 pub mod Words
+pub mod Jobs
+pub mod FoundView
 pub mod WordView
 pub mod ShowView
 pub mod CertifyView

@@ -1,20 +1,24 @@
 -- The words of a command line that are a command. This project's own.
 -- Words: Criterion, TriangleOrder, Output, Show, as_meshes, as_strips, as_least, as_measures, as_sums, Scripted,
 -- Making, Checking, Target, Fitting, Keeping, fitting_of, FitMaking, FitChecking, KeptMaking, KeptChecking, Job,
--- Command, job_files, names_of, file_count, is_scripted, has_script, is_keeping, has_points, is_check, is_of_engine,
--- prefix_of, is_prefix, within, number_word, least_budget, greatest_budget, greatest_spacing, greatest_level,
--- greatest_seed, greatest_tolerance, greatest_error, greatest_coordinate, is_coordinate, budget_word, spacing_word,
--- tolerance_word, error_word, in_reach, coordinate_word, frames_command, least_command, meshes_command, try_command,
--- camera_word, make_command, check_command, target_word, kept_error_word, fit_command, fit_words, keep_command,
--- keep_words, fit_make_command, fit_check_command, kept_make_command, kept_check_command, six_command, eight_command,
--- ten_command, command_of.
-use Rattle.std.specs.Prelude.{ℕ, ◌^◌, Bool, true, false, ◌&&◌, nat_le, if◌then◌else◌, List, [], ◌∷◌, length, Option}
-use Rattle.std.specs.Prelude.{Some, None, codes, bytes_eq, ℤ, unsigned_abs}
+-- Command, is_of_engine, prefix_of, is_prefix, within, number_word, least_budget, greatest_budget, greatest_tolerance, greatest_error,
+-- greatest_spacing, greatest_level, greatest_seed, greatest_coordinate, is_coordinate, budget_word, spacing_word,
+-- tolerance_word, error_word, in_reach, coordinate_word, Found, nothing, fill, State, state, chosen, next, is_fit,
+-- may_stand, step, walk, start, first_needed, first_wanted, fit_job, make_fit_job, check_fit_job, frames_job, made_of,
+-- command_at, command_of, BeginsCommand, BeginsNoCommand.
+use Rattle.std.specs.Prelude.{◌≡◌, ℕ, ◌^◌, Bool, true, false, ◌&&◌, nat_le, if◌then◌else◌, IsTrue, List, [], ◌∷◌}
+use Rattle.std.specs.Prelude.{◌++◌, length, Option, Some, None, is_some, is_none, codes, bytes_eq, ℤ, pos, unsigned_abs}
+use Rattle.std.specs.Prelude.{unwrap_or}
 use Rattle.std.specs.Option.{option_map}
 use Rattle.mesh_defs.specs.BoundingBox.{CameraAt}
 use Rattle.roam_edge.specs.declared.mesh_sink.TheConstants.{LONGEST_PREFIX}
 use Rattle.text_laws.specs.Numbers.{number_in, signed_in}
 use Rattle.roam_num.specs.Places.{thousandths_in}
+use Rattle.run_words.specs.declared.table.Wanted.{Wanted}
+use Rattle.run_words.specs.declared.table.Wanted.TheVariants as want
+use Rattle.run_words.specs.declared.table.Kind.{Kind}
+use Rattle.run_words.specs.declared.table.Kind.TheVariants as kinds
+use Rattle.run_words.specs.Table.{Row, commands, tasks, goals, row_of}
 
 -- which mesh a frame has: the best one of the budget in force, or the least one of a tolerance
 pub data Criterion : Type 0 where
@@ -153,77 +157,6 @@ pub data Command : Type 0 where
   OnGrid : (grid : List ℕ) (job : Job) → Command
   Generated : (n seed : ℕ) → Command
 
--- the names of the files that a job reads after the grid, in the order in which they are opened
-abbrev pub job_files : Job → List (List ℕ)
-job_files (Frames s) = s.script ∷ []
-job_files Facts = []
-job_files (Make m) = []
-job_files (Check c) = c.certificate ∷ (c.mesh ∷ [])
-job_files (Fit f) = []
-job_files (Keep k) = k.points ∷ []
-job_files (MakeFit m) = []
-job_files (CheckFit c) = c.certificate ∷ (c.mesh ∷ [])
-job_files (MakeKept m) = m.points ∷ []
-job_files (CheckKept c) = c.points ∷ (c.certificate ∷ (c.mesh ∷ []))
-
--- the names of a command's files; the grid comes first
-abbrev pub names_of : Command → List (List ℕ)
-names_of (OnGrid grid job) = grid ∷ job_files job
-names_of (Generated n seed) = []
-
--- how many files the words name, where they are a command
-abbrev pub file_count : Option Command → ℕ
-file_count None = 0
-file_count (Some command) = length (names_of command)
-
--- the job's file is a script
-abbrev pub is_scripted : Job → Bool
-is_scripted (Frames s) = true
-is_scripted Facts = false
-is_scripted (Make m) = false
-is_scripted (Check c) = false
-is_scripted (Fit f) = false
-is_scripted (Keep k) = false
-is_scripted (MakeFit m) = false
-is_scripted (CheckFit c) = false
-is_scripted (MakeKept m) = false
-is_scripted (CheckKept c) = false
-
-abbrev pub has_script : Command → Bool
-has_script (OnGrid grid job) = is_scripted job
-has_script (Generated n seed) = false
-
--- a file of the job has the points that a mesh keeps
-abbrev pub is_keeping : Job → Bool
-is_keeping (Frames s) = false
-is_keeping Facts = false
-is_keeping (Make m) = false
-is_keeping (Check c) = false
-is_keeping (Fit f) = false
-is_keeping (Keep k) = true
-is_keeping (MakeFit m) = false
-is_keeping (CheckFit c) = false
-is_keeping (MakeKept m) = true
-is_keeping (CheckKept c) = true
-
-abbrev pub has_points : Command → Bool
-has_points (OnGrid grid job) = is_keeping job
-has_points (Generated n seed) = false
-
--- the command checks a mesh
-abbrev pub is_check : Command → Bool
-is_check (OnGrid grid (Frames s)) = false
-is_check (OnGrid grid Facts) = false
-is_check (OnGrid grid (Make m)) = false
-is_check (OnGrid grid (Check c)) = true
-is_check (OnGrid grid (Fit f)) = false
-is_check (OnGrid grid (Keep k)) = false
-is_check (OnGrid grid (MakeFit m)) = false
-is_check (OnGrid grid (CheckFit c)) = true
-is_check (OnGrid grid (MakeKept m)) = false
-is_check (OnGrid grid (CheckKept c)) = true
-is_check (Generated n seed) = false
-
 -- an engine makes the frames that are shown so: those of a budget; the meshes of a tolerance are made without one
 abbrev pub is_of_engine : Show → Bool
 is_of_engine show = elim show.criterion as (λ _. Bool) [ OfBudget ↦ true | OfTolerance tolerance ↦ false ]
@@ -301,168 +234,177 @@ in_reach (Some v) = if is_coordinate v then Some v else None
 abbrev pub coordinate_word : List ℕ → Option ℤ
 coordinate_word word = in_reach (signed_in word)
 
--- the frames of a script on a grid, if budget and spacing are there
-abbrev pub frames_command : List ℕ → List ℕ → Show → Option ℕ → Option ℕ → Option Command
-frames_command grid_name script_name shown (Some b) (Some s) =
-    Some (OnGrid grid_name (Frames (record { script = script_name; budget = b; spacing = s; show = shown })))
-frames_command grid_name script_name shown _ _ = None
+-- What is read of the words of a command: which command it is, and what stands in each kind of place.
+pub record Found : Type 0 where
+  pub kind : Kind
+  pub grid : List ℕ
+  pub script : List ℕ
+  pub prefix : List ℕ
+  pub mesh : List ℕ
+  pub certificate : List ℕ
+  pub points : Option (List ℕ)
+  pub camera : CameraAt
+  pub level : ℕ
+  pub seed : ℕ
+  pub budget : ℕ
+  pub tolerance : ℕ
+  pub thousandths : ℕ
+  pub target : Target
+  pub spacing : ℕ
 
--- the meshes of a tolerance, if it and the spacing are there: they have no budget, so a script may set any
-abbrev pub least_command : List ℕ → List ℕ → List ℕ → Option ℕ → Option ℕ → Option Command
-least_command grid_name script_name prefix None spacing = None
-least_command grid_name script_name prefix (Some tolerance) spacing =
-    frames_command grid_name script_name (as_least prefix tolerance) (Some greatest_budget) spacing
+-- before the first word: a value within its bounds for each place that a command may lack
+abbrev pub nothing : Found
+nothing = record {
+  kind = kinds.Info;
+  grid = [];
+  script = [];
+  prefix = codes "o";
+  mesh = [];
+  certificate = [];
+  points = None;
+  camera = record { x = pos 0; y = pos 0; z = pos 0 };
+  level = 1;
+  seed = 0;
+  budget = least_budget;
+  tolerance = 0;
+  thousandths = 0;
+  target = AtError 0;
+  spacing = 1;
+}
 
--- a word, GRID, SCRIPT, PREFIX, a number and SPACING
-abbrev pub meshes_command : List ℕ → List ℕ → List ℕ → List ℕ → List ℕ → List ℕ → Option Command
-meshes_command word i j prefix number step =
-    if bytes_eq word (codes "mesh") then frames_command i j (as_meshes prefix) (budget_word number) (spacing_word step)
-    else if bytes_eq word (codes "strip")
-    then frames_command i j (as_strips prefix) (budget_word number) (spacing_word step)
-    else if bytes_eq word (codes "least") then least_command i j prefix (tolerance_word number) (spacing_word step)
-    else None
+-- what is found with this word in a place; None of a word that does not fit it, and of one that names a row
+abbrev pub fill : Wanted → List ℕ → Found → Option Found
+fill want.Grid word f = Some (record f { grid = word })
+fill want.Script word f = Some (record f { script = word })
+fill want.Mesh word f = Some (record f { mesh = word })
+fill want.Certificate word f = Some (record f { certificate = word })
+fill want.Points word f = Some (record f { points = Some word })
+fill want.Prefix word f = if is_prefix word then Some (record f { prefix = word }) else None
+fill want.X word f = option_map (λ v. record f { camera = record { x = v; y = f.camera.y; z = f.camera.z } })
+    (coordinate_word word)
+fill want.Y word f = option_map (λ v. record f { camera = record { x = f.camera.x; y = v; z = f.camera.z } })
+    (coordinate_word word)
+fill want.Z word f = option_map (λ v. record f { camera = record { x = f.camera.x; y = f.camera.y; z = v } })
+    (coordinate_word word)
+fill want.Level word f = option_map (λ k. record f { level = k }) (number_word 1 greatest_level word)
+fill want.Seed word f = option_map (λ k. record f { seed = k }) (number_word 0 greatest_seed word)
+fill want.Budget word f = option_map (λ k. record f { budget = k; target = InBudget k }) (budget_word word)
+fill want.Error word f = option_map (λ k. record f { thousandths = k; target = AtError k }) (error_word word)
+fill want.Tolerance word f = option_map (λ k. record f { tolerance = k }) (tolerance_word word)
+fill want.Spacing word f = option_map (λ k. record f { spacing = k }) (spacing_word word)
+fill want.Keep word f = if bytes_eq word (codes "keep") then Some f else None
+fill _ word f = None
 
--- the generated run, if level and seed are there
-abbrev pub try_command : Option ℕ → Option ℕ → Option Command
-try_command (Some n) (Some seed) = Some (Generated n seed)
-try_command _ _ = None
+-- behind some words of a command: what was found in them, and what is still wanted
+pub record State : Type 0 where
+  pub found : Found
+  pub stage : List Wanted
 
--- the camera of three coordinates, if all are there
-abbrev pub camera_word : Option ℤ → Option ℤ → Option ℤ → Option CameraAt
-camera_word (Some i) (Some j) (Some k) = Some (record { x = i; y = j; z = k })
-camera_word _ _ _ = None
+abbrev pub state : Found → List Wanted → State
+state f places = record { found = f; stage = places }
 
--- a certificate is made, if camera, budget and spacing are there
-abbrev pub make_command : List ℕ → Option CameraAt → Option ℕ → Option ℕ → Option Command
-make_command grid_name (Some place) (Some b) (Some s) =
-    Some (OnGrid grid_name (Make (record { camera = place; budget = b; spacing = s })))
-make_command grid_name _ _ _ = None
+-- behind the word that names this row
+abbrev pub chosen : Found → Option Row → Option State
+chosen f None = None
+chosen f (Some r) = Some (state (record f { kind = unwrap_or r.kind f.kind }) r.behind)
 
--- a mesh is checked by a certificate, if budget and spacing are there
-abbrev pub check_command : List ℕ → List ℕ → List ℕ → Option ℕ → Option ℕ → Option Command
-check_command grid_name mesh_name cert_name (Some b) (Some s) =
-    Some (OnGrid grid_name (Check (record { mesh = mesh_name; certificate = cert_name; budget = b; spacing = s })))
-check_command grid_name mesh_name cert_name _ _ = None
+-- behind a word where this is wanted, and the rest behind it; None of a word that does not fit
+abbrev pub next : Wanted → List Wanted → List ℕ → Found → Option State
+next want.Command rest word f = chosen f (row_of commands word)
+next want.Task rest word f = chosen f (row_of tasks word)
+next want.Goal rest word f = chosen f (row_of goals word)
+next place rest word f = option_map (λ g. state g rest) (fill place word f)
 
--- what a mesh is fitted to, by a word and a number
-abbrev pub target_word : List ℕ → List ℕ → Option Target
-target_word word number =
-    if bytes_eq word (codes "error") then option_map (λ k. AtError k) (error_word number)
-    else if bytes_eq word (codes "budget") then option_map (λ k. InBudget k) (budget_word number)
-    else None
+-- a word may stand where this is wanted
+abbrev pub is_fit : Wanted → List ℕ → Bool
+is_fit place word = is_some (next place [] word nothing)
 
--- the thousandths of the error of a mesh that keeps points: `error`, a number, and behind the spacing `keep`
-abbrev pub kept_error_word : List ℕ → List ℕ → List ℕ → Option ℕ
-kept_error_word word number keep =
-    if bytes_eq word (codes "error") && bytes_eq keep (codes "keep") then error_word number else None
+-- a word may stand where this is wanted, if a word is wanted there
+abbrev pub may_stand : Option Wanted → List ℕ → Bool
+may_stand None word = false
+may_stand (Some place) word = is_fit place word
 
--- a mesh is fitted, if what it is fitted to and the spacing are there
-abbrev pub fit_command : List ℕ → List ℕ → Option Target → Option ℕ → Option Command
-fit_command grid_name begin (Some goal) (Some s) =
-    Some (OnGrid grid_name (Fit (record { prefix = begin; target = goal; spacing = s })))
-fit_command grid_name begin _ _ = None
+-- behind one word more; None once a word was wrong
+abbrev pub step : Option State → List ℕ → Option State
+step None word = None
+step (Some s) word = elim s.stage as (λ _. Option State) [ [] ↦ None | place ∷ rest ↦ next place rest word s.found ]
 
--- GRID, PREFIX, `error` or `budget`, a number and SPACING
-abbrev pub fit_words : List ℕ → List ℕ → List ℕ → List ℕ → List ℕ → Option Command
-fit_words grid_name begin word number step =
-    if is_prefix begin then fit_command grid_name begin (target_word word number) (spacing_word step) else None
+abbrev pub walk : Option State → List (List ℕ) → Option State
+walk s [] = s
+walk s (word ∷ words) = walk (step s word) words
 
--- a mesh is fitted that keeps points, if the error and the spacing are there
-abbrev pub keep_command : List ℕ → List ℕ → Option ℕ → Option ℕ → List ℕ → Option Command
-keep_command grid_name begin (Some k) (Some s) points_name =
-    Some (OnGrid grid_name (Keep (record { prefix = begin; thousandths = k; spacing = s; points = points_name })))
-keep_command grid_name begin _ _ points_name = None
+-- before the first word
+abbrev pub start : Option State
+start = Some (state nothing (want.Command ∷ []))
 
--- GRID, PREFIX, `error`, a number, SPACING, `keep` and POINTS
-abbrev pub keep_words : List ℕ → List ℕ → List ℕ → List ℕ → List ℕ → List ℕ → List ℕ → Option Command
-keep_words grid_name begin word number step keep points_name =
-    if is_prefix begin
-    then keep_command grid_name begin (kept_error_word word number keep) (spacing_word step) points_name else None
+-- what has to stand next; None where the command is whole, though it may go on: points may be kept or not
+abbrev pub first_needed : List Wanted → Option Wanted
+first_needed [] = None
+first_needed (want.Keep ∷ rest) = None
+first_needed (place ∷ rest) = Some place
 
--- a certificate of a fitted mesh is made, if what the mesh is fitted to and the spacing are there
-abbrev pub fit_make_command : List ℕ → Option Target → Option ℕ → Option Command
-fit_make_command grid_name (Some goal) (Some s) =
-    Some (OnGrid grid_name (MakeFit (record { target = goal; spacing = s })))
-fit_make_command grid_name _ _ = None
+-- what is wanted next; None where nothing may follow
+abbrev pub first_wanted : List Wanted → Option Wanted
+first_wanted [] = None
+first_wanted (place ∷ rest) = Some place
 
--- a fitted mesh is checked by a certificate, if what it is fitted to and the spacing are there
-abbrev pub fit_check_command : List ℕ → List ℕ → List ℕ → Option Target → Option ℕ → Option Command
-fit_check_command grid_name mesh_name cert_name (Some goal) (Some s) =
-    Some (OnGrid grid_name (CheckFit (record {
-      mesh = mesh_name;
-      certificate = cert_name;
-      target = goal;
-      spacing = s;
-    })))
-fit_check_command grid_name mesh_name cert_name _ _ = None
+-- a mesh is fitted, or a certificate of one is made, or checked; where points are kept, they are read too
+abbrev pub fit_job : Found → Option (List ℕ) → Job
+fit_job f None = Fit (record { prefix = f.prefix; target = f.target; spacing = f.spacing })
+fit_job f (Some p) =
+    Keep (record { prefix = f.prefix; thousandths = f.thousandths; spacing = f.spacing; points = p })
 
--- a certificate of a fitted mesh that keeps points is made, if the error and the spacing are there
-abbrev pub kept_make_command : List ℕ → Option ℕ → Option ℕ → List ℕ → Option Command
-kept_make_command grid_name (Some k) (Some s) points_name =
-    Some (OnGrid grid_name (MakeKept (record { thousandths = k; spacing = s; points = points_name })))
-kept_make_command grid_name _ _ points_name = None
+abbrev pub make_fit_job : Found → Option (List ℕ) → Job
+make_fit_job f None = MakeFit (record { target = f.target; spacing = f.spacing })
+make_fit_job f (Some p) = MakeKept (record { thousandths = f.thousandths; spacing = f.spacing; points = p })
 
--- a fitted mesh that keeps points is checked by a certificate, if the error and the spacing are there
-abbrev pub kept_check_command : List ℕ → List ℕ → List ℕ → Option ℕ → Option ℕ → List ℕ → Option Command
-kept_check_command grid_name mesh_name cert_name (Some k) (Some s) points_name =
-    Some (OnGrid grid_name (CheckKept (record {
-      mesh = mesh_name;
-      certificate = cert_name;
-      thousandths = k;
-      spacing = s;
-      points = points_name;
-    })))
-kept_check_command grid_name mesh_name cert_name _ _ points_name = None
+abbrev pub check_fit_job : Found → Option (List ℕ) → Job
+check_fit_job f None =
+    CheckFit (record { mesh = f.mesh; certificate = f.certificate; target = f.target; spacing = f.spacing })
+check_fit_job f (Some p) = CheckKept (record {
+  mesh = f.mesh;
+  certificate = f.certificate;
+  thousandths = f.thousandths;
+  spacing = f.spacing;
+  points = p;
+})
 
--- of six words: a mesh is fitted, a certificate of such a mesh is made, or a mesh is written for each frame
-abbrev pub six_command : List ℕ → List ℕ → List ℕ → List ℕ → List ℕ → List ℕ → Option Command
-six_command word i j k number step =
-    if bytes_eq word (codes "fit") then fit_words i j k number step
-    else if bytes_eq word (codes "certify") && bytes_eq i (codes "make-fit")
-    then fit_make_command j (target_word k number) (spacing_word step)
-    else if is_prefix k then meshes_command word i j k number step
-    else None
+-- the frames of a script within a budget, shown so
+abbrev pub frames_job : Found → ℕ → Show → Job
+frames_job f most shown = Frames (record { script = f.script; budget = most; spacing = f.spacing; show = shown })
 
--- of eight words: a certificate is made, a fitted mesh is checked by one, a mesh is fitted that keeps points, or a
--- certificate of such a mesh is made
-abbrev pub eight_command : List ℕ → List ℕ → List ℕ → List ℕ → List ℕ → List ℕ → List ℕ → List ℕ → Option Command
-eight_command word task grid_name i j k number step =
-    if bytes_eq word (codes "certify") && bytes_eq task (codes "make")
-    then make_command grid_name (camera_word (coordinate_word i) (coordinate_word j) (coordinate_word k))
-    (budget_word number) (spacing_word step)
-    else if bytes_eq word (codes "certify") && bytes_eq task (codes "check-fit")
-    then fit_check_command grid_name i j (target_word k number) (spacing_word step)
-    else if bytes_eq word (codes "fit") then keep_words task grid_name i j k number step
-    else if bytes_eq word (codes "certify") && bytes_eq task (codes "make-fit")
-    then kept_make_command grid_name (kept_error_word i j number) (spacing_word k) step
-    else None
+-- The command that is found; the meshes of a tolerance have no budget, so a script may set any.
+abbrev pub made_of : Kind → Found → Command
+made_of kinds.Mesh f = OnGrid f.grid (frames_job f f.budget (as_meshes f.prefix))
+made_of kinds.Strip f = OnGrid f.grid (frames_job f f.budget (as_strips f.prefix))
+made_of kinds.Least f = OnGrid f.grid (frames_job f greatest_budget (as_least f.prefix f.tolerance))
+made_of kinds.Measure f = OnGrid f.grid (frames_job f f.budget as_measures)
+made_of kinds.Make f = OnGrid f.grid (Make (record { camera = f.camera; budget = f.budget; spacing = f.spacing }))
+made_of kinds.Check f = OnGrid f.grid (Check (record {
+  mesh = f.mesh;
+  certificate = f.certificate;
+  budget = f.budget;
+  spacing = f.spacing;
+}))
+made_of kinds.MakeFit f = OnGrid f.grid (make_fit_job f f.points)
+made_of kinds.CheckFit f = OnGrid f.grid (check_fit_job f f.points)
+made_of kinds.Fit f = OnGrid f.grid (fit_job f f.points)
+made_of kinds.Info f = OnGrid f.grid Facts
+made_of kinds.Try f = Generated f.level f.seed
 
--- of ten words: a fitted mesh that keeps points is checked by a certificate
-abbrev pub ten_command : List ℕ → List ℕ → List ℕ → List ℕ → List ℕ → List ℕ → List ℕ → List ℕ → List ℕ → List ℕ
-    → Option Command
-ten_command word task grid_name mesh_name cert_name goal number step keep points_name =
-    if bytes_eq word (codes "certify") && bytes_eq task (codes "check-fit")
-    then kept_check_command grid_name mesh_name cert_name (kept_error_word goal number keep) (spacing_word step)
-    points_name
-    else None
+-- the command behind its last word; None where a word was wrong, or one has to follow
+abbrev pub command_at : Option State → Option Command
+command_at None = None
+command_at (Some s) = if is_none (first_needed s.stage) then Some (made_of s.found.kind s.found) else None
 
--- The command that the words are, None of other words: `info GRID`, `try N SEED`, `mesh GRID SCRIPT PREFIX BUDGET
--- SPACING`, `strip GRID SCRIPT PREFIX BUDGET SPACING`, `least GRID SCRIPT PREFIX TOLERANCE SPACING`, `measure GRID
--- SCRIPT BUDGET SPACING`, `certify check GRID OBJ CERT BUDGET SPACING`, `certify make GRID X Y Z BUDGET SPACING`, `fit
--- GRID PREFIX TARGET SPACING`, `certify check-fit GRID OBJ CERT TARGET SPACING`, or `certify make-fit GRID TARGET
--- SPACING`, where TARGET is the two words `error E` or `budget BUDGET`; and the last three for an error with `keep
--- POINTS` behind SPACING.
+-- The command that the words are, None of other words: the one that the table has of them, word by word.
 abbrev pub command_of : List (List ℕ) → Option Command
-command_of (word ∷ (i ∷ [])) = if bytes_eq word (codes "info") then Some (OnGrid i Facts) else None
-command_of (word ∷ (i ∷ (j ∷ []))) =
-    if bytes_eq word (codes "try") then try_command (number_word 1 greatest_level i)
-    (number_word 0 greatest_seed j) else None
-command_of (word ∷ (i ∷ (j ∷ (k ∷ (l ∷ []))))) =
-    if bytes_eq word (codes "measure") then frames_command i j as_measures (budget_word k) (spacing_word l) else None
-command_of (word ∷ (i ∷ (j ∷ (k ∷ (l ∷ (m ∷ [])))))) = six_command word i j k l m
-command_of (word ∷ (i ∷ (j ∷ (k ∷ (l ∷ (m ∷ (o ∷ []))))))) =
-    if bytes_eq word (codes "certify") && bytes_eq i (codes "check")
-    then check_command j k l (budget_word m) (spacing_word o) else None
-command_of (word ∷ (i ∷ (j ∷ (k ∷ (l ∷ (m ∷ (o ∷ (p ∷ [])))))))) = eight_command word i j k l m o p
-command_of (word ∷ (i ∷ (j ∷ (k ∷ (l ∷ (m ∷ (o ∷ (p ∷ (q ∷ (r ∷ [])))))))))) = ten_command word i j k l m o p q r
-command_of _ = None
+command_of words = command_at (walk start words)
+
+-- these words begin a command: with some words behind them they are one
+abbrev pub BeginsCommand : List (List ℕ) → Type 0
+BeginsCommand words = (behind : List (List ℕ)) × IsTrue (is_some (command_of (words ++ behind)))
+
+-- whatever stands behind these words, they are no command
+abbrev pub BeginsNoCommand : List (List ℕ) → Type 0
+BeginsNoCommand words = (behind : List (List ℕ)) → command_of (words ++ behind) ≡ None

@@ -7,13 +7,23 @@
 #![tactic(auto)]
 
 mod certify_words;
+mod first_wrong;
 mod fit_words;
+mod found;
 mod kept_words;
+mod role;
 mod showing;
+mod table;
 mod words;
 
 pub use certify_words::{CheckWords, FitCheckWords, FitMakeWords, MakeWords};
+pub use first_wrong::WordFault;
 pub use fit_words::{FitWords, KeepWords, Target};
+pub use found::{GREATEST_BUDGET, GREATEST_SEED, GREATEST_TOLERANCE, LEAST_BUDGET, REACH};
 pub use kept_words::{KeptCheckWords, KeptMakeWords};
+pub use mesh_defs::GREATEST_LEVEL;
+pub use role::Role;
 pub use showing::{Meshing, Showing};
+pub use table::{Kind, Row, Stage, Wanted, commands, goals, row_of, tasks};
+pub use wedgie_tree::GREATEST_SPACING;
 pub use words::{Command, FrameWords, command_in};

@@ -1,26 +1,21 @@
-//! The words of a command line.
+//! A command, and the reader of its words.
 
-ghost use Rattle.std.specs.Prelude.{◌≡◌, ◌≤◌, if◌then◌else◌, true, map, string_bytes, IfSome, ◌<◌, ◌&&◌, ◌==◌, length};
-ghost use Rattle.std.specs.Prelude.{codes, bytes_eq};
-ghost use Rattle.std.specs.Option.{option_map};
-ghost use Rattle.run_words.specs.Words.{as_measures, Facts, OnGrid, budget_word, command_of, frames_command};
-ghost use Rattle.run_words.specs.Words.{greatest_level, greatest_seed, least_budget, greatest_budget, least_command};
-ghost use Rattle.run_words.specs.Words.{meshes_command, six_command, number_word, spacing_word, tolerance_word};
-ghost use Rattle.run_words.specs.Words.{try_command};
-ghost use Rattle.run_words.specs.Words.{is_prefix as is_prefix_seen};
-ghost use Rattle.run_words.specs.ShowView.{IsPrefixLength};
-ghost use Rattle.run_words.specs.WordView.{command_seen, show_for, IsMeshing, IsCommandInBounds};
+ghost use Rattle.std.specs.Prelude.{◌≡◌, ◌<◌, ◌≤◌, ◌+◌, ◌↔◌, ℕ, List, [], ◌∷◌, ◌++◌, Some, None, length, map, take};
+ghost use Rattle.std.specs.Prelude.{IfOk, IfErr, IsTrue, string_bytes};
+ghost use Rattle.run_words.specs.Words.{made_of, command_of, BeginsCommand, BeginsNoCommand, may_stand};
+ghost use Rattle.run_words.specs.Words.{frames_job, fit_job, make_fit_job, check_fit_job, OnGrid};
+ghost use Rattle.run_words.specs.Words.{least_budget, greatest_budget};
+ghost use Rattle.run_words.specs.FoundView.{found_seen, IsFound};
+ghost use Rattle.run_words.specs.WordView.{show_for, IsMeshing, command_seen, IsCommandInBounds};
 
-use crate::certify_words::{
-    CheckWords, FitCheckWords, FitMakeWords, MakeWords, certify_in, is_task, make_fit_in,
-};
-use crate::fit_words::{FitWords, KeepWords, fit_in};
+use crate::certify_words::{CheckWords, FitCheckWords, FitMakeWords, MakeWords};
+use crate::first_wrong::{WordFault, found_in};
+use crate::fit_words::{FitWords, KeepWords};
+use crate::found::{Found, GREATEST_BUDGET};
 use crate::kept_words::{KeptCheckWords, KeptMakeWords};
 use crate::showing::{Meshing, Showing};
-use mesh_defs::GREATEST_LEVEL;
-use roam_edge::LONGEST_PREFIX;
-use roam_num::read_dec;
-use wedgie_tree::GREATEST_SPACING;
+use crate::table::Kind;
+use view_priority::Camera;
 
 /// A command.
 #[derive(Clone, Copy)]
@@ -70,231 +65,175 @@ pub struct FrameWords<'a> {
     pub spacing: u32,
 }
 
-/// The least budget: the two base triangles.
-pub(crate) const LEAST_BUDGET: u32 = 2;
-
-/// The greatest budget.
-pub(crate) const GREATEST_BUDGET: u32 = 1 << 20;
-
-/// The greatest tolerance.
-const GREATEST_TOLERANCE: u64 = 999_999_999_999;
-
-/// The greatest seed.
-const GREATEST_SEED: u32 = u32::MAX;
-
-/// The command that the words are, or None of other words.
-pub fn command_in(words: &[String]) -> Option<Command<'_>>
-    ensures value { option_map command_seen result ≡ command_of (map string_bytes words.now) }
-    ensures accepted { IfSome result IsCommandInBounds }
+/// The command that the words are; of other words the first one that is wrong.
+///
+/// Cost (not proved): a few steps a byte of the words. Takes no memory.
+pub fn command_in(words: &[String]) -> Result<Command<'_>, WordFault<'_>>
+    ensures value { IfOk result (λ c. command_of (map string_bytes words.now) ≡ Some (command_seen c)) }
+    ensures accepted { IfOk result IsCommandInBounds }
+    ensures none { IfErr result (λ f. command_of (map string_bytes words.now) ≡ None) }
+    ensures place { IfErr result (λ f. f.place ≤ length words.now) }
+    // The words before it begin a command,
+    ensures first { IfErr result (λ f. BeginsCommand (take f.place (map string_bytes words.now))) }
+    // and with it they begin none, whatever stands behind it.
+    ensures wrong { IfErr result (λ f. f.place < length words.now →
+        BeginsNoCommand (take (f.place + 1) (map string_bytes words.now))) }
+    // What is wanted in its place is what goes on to a command.
+    ensures wanted { IfErr result (λ f. (word : List ℕ) →
+        BeginsCommand (take f.place (map string_bytes words.now) ++ word ∷ [])
+        ↔ IsTrue (may_stand f.wanted word)) }
+    ensures words { IfErr result (λ f. f.words.now ≡ words.now) }
 {
-    if words.len() < 7 {
-        short_command_in(words)
-    } else {
-        certify_in(words)
+    match found_in(words) {
+        Ok(found) => Ok(made(&found)),
+        Err(fault) => Err(fault),
     }
 }
 
-/// The command that fewer than 7 words are.
-fn short_command_in(words: &[String]) -> Option<Command<'_>>
-    requires few { length words.now < 7 }
-    ensures value { option_map command_seen result ≡ command_of (map string_bytes words.now) }
-    ensures accepted { IfSome result IsCommandInBounds }
+/// The command that is found in some words.
+fn made<'a>(found: &Found<'a>) -> Command<'a>
+    requires found { IsFound found.now }
+    ensures value { command_seen result ≡ made_of found.now.kind (found_seen found.now) }
+    ensures accepted { IsCommandInBounds result }
 {
-    match words {
-        [word, grid] => info_in(word.as_str(), grid.as_str()),
-        [word, n, seed] => try_in(word.as_str(), n.as_str(), seed.as_str()),
-        [word, grid, script, budget, spacing] => measure_in(
-            word.as_str(),
-            grid.as_str(),
-            script.as_str(),
-            budget.as_str(),
-            spacing.as_str(),
+    match found.kind {
+        Kind::Mesh => frames(
+            found,
+            Meshing::ByEngine(Showing::Meshes(found.prefix)),
+            found.budget,
         ),
-        [word, grid, name, third, number, spacing] => mesh_in(
-            word.as_str(),
-            grid.as_str(),
-            name.as_str(),
-            third.as_str(),
-            number.as_str(),
-            spacing.as_str(),
+        Kind::Strip => frames(
+            found,
+            Meshing::ByEngine(Showing::Strips(found.prefix)),
+            found.budget,
         ),
-        _ => None,
+        Kind::Least => frames(
+            found,
+            Meshing::ByTolerance {
+                prefix: found.prefix,
+                tolerance: found.tolerance,
+            },
+            GREATEST_BUDGET,
+        ),
+        Kind::Measure => frames(found, Meshing::ByEngine(Showing::Measures), found.budget),
+        Kind::Make => Command::Make(MakeWords {
+            grid: found.grid,
+            camera: camera(found),
+            budget: found.budget,
+            spacing: found.spacing,
+        }),
+        Kind::Check => Command::Check(CheckWords {
+            grid: found.grid,
+            mesh: found.mesh,
+            certificate: found.certificate,
+            budget: found.budget,
+            spacing: found.spacing,
+        }),
+        Kind::MakeFit => make_fit(found),
+        Kind::CheckFit => check_fit(found),
+        Kind::Fit => fit(found),
+        Kind::Info => Command::Info(found.grid),
+        Kind::Try => Command::Try {
+            n: found.level,
+            seed: found.seed,
+        },
     }
 }
 
-/// A line on the grid, if the word asks for one.
-fn info_in<'a>(word: &str, grid: &'a str) -> Option<Command<'a>>
-    ensures value { option_map command_seen result ≡
-        (if bytes_eq word.now (codes "info") then Some (OnGrid grid.now Facts) else None) }
-    ensures accepted { IfSome result IsCommandInBounds }
+/// The frames of a script within a budget, shown so.
+fn frames<'a>(found: &Found<'a>, meshing: Meshing<'a>, budget: u32) -> Command<'a>
+    requires found { IsFound found.now }
+    requires shown { IsMeshing meshing }
+    requires budget { (least_budget ≤ budget) × (budget ≤ greatest_budget) }
+    ensures value { command_seen result ≡
+        OnGrid found.now.grid.now (frames_job (found_seen found.now) budget (show_for meshing.entry)) }
+    ensures accepted { IsCommandInBounds result }
 {
-    if word == "info" {
-        Some(Command::Info(grid))
-    } else {
-        None
-    }
-}
-
-/// A generated run, if the word asks for one, and level and seed are numbers within their bounds.
-fn try_in<'a>(word: &str, n: &str, seed: &str) -> Option<Command<'a>>
-    ensures value { option_map command_seen result ≡ (if bytes_eq word.now (codes "try")
-        then try_command (number_word 1 greatest_level n.now) (number_word 0 greatest_seed seed.now) else None) }
-    ensures accepted { IfSome result IsCommandInBounds }
-{
-    if word == "try" {
-        Some(Command::Try {
-            n: small_number(n, 1, GREATEST_LEVEL)?,
-            seed: small_number(seed, 0, GREATEST_SEED)?,
-        })
-    } else {
-        None
-    }
-}
-
-/// Measures of the frames of a script, if the word asks for them, and budget and spacing are numbers within their
-/// bounds.
-fn measure_in<'a>(
-    word: &str,
-    grid: &'a str,
-    script: &'a str,
-    budget: &str,
-    spacing: &str,
-) -> Option<Command<'a>>
-    ensures value { option_map command_seen result ≡ (if bytes_eq word.now (codes "measure")
-        then frames_command grid.now script.now as_measures (budget_word budget.now) (spacing_word spacing.now)
-        else None) }
-    ensures accepted { IfSome result IsCommandInBounds }
-{
-    if word == "measure" {
-        let meshing = Meshing::ByEngine(Showing::Measures);
-        let budget = small_number(budget, LEAST_BUDGET, GREATEST_BUDGET);
-        frames_in(grid, script, meshing, budget, spacing)
-    } else {
-        None
-    }
-}
-
-/// The command of six words: that fits a mesh, that makes a certificate of such a mesh, or one that writes a mesh for
-/// each frame.
-fn mesh_in<'a>(
-    word: &str,
-    grid: &'a str,
-    name: &'a str,
-    third: &'a str,
-    number: &str,
-    spacing: &str,
-) -> Option<Command<'a>>
-    ensures value { option_map command_seen result ≡
-        six_command word.now grid.now name.now third.now number.now spacing.now }
-    ensures accepted { IfSome result IsCommandInBounds }
-{
-    if word == "fit" {
-        fit_in(grid, name, third, number, spacing)
-    } else if is_task(word, grid, "make-fit") {
-        make_fit_in(name, third, number, spacing)
-    } else {
-        meshes_in(word, grid, name, third, number, spacing)
-    }
-}
-
-/// Whether the names of meshes may begin so: it has at least 1 byte, and no more than a mesh sink takes.
-pub(crate) fn is_prefix(prefix: &str) -> bool
-    ensures value { result ≡ is_prefix_seen prefix.now }
-    ensures accepted { result ≡ true → IsPrefixLength prefix.now }
-{
-    1 <= prefix.len() && prefix.len() <= LONGEST_PREFIX
-}
-
-/// The command with this word that writes a mesh for each frame, or None of another word, or of a prefix that is
-/// empty or too long.
-fn meshes_in<'a>(
-    word: &str,
-    grid: &'a str,
-    script: &'a str,
-    prefix: &'a str,
-    number: &str,
-    spacing: &str,
-) -> Option<Command<'a>>
-    ensures value { option_map command_seen result ≡ (if is_prefix_seen prefix.now
-        then meshes_command word.now grid.now script.now prefix.now number.now spacing.now else None) }
-    ensures accepted { IfSome result IsCommandInBounds }
-{
-    if !is_prefix(prefix) {
-        return None;
-    }
-    let meshing = if word == "mesh" {
-        Meshing::ByEngine(Showing::Meshes(prefix))
-    } else if word == "strip" {
-        Meshing::ByEngine(Showing::Strips(prefix))
-    } else if word == "least" {
-        return least_in(grid, script, prefix, number, spacing);
-    } else {
-        return None;
-    };
-    let budget = small_number(number, LEAST_BUDGET, GREATEST_BUDGET);
-    frames_in(grid, script, meshing, budget, spacing)
-}
-
-/// The least meshes of a tolerance, if it and the spacing are numbers within their bounds. A script may put each
-/// budget in force that there is.
-fn least_in<'a>(
-    grid: &'a str,
-    script: &'a str,
-    prefix: &'a str,
-    tolerance: &str,
-    spacing: &str,
-) -> Option<Command<'a>>
-    requires { IsPrefixLength prefix.now }
-    ensures value { option_map command_seen result ≡
-        least_command grid.now script.now prefix.now (tolerance_word tolerance.now) (spacing_word spacing.now) }
-    ensures accepted { IfSome result IsCommandInBounds }
-{
-    let tolerance = number_in_word(tolerance, 0, GREATEST_TOLERANCE)?;
-    let meshing = Meshing::ByTolerance { prefix, tolerance };
-    frames_in(grid, script, meshing, Some(GREATEST_BUDGET), spacing)
-}
-
-/// The frames of a script, if there is a budget and the spacing is a number within its bounds.
-fn frames_in<'a>(
-    grid: &'a str,
-    script: &'a str,
-    meshing: Meshing<'a>,
-    budget: Option<u32>,
-    spacing: &str,
-) -> Option<Command<'a>>
-    requires meshing { IsMeshing meshing }
-    requires budget { IfSome budget (λ number. (least_budget ≤ number) × (number ≤ greatest_budget)) }
-    ensures value { option_map command_seen result ≡
-        frames_command grid.now script.now (show_for meshing.entry) budget (spacing_word spacing.now) }
-    ensures accepted { IfSome result IsCommandInBounds }
-{
-    Some(Command::Frames(FrameWords {
-        grid,
-        script,
+    Command::Frames(FrameWords {
+        grid: found.grid,
+        script: found.script,
         meshing,
-        budget: budget?,
-        spacing: small_number(spacing, 1, GREATEST_SPACING)?,
-    }))
+        budget,
+        spacing: found.spacing,
+    })
 }
 
-/// The number of a word of 1 to 19 digits, if it lies within these bounds of 32 bits.
-pub(crate) fn small_number(word: &str, low: u32, high: u32) -> Option<u32>
-    ensures value { result ≡ number_word low high word.now }
-    ensures within { IfSome result (λ number. (low ≤ number) × (number ≤ high)) }
+/// Where a mesh is seen from.
+fn camera(found: &Found<'_>) -> Camera
+    requires found { IsFound found.now }
+    ensures { result ≡ (found_seen found.now).camera }
 {
-    let number = number_in_word(word, u64::from(low), u64::from(high))?;
-    Some(number as u32)
+    Camera::new(found.x, found.y, found.z).unwrap()
 }
 
-/// The number of a word of 1 to 19 digits, if it lies within these bounds.
-fn number_in_word(word: &str, low: u64, high: u64) -> Option<u64>
-    ensures value { result ≡ number_word low high word.now }
-    ensures within { IfSome result (λ number. (low ≤ number) × (number ≤ high)) }
+/// A mesh is fitted; where points are kept, they are read too.
+fn fit<'a>(found: &Found<'a>) -> Command<'a>
+    requires found { IsFound found.now }
+    ensures value { command_seen result ≡
+        OnGrid found.now.grid.now (fit_job (found_seen found.now) (found_seen found.now).points) }
+    ensures accepted { IsCommandInBounds result }
 {
-    let number = read_dec(word.as_bytes())?;
-    if low <= number && number <= high {
-        Some(number)
-    } else {
-        None
+    match found.points {
+        Some(points) => Command::Keep(KeepWords {
+            grid: found.grid,
+            prefix: found.prefix,
+            thousandths: found.thousandths,
+            spacing: found.spacing,
+            points,
+        }),
+        None => Command::Fit(FitWords {
+            grid: found.grid,
+            prefix: found.prefix,
+            target: found.target,
+            spacing: found.spacing,
+        }),
+    }
+}
+
+/// A certificate of a fitted mesh is made; where points are kept, they are read too.
+fn make_fit<'a>(found: &Found<'a>) -> Command<'a>
+    requires found { IsFound found.now }
+    ensures value { command_seen result ≡
+        OnGrid found.now.grid.now (make_fit_job (found_seen found.now) (found_seen found.now).points) }
+    ensures accepted { IsCommandInBounds result }
+{
+    match found.points {
+        Some(points) => Command::MakeKept(KeptMakeWords {
+            grid: found.grid,
+            thousandths: found.thousandths,
+            spacing: found.spacing,
+            points,
+        }),
+        None => Command::MakeFit(FitMakeWords {
+            grid: found.grid,
+            target: found.target,
+            spacing: found.spacing,
+        }),
+    }
+}
+
+/// A fitted mesh is checked by a certificate; where points are kept, they are read too.
+fn check_fit<'a>(found: &Found<'a>) -> Command<'a>
+    requires found { IsFound found.now }
+    ensures value { command_seen result ≡
+        OnGrid found.now.grid.now (check_fit_job (found_seen found.now) (found_seen found.now).points) }
+    ensures accepted { IsCommandInBounds result }
+{
+    match found.points {
+        Some(points) => Command::CheckKept(KeptCheckWords {
+            grid: found.grid,
+            mesh: found.mesh,
+            certificate: found.certificate,
+            thousandths: found.thousandths,
+            spacing: found.spacing,
+            points,
+        }),
+        None => Command::CheckFit(FitCheckWords {
+            grid: found.grid,
+            mesh: found.mesh,
+            certificate: found.certificate,
+            target: found.target,
+            spacing: found.spacing,
+        }),
     }
 }

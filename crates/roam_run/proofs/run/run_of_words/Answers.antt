@@ -7,15 +7,15 @@ use Rattle.roam_run.proofs.run.run_of_words.Goals as goal
 
 -- words that are no command
 
-pub returns-in-None-clause-runs : goal.returns-in-None-clause-runs
-returns-in-None-clause-runs g c =
-    usage-runs _ (command_of (map string_bytes c.args.words.now)) (sym c.in-None.ensures.value)
+pub returns-in-Err-clause-runs : goal.returns-in-Err-clause-runs
+returns-in-Err-clause-runs g c =
+    usage-runs _ (command_of (map string_bytes c.args.words.now)) c.in-Err.ensures.none
 
 -- words of a command
 
-pub returns-in-Some-clause-runs : goal.returns-in-Some-clause-runs
-returns-in-Some-clause-runs g c =
-    rw c.in-Some.ensures.value at c.run_command.ensures.runs
+pub returns-in-Ok-clause-runs : goal.returns-in-Ok-clause-runs
+returns-in-Ok-clause-runs g c =
+    rw (sym c.in-Ok.ensures.value) at c.run_command.ensures.runs
 
-pub returns-in-Some-clause-untouched : goal.returns-in-Some-clause-untouched
-returns-in-Some-clause-untouched g c usage = absurd (command-not-usage _ _ _ _ _ c.run_command.ensures.runs usage)
+pub returns-in-Ok-clause-untouched : goal.returns-in-Ok-clause-untouched
+returns-in-Ok-clause-untouched g c usage = absurd (command-not-usage _ _ _ _ _ c.run_command.ensures.runs usage)
