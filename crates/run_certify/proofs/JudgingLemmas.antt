@@ -14,7 +14,8 @@ use Rattle.certificate_laws.specs.declared.reason.Reject.TheVariants.{TooFewReas
 use Rattle.run_laws.specs.declared.status.Status.{Status}
 use Rattle.run_laws.specs.declared.status.Status.TheVariants.{Done, NoMemory, ReadFault}
 use Rattle.run_laws.specs.declared.status.Status.TheVariants as ends
-use Rattle.run_words.specs.Words.{Checking, Check, Job, OnGrid, names_of, file_count}
+use Rattle.run_words.specs.Words.{Checking, Check, Job, OnGrid}
+use Rattle.run_words.specs.Jobs.{names_of, file_count}
 use Rattle.run_laws.specs.Act.{Told}
 use Rattle.run_laws.specs.ReportText.{rejection}
 use Rattle.run_laws.specs.Outcome.{text_outcome, IsJobOutcome}
