@@ -6,6 +6,7 @@ ghost use Rattle.cull_marks.specs.Cuboid.{as_box, IsWithinReach};
 ghost use Rattle.cull_marks.specs.Plane.{IsPlane, plane_value, far_end, far_value, near_value};
 
 use bintree_addr::Cuboid;
+use mesh_defs::{GREATEST_OFFSET, GREATEST_SLOPE};
 use std::marker::Model;
 
 /// A plane of whole numbers. Its inside is where a x + b y + c z + d is at least 0, in world units.
@@ -29,11 +30,6 @@ impl Model for Plane {
 
     ghost inverse = { λ p. record { a = p.a; b = p.b; c = p.c; d = p.d } };
 }
-
-/// The greatest size of a slope. With cuboids that reach 2^21 and the greatest offset no sum comes near 2^63.
-const GREATEST_SLOPE: u64 = 1 << 20;
-/// The greatest size of an offset.
-const GREATEST_OFFSET: u64 = 1 << 50;
 
 impl Plane {
     /// The plane with these slopes and this offset.

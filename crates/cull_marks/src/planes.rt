@@ -12,8 +12,8 @@ use bintree_addr::Cuboid;
 use mesh_defs::Mark;
 use std::marker::Model;
 
-/// The most planes in force at once: the sides of a frustum.
-pub const MOST_PLANES: usize = 6;
+/// The most planes in force at once.
+pub const MOST_PLANES: usize = mesh_defs::MOST_PLANES as usize;
 
 /// The view planes in force, at most `MOST_PLANES`, in the order in which they were added.
 #[derive(Drop)]

@@ -2,7 +2,7 @@
 //!
 //! `specs/` has the words that contracts cite: height fields, triangles and their mates, tilings,
 //! closed sets, thickness, boxes, distance, marks, priority, ranking, greedy refinement and the
-//! text of a mesh. The code here is `Point`, `Corners`, `Mark`, the greatest level, small law functions and the two
+//! text of a mesh. The code here is `Point`, `Corners`, `Mark`, the limits that several crates keep to, small law functions and the two
 //! errors that all crates share. No algorithm of the mesher is here.
 
 #![tactic(auto)]
@@ -11,6 +11,7 @@ mod counters;
 mod failures;
 mod laws;
 mod level;
+mod limits;
 mod mark;
 mod point;
 
@@ -18,5 +19,9 @@ pub use counters::{CHANGES_AT_FRAME, LONGEST_WAY, MOST_CHANGES};
 pub use failures::{Failed, NoMemory};
 pub use laws::{limit_laws, roots};
 pub use level::GREATEST_LEVEL;
+pub use limits::{
+    CAMERA_REACH, GREATEST_ERROR, GREATEST_HEIGHT, GREATEST_NUMBER, GREATEST_OFFSET, GREATEST_SLOPE,
+    LEAST_TRIANGLES, MOST_PLANES, MOST_TRIANGLES,
+};
 pub use mark::Mark;
 pub use point::{Corners, Point};

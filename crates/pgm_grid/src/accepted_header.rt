@@ -5,10 +5,10 @@ ghost use Rattle.pgm_grid.specs.AcceptedHeader.{side_level, judged};
 
 use crate::header_fault::HeaderFault;
 use crate::header_machine::HeaderValues;
-use mesh_defs::GREATEST_LEVEL;
+use mesh_defs::{GREATEST_HEIGHT, GREATEST_LEVEL};
 
 /// The greatest maxval: a sample has at most two bytes.
-pub const GREATEST_MAXVAL: u32 = 65_535;
+pub const GREATEST_MAXVAL: u32 = GREATEST_HEIGHT;
 
 /// A header that is accepted.
 #[derive(Clone, Copy, Debug, PartialEq, Eq)]

@@ -11,7 +11,7 @@ use crate::Failed;
 pub const LONGEST_PREFIX: usize = 200;
 
 /// The greatest number of a mesh: a name has six digits.
-pub const GREATEST_NUMBER: u32 = 999_999;
+pub const GREATEST_NUMBER: u32 = mesh_defs::GREATEST_NUMBER;
 
 /// A sink of meshes, each named by a prefix and a number, written one after the other.
 pub trait MeshSink {

@@ -11,11 +11,12 @@ use address_flags::end;
 use fit_mesh::Fit;
 use frame_loop::{Engine, Grid};
 use mesh_arrays::write_indices;
+use mesh_defs::GREATEST_ERROR;
 use mesh_laws::{conformity_laws, set_leaf_laws};
 use std::alloc::Global;
 
 /// The greatest tolerance, in thousandths of a unit of height: no mesh is off by more.
-pub const GREATEST_TOLERANCE: u32 = 65_535_999;
+pub const GREATEST_TOLERANCE: u32 = GREATEST_ERROR;
 
 /// Writes three indices of heights for each triangle of the mesh for a tolerance, whatever the view, and tells of it.
 ///

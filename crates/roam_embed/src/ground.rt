@@ -4,9 +4,10 @@ ghost use Rattle.roam_embed.specs.Calls.{IsHeightPut, IsAreaRaised};
 
 use crate::answer::Answer;
 use frame_loop::Engine;
+use mesh_defs::GREATEST_HEIGHT;
 
 /// The greatest change of heights, up or down.
-pub const GREATEST_CHANGE: u32 = 65_535;
+pub const GREATEST_CHANGE: u32 = GREATEST_HEIGHT;
 
 /// Sets the height of the grid point (x, y).
 pub fn put_height(engine: &mut Engine, x: u32, y: u32, h: u16) -> Answer

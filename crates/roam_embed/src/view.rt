@@ -9,7 +9,7 @@ use frame_loop::{Camera, Engine, Plane};
 pub const LONGEST_WAY: u64 = 1 << 61;
 
 /// The most planes in force.
-pub const MOST_PLANES: u32 = frame_loop::MOST_PLANES as u32;
+pub const MOST_PLANES: u32 = mesh_defs::MOST_PLANES;
 
 /// Puts the camera to a place, in world units.
 pub fn move_camera(engine: &mut Engine, x: i64, y: i64, z: i64) -> Answer

@@ -7,15 +7,12 @@ ghost use Rattle.roam_gen.specs.Generated.{octave, octave_base, octaves, made_he
 ghost use Rattle.roam_gen.specs.Rows.{cell_at, IsCellSmall, HasOctaves, HasRow};
 
 use crate::octave::{Cell, base_of, last_of, within};
-use pgm_grid::Grid;
+use pgm_grid::{Grid, MOST_SIDE};
 use roam_edge::NoMemory;
 use std::alloc::Global;
 
 /// The maxval of a generated grid.
-pub(crate) const GREATEST_HEIGHT: u16 = 65_535;
-
-/// The longest side: that of level 11.
-pub(crate) const LONGEST_SIDE: usize = 2049;
+pub(crate) const GREATEST_HEIGHT: u16 = mesh_defs::GREATEST_HEIGHT as u16;
 
 /// The height of the point (x, y) of the grid of this level and seed.
 ///
@@ -101,7 +98,7 @@ pub fn gen_grid(alloc: Global, n: u32, seed: u32) -> Result<Grid, NoMemory>
         → height_at n grid.heights x y ≡ made_height n seed x y) }
 {
     let mut grid = Grid::flat(alloc, n, GREATEST_HEIGHT)?;
-    let mut room = [0u16; LONGEST_SIDE];
+    let mut room = [0u16; MOST_SIDE];
     let side = last_of(n) as usize + 1;
     fill_grid(&mut grid, &mut room[..side], n, seed);
     Ok(grid)

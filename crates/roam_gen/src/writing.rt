@@ -12,10 +12,11 @@ ghost use Rattle.text_laws.specs.Words.{two_bytes};
 ghost use Rattle.roam_gen.specs.Generated.{made_grid};
 ghost use Rattle.roam_gen.specs.Written.{line_text, spaced_number, script_text, header_text, grid_text};
 
-use crate::heights::{GREATEST_HEIGHT, LONGEST_SIDE, fill_row};
+use crate::heights::{GREATEST_HEIGHT, fill_row};
 use crate::octave::last_of;
 use crate::script::{LINES, gen_line};
 use arrayvec::ArrayVec;
+use pgm_grid::MOST_SIDE;
 use roam_edge::{Failed, Sink};
 use roam_num::dec;
 use roam_script::Line;
@@ -24,7 +25,7 @@ use roam_script::Line;
 const LONGEST_LINE: usize = 128;
 
 /// The longest row: two bytes a sample.
-const LONGEST_ROW: usize = 2 * LONGEST_SIDE;
+const LONGEST_ROW: usize = 2 * MOST_SIDE;
 
 /// Writes the script of this level and seed, a line at a time.
 ///
@@ -94,7 +95,7 @@ pub fn write_grid<S: Sink>(n: u32, seed: u32, out: &mut S) -> Result<(), Failed>
     ensures in_time { IsInTime (S.late out.old) (S.faults out.old) (S.late out.new) }
 {
     out.write(header_bytes(n).as_slice())?;
-    let mut room = [0u16; LONGEST_SIDE];
+    let mut room = [0u16; MOST_SIDE];
     let side = last_of(n) as usize + 1;
     write_rows(n, seed, &mut room[..side], out)
 }

@@ -11,28 +11,25 @@ ghost use Rattle.run_words.specs.FoundView.{found_seen, IsFound};
 
 use crate::fit_words::Target;
 use crate::table::{Kind, Row, Stage, Wanted, commands, goals, row_of, tasks};
-use mesh_defs::GREATEST_LEVEL;
+use mesh_defs::{CAMERA_REACH, GREATEST_ERROR, GREATEST_LEVEL, LEAST_TRIANGLES, MOST_TRIANGLES};
 use roam_edge::LONGEST_PREFIX;
 use roam_num::{read_dec, read_signed, read_thousandths};
 use wedgie_tree::GREATEST_SPACING;
 
 /// The least budget: the two base triangles.
-pub const LEAST_BUDGET: u32 = 2;
+pub const LEAST_BUDGET: u32 = LEAST_TRIANGLES;
 
 /// The greatest budget.
-pub const GREATEST_BUDGET: u32 = 1 << 20;
+pub const GREATEST_BUDGET: u32 = MOST_TRIANGLES;
 
 /// The greatest tolerance.
 pub const GREATEST_TOLERANCE: u64 = 999_999_999_999;
-
-/// The greatest error, in thousandths of a unit of height: 65535.999, which no height field exceeds.
-const GREATEST_ERROR: u64 = 65_535_999;
 
 /// The greatest seed.
 pub const GREATEST_SEED: u32 = u32::MAX;
 
 /// The greatest size of a coordinate of a camera.
-pub const REACH: u64 = 1 << 30;
+pub const REACH: u64 = CAMERA_REACH;
 
 /// What is read of the words of a command: which one it is, and what stands in each kind of place.
 #[derive(Clone, Copy)]
@@ -214,7 +211,7 @@ fn error_in(word: &str) -> Option<u32>
     ensures within { IfSome result (λ thousandths. thousandths ≤ greatest_error) }
 {
     let thousandths = read_thousandths(word.as_bytes())?;
-    if thousandths <= GREATEST_ERROR {
+    if thousandths <= u64::from(GREATEST_ERROR) {
         Some(thousandths as u32)
     } else {
         None

@@ -22,12 +22,12 @@ use crate::free::FreePairs;
 use crate::nodes::Nodes;
 use arrayvec::ArrayVec;
 use bintree_addr::{Slot, Tri};
-use mesh_defs::NoMemory;
+use mesh_defs::{MOST_TRIANGLES, NoMemory};
 use std::alloc::Global;
 use std::marker::Model;
 
-/// The most leaves of a pool, since `new` takes the memory of all: 44 bytes a leaf, so 46 MB at most.
-pub const MOST_LEAVES: u32 = 1_048_576;
+/// The most leaves of a pool. `new` takes the memory of all: 46 MB at most.
+pub const MOST_LEAVES: u32 = MOST_TRIANGLES;
 
 /// The triangles of a mesh and those above them, each at a slot, with links to parent, children and neighbours.
 ///

@@ -3,6 +3,7 @@
 ghost use Rattle.std.specs.Prelude.{◌≡◌, ◌≤◌, ◌^◌, ◌↔◌, IsSome, IfSome, IsTrue, unsigned_abs};
 ghost use Rattle.view_priority.specs.Camera.{IsCamera};
 
+use mesh_defs::CAMERA_REACH;
 use std::marker::Model;
 
 /// Where the viewer is, in world units: a grid step is as many of them as the spacing, a unit of height is one.
@@ -25,9 +26,6 @@ impl Model for Camera {
 
     ghost inverse = { λ c. record { x = c.x; y = c.y; z = c.z } };
 }
-
-/// The greatest size of a coordinate. The squares of three gaps to a box within 2^21 then sum to less than 2^62.
-const GREATEST_COORDINATE: u64 = 1 << 30;
 
 impl Camera {
     /// The camera at this place.
@@ -71,5 +69,5 @@ impl Camera {
 fn is_coordinate(number: i64) -> bool
     ensures { IsTrue result ↔ (unsigned_abs number ≤ 2 ^ 30) }
 {
-    number.unsigned_abs() <= GREATEST_COORDINATE
+    number.unsigned_abs() <= CAMERA_REACH
 }
