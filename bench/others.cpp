@@ -1,12 +1,15 @@
 // Meshes of a grid by other ways, each measured at all grid points: for docs/COMPARISON.md.
 //
 //   c++ -O2 -std=c++17 bench/others.cpp -lmeshoptimizer -o others && ./others GRID.pgm SPACING insertion|meshopt error|budget NUMBER
+//   ./others GRID.pgm SPACING rtin map TOLERANCE
 //
 // insertion: greedy insertion into a Delaunay triangulation (Garland and Heckbert 1995), the algorithm of delatin and happrox: the
 // point that is farthest off comes next. meshopt: meshopt_simplify of meshoptimizer on all triangles of the grid (Debian:
 // libmeshoptimizer-dev), tuned, since its own measure is another: with SAY in the environment each trial is told. GRID is a raw
-// PGM file of two bytes a sample without comments. A line is printed: the triangles, the greatest distance of the ground from the
-// mesh at a grid point, straight up or down, and how many grid points no triangle covers.
+// PGM file of two bytes a sample without comments. rtin: right triangles with the map of errors of MARTINI (ISC licence, after Evans,
+// Kirkpatrick and Townsend 2001), for its time: its tolerance bounds no distance. A line is printed: the triangles, the greatest
+// distance of the ground from the mesh at a grid point, straight up or down, how many grid points no triangle covers, and the
+// processor seconds of meshing alone, without reading and measuring.
 #include <meshoptimizer.h>
 
 #include <algorithm>
@@ -15,6 +18,7 @@
 #include <cstdio>
 #include <cstdlib>
 #include <cstring>
+#include <ctime>
 #include <fstream>
 #include <queue>
 #include <string>
@@ -140,6 +144,55 @@ public:
     }
 };
 
+// The map has a number for each grid point: how far it is from the middle of the edge that it splits, or a point below it from its
+// own, at most. A triangle is split whose point has more than the tolerance.
+class Rtin {
+    std::vector<float> errors;
+
+    static int middle(Point a, Point b) { return int((a.y + b.y) / 2 * side + (a.x + b.x) / 2); }
+
+    void split(Point a, Point b, Point c, float tolerance, std::vector<unsigned> &found) const {
+        int m = middle(a, b);
+        if (std::abs(a.x - c.x) + std::abs(a.y - c.y) > 1 && errors[size_t(m)] > tolerance) {
+            split(c, a, at(m), tolerance, found);
+            split(b, c, at(m), tolerance, found);
+        } else {
+            for (Point it : {a, b, c}) found.push_back(unsigned(it.y * side + it.x));
+        }
+    }
+
+public:
+    // From the finest triangles up: those of number k of a level are the halves of number k / 2 of the level above.
+    Rtin() : errors(heights.size()) {
+        int64_t last = side - 1, all = 2 * last * last - 2, finest = last * last;
+        for (int64_t k = all - 1; k >= 0; k--) {
+            int64_t number = k + 2;
+            Point a{0, 0}, b{0, 0}, c{0, 0};
+            if (number & 1) b = {last, last}, c = {last, 0};
+            else a = {last, last}, c = {0, last};
+            while ((number >>= 1) > 1) {
+                Point m{(a.x + b.x) / 2, (a.y + b.y) / 2};
+                if (number & 1) b = a, a = c;
+                else a = b, b = c;
+                c = m;
+            }
+            Point m = at(middle(a, b));
+            float own = std::fabs((heights[size_t(a.y * side + a.x)] + heights[size_t(b.y * side + b.x)]) / 2.0f - heights[size_t(m.y * side + m.x)]);
+            float &error = errors[size_t(m.y * side + m.x)];
+            error = std::max(error, own);
+            if (k < all - finest) error = std::max({error, errors[size_t(middle(a, c))], errors[size_t(middle(b, c))]});
+        }
+    }
+
+    std::vector<unsigned> within(float tolerance) const {
+        int64_t last = side - 1;
+        std::vector<unsigned> found;
+        split({0, 0}, {last, last}, {last, 0}, tolerance, found);
+        split({last, last}, {0, 0}, {0, last}, tolerance, found);
+        return found;
+    }
+};
+
 static double worst_of(const std::vector<unsigned> &found) {
     double worst = 0;
     for (size_t k = 0; k < found.size(); k += 3)
@@ -209,17 +262,21 @@ int main(int count, char **words) {
     double error = by_error ? std::atof(words[5]) : 0;
     int budget = by_error ? 0 : std::atoi(words[5]);
     std::vector<unsigned> found;
-    if (!std::strcmp(words[3], "insertion")) {
+    std::clock_t start = std::clock();
+    if (!std::strcmp(words[3], "rtin")) {
+        found = Rtin().within(float(std::atof(words[5])));
+    } else if (!std::strcmp(words[3], "insertion")) {
         found = Insertion().until(error, by_error ? INT32_MAX : budget);
     } else {
         Simplified all(std::atof(words[2]));
         all.say = std::getenv("SAY") != nullptr;
         found = by_error ? all.for_error(error) : all.for_budget(budget);
     }
+    double seconds = double(std::clock() - start) / CLOCKS_PER_SEC;
     std::vector<char> covered(heights.size());
     for (size_t k = 0; k < found.size(); k += 3)
         points_of(int(found[k]), int(found[k + 1]), int(found[k + 2]), [&](int p, double) { covered[size_t(p)] = 1; });
     long bare = 0;
     for (char it : covered) bare += !it;
-    std::printf("%s %s %s triangles %zu error %g bare %ld\n", words[3], words[4], words[5], found.size() / 3, worst_of(found), bare);
+    std::printf("%s %s %s triangles %zu error %g bare %ld seconds %.3f\n", words[3], words[4], words[5], found.size() / 3, worst_of(found), bare, seconds);
 }
