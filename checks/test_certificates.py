@@ -111,7 +111,7 @@ def test_own_certificate(place: Place, alone: Path, status: int, line: str, othe
 CERTIFIED_FIT = "certified fit triangles 1999 deviation 23904 over 256 error 93.375"
 
 
-# The same of a fit. Lines 2 to 985 are the reasons that make the mesh, 986 is `mesh`, and one is behind it.
+# The same of a fit. Lines 2 to 545 are the reasons that make the mesh, 546 is `mesh`, and one is behind it.
 @table(
     "status, line, goal, name, edit",
     ("fit_certificate_that_is_sound", 0, CERTIFIED_FIT, "budget 2000", "", ""),
@@ -124,8 +124,8 @@ CERTIFIED_FIT = "certified fit triangles 1999 deviation 23904 over 256 error 93.
     ("fit_certificate_without_a_tolerance", 7, "rejected: bad line 1", "budget 2000", "cert", "1d"),
     ("fit_certificate_with_a_tolerance_twice", 7, "rejected: bad line 2", "budget 2000", "cert", "1p"),
     ("fit_certificate_with_an_empty_line", 7, "rejected: bad line 11", "budget 2000", "cert", r"10a\\"),
-    ("fit_certificate_without_the_line_of_the_mesh", 7, "rejected: bad line 987", "budget 2000", "cert", "986d"),
-    ("fit_certificate_with_that_line_twice", 7, "rejected: bad line 987", "budget 2000", "cert", "986p"),
+    ("fit_certificate_without_the_line_of_the_mesh", 7, "rejected: bad line 547", "budget 2000", "cert", "546d"),
+    ("fit_certificate_with_that_line_twice", 7, "rejected: bad line 547", "budget 2000", "cert", "546p"),
     ("fit_certificate_with_a_triangle_too_fine_to_split", 7, "rejected: bad line 2", "budget 2000", "cert",
      "2s/off 2 /off 131072 /"),
     ("fit_certificate_with_a_column_past_the_grid", 7, "rejected: bad line 2", "budget 2000", "cert", "2s/ 13 / 257 /"),
@@ -135,7 +135,7 @@ CERTIFIED_FIT = "certified fit triangles 1999 deviation 23904 over 256 error 93.
     ("fit_certificate_without_the_first_reason", 7, "rejected: bad reason 1", "budget 2000", "cert", "2d"),
     ("fit_certificate_with_a_reason_of_the_other_half", 7, "rejected: bad reason 1", "budget 2000", "cert",
      "2s/off 2 /off 3 /"),
-    ("fit_certificate_without_the_last_reason_before_the_mesh", 7, "rejected: over tolerance", "budget 2000", "cert", "985d"),
+    ("fit_certificate_without_the_last_reason_before_the_mesh", 7, "rejected: over tolerance", "budget 2000", "cert", "545d"),
     ("fit_certificate_of_a_mesh_with_another_height", 7, "rejected: mesh differs at *", "budget 2000", "fit.obj", "1s/.$/x/"),
     ("fit_certificate_of_a_mesh_with_a_face_less", 7, "rejected: mesh differs at *", "budget 2000", "fit.obj", "$d"),
 )

@@ -1,19 +1,22 @@
--- Splitting what is off, one leaf after the other: what one split leaves, what a pass leaves, and the end.
-use Rattle.std.proofs.Common.{◌≡◌, ℕ, ◌+◌, ◌-◌, ◌*◌, ◌^◌, ◌<◌, ◌≤◌, ◌||◌, Bool, true, false, cond, List, [], ◌∷◌, ◌++◌}
-use Rattle.std.proofs.Common.{length, Contains, refl, sym, ◌∙◌, subst, arith, ⊎_elim, pow-add}
+-- Splitting what is off, one leaf after the other: what is known, what one split leaves, what a pass leaves, and the end.
+use Rattle.std.proofs.Common.{◌≡◌, ℕ, ◌+◌, ◌-◌, ◌*◌, ◌/◌, ◌^◌, ◌<◌, ◌≤◌, ◌||◌, Bool, true, false, IsTrue, cond}
+use Rattle.std.proofs.Common.{List, [], ◌∷◌, ◌++◌, All, length, Contains, refl, sym, ◌∙◌, subst, arith, ⊎_elim, pow-add}
 use Rattle.std.proofs.lemmas.Bool.{cases_lt, cases_Bool, or_cases, both_ways, false≢true}
+use Rattle.std.proofs.lemmas.List.Elements.{All-cons, All-nil, All-append, All-contains}
 use Rattle.mesh_defs.specs.declared.point.Point.{Point}
 use Rattle.mesh_defs.specs.Triangle.{level_of, IsAddress, IsSplittable}
 use Rattle.mesh_defs.specs.BoundingBox.{greatest}
-use Rattle.mesh_defs.specs.ClosedSet.{IsClosed, IsLeastClosed, leaves_of}
+use Rattle.mesh_defs.specs.ClosedSet.{IsClosed, IsLeastClosed, leaves_under, leaves_of}
 use Rattle.mesh_defs.specs.Greedy.{with_triangle}
 use Rattle.mesh_defs.specs.Priority.{worst_of}
 use Rattle.mesh_defs.proofs.ListLemmas.{IsIn-contains, Contains-in}
 use Rattle.mesh_defs.proofs.WorstLemmas.{worst-le}
-use Rattle.bintree_laws.proofs.LevelLemmas.{level-le}
-use Rattle.mesh_laws.proofs.LeafLemmas.{leaves-most, four-power}
+use Rattle.bintree_laws.proofs.LevelLemmas.{level-le, level_of-left, level_of-right}
+use Rattle.mesh_laws.proofs.LeafLemmas.{leaves_under-split, leaves_under-whole, leaves-most, four-power}
+use Rattle.mesh_laws.proofs.ClosureLemmas.{leaf-outer}
+use Rattle.mesh_laws.proofs.DescentLemmas.{IsAddress-splittable, IsDown-2, IsDown-3}
+use Rattle.mesh_laws.proofs.ForcingLemmas.{with-cases, with-old}
 use Rattle.mesh_laws.specs.Sweep.{is_flagged}
-use Rattle.mesh_laws.proofs.SweepLemmas.{splittable-lt}
 use Rattle.mesh_laws.proofs.FlagLemmas.{end-high}
 use Rattle.fit_laws.specs.PlaneHeight.{offs_in}
 use Rattle.mesh_measure.specs.Above.{IsAbove}
@@ -24,7 +27,7 @@ use Rattle.fit_laws.proofs.ErrorLemmas.{error-finest}
 use Rattle.certificate_laws.specs.declared.fit_reason.Off.{Off}
 use Rattle.certificate_laws.specs.FitCertificate.{LeadsTo}
 use Rattle.certificate_laws.proofs.LeadLemmas.{leads-next, leads-grown}
-use Rattle.fit_certify.specs.Settling.{IsGoingOn}
+use Rattle.fit_certify.specs.Settling.{AreKnown, IsGoingOn}
 
 -- the error is the greatest way off the plane
 pub error-most : (n : ℕ) (heights : List ℕ) (a tolerance : ℕ) → greatest (offs_in n heights a) ≤ tolerance
@@ -32,21 +35,63 @@ pub error-most : (n : ℕ) (heights : List ℕ) (a tolerance : ℕ) → greatest
 unfolding error_of
 error-most n heights a tolerance le = le
 
+-- where its error is not above a tolerance
+pub error-within : (n : ℕ) (heights : List ℕ) (a lower : ℕ) (is_over : Bool) →
+    (lower < greatest (offs_in n heights a) → IsTrue is_over) → is_over ≡ false → error_of n heights a ≤ lower
+error-within n heights a lower is_over told not = error-most n heights a lower (⊎_elim
+    (λ (above : lower < greatest (offs_in n heights a)). absurd (both_ways is_over not (told above)))
+    (λ fits. fits)
+    (cases_lt lower (greatest (offs_in n heights a))))
+
+-- a triangle
+
+-- with no mark, and below a split one, it is a leaf
+pub unset-leaf : (n : ℕ) (flags : List Bool) (t : ℕ) → IsClosed n (is_flagged flags) → IsSplittable n t →
+    is_flagged flags t ≡ false → (4 ≤ t → IsTrue (is_flagged flags (t / 2))) →
+    Contains (leaves_of n (is_flagged flags)) t
+unset-leaf n flags t closed splittable unset parent =
+    let has : ℕ → Bool = is_flagged flags in
+    Contains-in t (leaves_of n has) (leaf-outer n has t closed record {
+      address = IsAddress-splittable n t splittable;
+      outside = λ is. both_ways (has t) unset is;
+      parent = parent;
+    })
+
+-- where no triangle is marked, each that is has any error
+pub known-none : (n : ℕ) (heights : List ℕ) (lower : ℕ) (known : List Bool) → ((a : ℕ) → is_flagged known a ≡ false) →
+    AreKnown n heights lower known
+known-none n heights lower known none = record { within = λ a is. absurd (both_ways (is_flagged known a) (none a) is) }
+
+-- one more is known
+pub known-more : (n : ℕ) (heights : List ℕ) (lower : ℕ) (known next : List Bool) (t : ℕ) →
+    AreKnown n heights lower known → error_of n heights t ≤ lower →
+    ((a : ℕ) → is_flagged next a ≡ with_triangle (is_flagged known) t a) → AreKnown n heights lower next
+known-more n heights lower known next t before here added = record {
+  within = λ a is. ⊎_elim
+      (λ old. before.within a old)
+      (λ (same : t ≡ a). subst (λ z. error_of n heights z ≤ lower) same here)
+      (with-cases (is_flagged known) t a (sym (added a) ∙ is));
+}
+
 -- one split
 
 -- nothing happens
 pub going-same : (n : ℕ) (heights : List ℕ) (tolerance : ℕ) (flags : List Bool) (reasons : List Off) →
     IsClosed n (is_flagged flags) →
     IsGoingOn n heights tolerance flags reasons flags reasons
-going-same n heights tolerance flags reasons closed = record { closed = closed; leads = λ has leads. leads }
+going-same n heights tolerance flags reasons closed =
+    record { closed = closed; kept = λ a is. is; leads = λ has leads. leads }
 
 -- one thing after the other
 pub going-through :
     (n : ℕ) (heights : List ℕ) (tolerance : ℕ) (one two three : List Bool) (first second third : List Off) →
     IsGoingOn n heights tolerance one first two second → IsGoingOn n heights tolerance two second three third
     → IsGoingOn n heights tolerance one first three third
-going-through n heights tolerance one two three first second third p q =
-    record { closed = q.closed; leads = λ has leads. q.leads has (p.leads has leads) }
+going-through n heights tolerance one two three first second third p q = record {
+  closed = q.closed;
+  kept = λ a is. q.kept a (p.kept a is);
+  leads = λ has leads. q.leads has (p.leads has leads);
+}
 
 module _ (n : ℕ) (heights : List ℕ) (tolerance : ℕ) (old new : List Bool) (t : ℕ) (closed : IsClosed n (is_flagged old))
     (leaf : Contains (leaves_of n (is_flagged old)) t)
@@ -57,6 +102,7 @@ module _ (n : ℕ) (heights : List ℕ) (tolerance : ℕ) (old new : List Bool) 
       IsGoingOn n heights tolerance old before new after
   split-going before after p splittable above more = record {
     closed = least.closed;
+    kept = λ a is. least.holds a (with-old (is_flagged old) t a is);
     leads = λ has leads.
         let r : Off = record { triangle = t; x = p.x; y = p.y } in
         subst (λ (l : List Off). LeadsTo n heights tolerance has l (is_flagged new)) (sym more)
@@ -75,72 +121,87 @@ module _ (n : ℕ) (heights : List ℕ) (tolerance : ℕ) (old new : List Bool) 
 
 -- a pass
 
--- of the addresses before this one, no leaf is off
-abbrev pub AreAsked : ℕ → List ℕ → ℕ → List Bool → ℕ → Type 0
-AreAsked n heights tolerance flags number =
-    (a : ℕ) → a < number → Contains (leaves_of n (is_flagged flags)) a → error_of n heights a ≤ tolerance
+-- neither is true
+pub neither : (one other next : Bool) → next ≡ (one || other) → next ≡ false → (one ≡ false) × (other ≡ false)
+neither true other next either not = absurd (false≢true (sym not ∙ either))
+neither false other next either not = (refl, sym either ∙ not)
 
-module _ (n : ℕ) (heights : List ℕ) (tolerance number : ℕ) (old mid new : List Bool) (again is next : Bool)
-    (either : next ≡ (again || is)) where
-  -- one address more, where there was a split before or here
-  pub sweep-more : (again ≡ true → length (leaves_of n (is_flagged old)) < length (leaves_of n (is_flagged mid))) →
-      (again ≡ false → mid ≡ old) →
-      (is ≡ true → length (leaves_of n (is_flagged mid)) < length (leaves_of n (is_flagged new))) →
-      (is ≡ false → new ≡ mid) → next ≡ true →
-      length (leaves_of n (is_flagged old)) < length (leaves_of n (is_flagged new))
-  sweep-more before none split same did_any =
-      let size : List Bool → ℕ = λ flags. length (leaves_of n (is_flagged flags)) in
-      ⊎_elim
-      (λ (did : again ≡ true).
-      let less : size old < size mid = before did in
-      ⊎_elim
-      (λ (more : is ≡ true). let grown : size mid < size new = split more in omega arith)
-      (λ (did_none : is ≡ false). subst (λ (l : List Bool). size old < size l) (sym (same did_none)) less)
-      (cases_Bool is))
-      (λ (did_not : again ≡ false).
-      let here : is ≡ true = ⊎_elim (λ yet. absurd (both_ways again did_not yet)) (λ now. now)
-      (or_cases again is (sym either ∙ did_any)) in
-      subst (λ (l : List Bool). size l < size new) (none did_not) (split here))
-      (cases_Bool again)
-
-  -- or in none
-  pub sweep-none : (again ≡ false → (mid ≡ old) × AreAsked n heights tolerance mid number) →
-      (is ≡ false →
-      (new ≡ mid) × (Contains (leaves_of n (is_flagged mid)) number → error_of n heights number ≤ tolerance)) →
-      next ≡ false → (new ≡ old) × AreAsked n heights tolerance new (number + 1)
-  sweep-none before here neither_did =
-      let neither : (again ≡ false) × (is ≡ false) = none_of again is (sym either ∙ neither_did) in
-      let p = before neither.0 in
-      let q = here neither.1 in (
-        q.0 ∙ p.0,
-        subst (λ (l : List Bool). AreAsked n heights tolerance l (number + 1)) (sym q.0) (λ a below leaf. ⊎_elim
-            (λ (less : a < number). p.1 a less leaf)
-            (λ (last : number ≤ a).
-            let same : number ≡ a = omega arith in
-            subst (λ z. Contains (leaves_of n (is_flagged mid)) z → error_of n heights z ≤ tolerance) same q.1 leaf)
-            (cases_lt a number)),
-      )
-    where
-      none_of : (b c : Bool) → (b || c) ≡ false → (b ≡ false) × (c ≡ false)
-      none_of true c e = absurd (false≢true (sym e))
-      none_of false c e = (refl, e)
-
--- where all were asked, no leaf is above the tolerance: a finest one has no error
-pub asked-worst : (n : ℕ) (heights : List ℕ) (tolerance number : ℕ) (flags : List Bool) →
-    IsClosed n (is_flagged flags) →
-    2 ^ (2 * n + 1) ≤ number → AreAsked n heights tolerance flags number
-    → worst_of (error_of n heights) (leaves_of n (is_flagged flags)) ≤ tolerance
-asked-worst n heights tolerance number flags closed all asked =
-    worst-le (error_of n heights) tolerance (leaves_of n (is_flagged flags)) (λ a leaf.
-    let address : IsAddress n a = (outer-leaf n (is_flagged flags) a closed leaf).address in
+-- there are more leaves where one of two parts splits one
+pub either-more : (n : ℕ) (old mid new : List Bool) (one other next : Bool) → next ≡ (one || other) →
+    (one ≡ true → length (leaves_of n (is_flagged old)) < length (leaves_of n (is_flagged mid))) →
+    (one ≡ false → mid ≡ old) →
+    (other ≡ true → length (leaves_of n (is_flagged mid)) < length (leaves_of n (is_flagged new))) →
+    (other ≡ false → new ≡ mid) → next ≡ true →
+    length (leaves_of n (is_flagged old)) < length (leaves_of n (is_flagged new))
+either-more n old mid new one other next either first same second again did_any =
+    let size : List Bool → ℕ = λ flags. length (leaves_of n (is_flagged flags)) in
     ⊎_elim
-    (λ (coarse : level_of a < 2 * n).
-    let below = splittable-lt n a (record { low = address.low; coarse = coarse }) in
-    asked a (omega arith) (Contains-in a (leaves_of n (is_flagged flags)) leaf))
-    (λ (fine : 2 * n ≤ level_of a).
+    (λ (did : one ≡ true).
+    let less : size old < size mid = first did in
+    ⊎_elim
+    (λ (more : other ≡ true). let grown : size mid < size new = second more in omega arith)
+    (λ (did_none : other ≡ false). subst (λ (l : List Bool). size old < size l) (sym (again did_none)) less)
+    (cases_Bool other))
+    (λ (did_not : one ≡ false).
+    let here : other ≡ true = ⊎_elim (λ yet. absurd (both_ways one did_not yet)) (λ now. now)
+    (or_cases one other (sym either ∙ did_any)) in
+    subst (λ (l : List Bool). size l < size new) (same did_not) (second here))
+    (cases_Bool one)
+
+-- what lies below
+
+module _ (n : ℕ) (has : ℕ → Bool) (P : ℕ → Type 0) (t : ℕ) where
+  -- what holds of the leaves in both children holds of those in a triangle that is split
+  pub under-both : 2 ≤ t → level_of t < 2 * n → has t ≡ true →
+      All P (leaves_under (2 * n - level_of (2 * t)) has (2 * t)) →
+      All P (leaves_under (2 * n - level_of (2 * t + 1)) has (2 * t + 1)) →
+      All P (leaves_under (2 * n - level_of t) has t)
+  under-both low coarse member left right =
+      let levels : ℕ = 2 * n - level_of t in
+      let l = level_of-left t low in
+      let r = level_of-right t low in
+      let one : 2 * n - level_of (2 * t) ≡ levels - 1 = omega arith in
+      let two : 2 * n - level_of (2 * t + 1) ≡ levels - 1 = omega arith in
+      subst (All P) (sym (leaves_under-split levels has t (omega arith) member))
+      (All-append P (leaves_under (levels - 1) has (2 * t)) (leaves_under (levels - 1) has (2 * t + 1))
+      (subst (λ k. All P (leaves_under k has (2 * t))) one left)
+      (subst (λ k. All P (leaves_under k has (2 * t + 1))) two right))
+
+  -- one that is not split is the leaf
+  pub under-whole : (levels : ℕ) → has t ≡ false → P t → All P (leaves_under levels has t)
+  under-whole levels whole holds =
+      subst (All P) (sym (leaves_under-whole levels has t whole)) (All-cons P t [] holds (All-nil P))
+
+  -- and a finest one
+  pub under-finest : (levels : ℕ) → levels ≡ 0 → P t → All P (leaves_under levels has t)
+  under-finest levels none holds =
+      subst (λ k. All P (leaves_under k has t)) (sym none) (All-cons P t [] holds (All-nil P))
+
+-- a finest triangle has no error
+pub finest-none : (n : ℕ) (heights : List ℕ) (tolerance a : ℕ) → IsAddress n a → 2 * n ≤ level_of a →
+    error_of n heights a ≤ tolerance
+finest-none n heights tolerance a address fine =
     let most = level-le n a address in
-    let none = error-finest n heights a address (omega arith) in omega arith)
-    (cases_lt (level_of a) (2 * n)))
+    let none = error-finest n heights a address (omega arith) in omega arith
+
+-- so no leaf is above the tolerance where none in the two halves is
+pub halves-worst : (n : ℕ) (e : ℕ → ℕ) (tolerance : ℕ) (has : ℕ → Bool) →
+    All (λ a. e a ≤ tolerance) (leaves_under (2 * n - level_of 2) has 2) →
+    All (λ a. e a ≤ tolerance) (leaves_under (2 * n - level_of 3) has 3) →
+    worst_of e (leaves_of n has) ≤ tolerance
+unfolding leaves_of
+halves-worst n e tolerance has lower upper =
+    let P : ℕ → Type 0 = λ a. e a ≤ tolerance in
+    let l = (IsDown-2 n).height in
+    let u = (IsDown-3 n).height in
+    let one : 2 * n - level_of 2 ≡ 2 * n = omega arith in
+    let two : 2 * n - level_of 3 ≡ 2 * n = omega arith in
+    let all : All P (leaves_under (2 * n) has 2 ++ leaves_under (2 * n) has 3) =
+    All-append P (leaves_under (2 * n) has 2) (leaves_under (2 * n) has 3)
+    (subst (λ k. All P (leaves_under k has 2)) one lower) (subst (λ k. All P (leaves_under k has 3)) two upper) in
+    worst-le e tolerance (leaves_under (2 * n) has 2 ++ leaves_under (2 * n) has 3) (λ a leaf.
+    All-contains P (leaves_under (2 * n) has 2 ++ leaves_under (2 * n) has 3) a all
+    (Contains-in a (leaves_under (2 * n) has 2 ++ leaves_under (2 * n) has 3) leaf))
 
 -- how many reasons
 

@@ -1,14 +1,28 @@
--- Reasons that are listed as their triangles are split. This project's own words.
--- Words: IsGoingOn.
-use Rattle.std.specs.Prelude.{ℕ, Bool, List}
-use Rattle.mesh_defs.specs.ClosedSet.{IsClosed}
+-- Reasons that are listed as their triangles are split, and triangles that are known to be within a tolerance. This
+-- project's own words.
+-- Words: AreKnown, IsLower, IsGoingOn.
+use Rattle.std.specs.Prelude.{◌≡◌, ℕ, ◌-◌, ◌≤◌, Bool, IsTrue, List}
+use Rattle.mesh_defs.specs.ClosedSet.{IsClosed, IsSubset}
 use Rattle.mesh_laws.specs.Sweep.{is_flagged}
+use Rattle.fit_laws.specs.Error.{error_of}
 use Rattle.certificate_laws.specs.declared.fit_reason.Off.{Off}
+use Rattle.certificate_laws.specs.declared.fit_reason.Target.{Target}
+use Rattle.certificate_laws.specs.declared.fit_reason.Target.TheVariants.{Error, Budget}
 use Rattle.certificate_laws.specs.FitCertificate.{LeadsTo}
+
+-- each marked triangle has an error of at most this
+pub record AreKnown (n : ℕ) (heights : List ℕ) (lower : ℕ) (known : List Bool) : Type 0 where
+  pub within : (a : ℕ) → IsTrue (is_flagged known a) → error_of n heights a ≤ lower
+
+-- the least tolerance of the reasons of a certificate: its own, or for a budget that of the reasons behind the mesh
+abbrev pub IsLower : Target → ℕ → ℕ → Type 0
+IsLower (Error tolerance) own lower = lower ≡ own
+IsLower (Budget triangles) own lower = lower ≡ own - 1
 
 -- the flags go on from old ones to new ones as the list of reasons does
 pub record IsGoingOn (n : ℕ) (heights : List ℕ) (tolerance : ℕ) (old : List Bool) (before : List Off)
     (new : List Bool) (after : List Off) : Type 0 where
   pub closed : IsClosed n (is_flagged new)
+  pub kept : IsSubset (is_flagged old) (is_flagged new)
   pub leads : (has : ℕ → Bool) → LeadsTo n heights tolerance has before (is_flagged old)
       → LeadsTo n heights tolerance has after (is_flagged new)

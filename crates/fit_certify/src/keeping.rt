@@ -25,8 +25,8 @@ use std::alloc::Global;
 /// `fit_mesh` for their triangles. A corner of the square is a vertex of each mesh.
 ///
 /// Its points are those of the list whose triangles are not split by the points before them.
-/// Cost (not proved): a level for each point; a byte for each splittable triangle, and a few passes over all of them, in
-/// each the error of each leaf; 12 bytes for each reason and eight for each point.
+/// Cost (not proved): a level for each point; the error of each triangle that is split or a leaf, once, and a few passes
+/// over them; two bytes for each splittable triangle, 12 for each reason and eight for each point.
 pub fn make_kept(
     alloc: Global,
     grid: &Grid,
@@ -40,27 +40,31 @@ pub fn make_kept(
     ensures few { IfOk result (λ c. length c.needs ≤ length points.now) }
 {
     let mut flags = vec![in alloc; false; end(grid.n()) as usize]?;
-    kept_cert_of(alloc, grid, tolerance, points, &mut flags)
+    let mut known = vec![in alloc; false; end(grid.n()) as usize]?;
+    kept_cert_of(alloc, grid, tolerance, points, &mut flags, &mut known)
 }
 
-/// The same with flags of no triangle.
+/// The same with flags of no triangle, and none that is known.
 fn kept_cert_of(
     alloc: Global,
     grid: &Grid,
     tolerance: u32,
     points: &[Point],
     flags: &mut [bool],
+    known: &mut [bool],
 ) -> Result<KeptCert, NoMemory>
     requires inside { All (IsInSquare (2 ^ grid.now.n)) points.now }
     requires few { length points.now ≤ MOST_REASONS }
     requires flags { length flags.old ≡ 2 ^ (2 * grid.now.n + 1) }
     requires empty { (a : ℕ) → is_flagged flags.old a ≡ false }
+    requires room { length known.old ≡ 2 ^ (2 * grid.now.n + 1) }
+    requires none_known { (a : ℕ) → is_flagged known.old a ≡ false }
     ensures sound { IfOk result (λ c. (mesh : List ℕ) ×
         IsKeptSound grid.now.n grid.now.heights points.now tolerance c mesh) }
     ensures few { IfOk result (λ c. length c.needs ≤ length points.now) }
 {
     let needs = list_needs(alloc, grid.n(), points, flags)?;
-    let needed = settle(alloc, grid, tolerance, flags)?;
+    let needed = settle(alloc, grid, tolerance, tolerance, flags, known)?;
     Ok(KeptCert::new(needs, FitCert::new(tolerance, needed, Vec::new(alloc))))
 }
 

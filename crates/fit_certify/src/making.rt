@@ -7,6 +7,7 @@ ghost use Rattle.fit_laws.specs.Error.{error_of};
 ghost use Rattle.certificate_laws.specs.FitCertificate.{LeadsTo, IsFitSound};
 ghost use Rattle.certificate_laws.specs.declared.limits.TheConstants.{MOST_REASONS};
 ghost use Rattle.certificate_laws.specs.Making.{IsPossible, IsBestTolerance, IsBelow, HasNoneBehind};
+ghost use Rattle.fit_certify.specs.Settling.{AreKnown, IsLower};
 
 use crate::settle::settle;
 use address_flags::end;
@@ -19,8 +20,8 @@ use std::alloc::Global;
 /// A sound certificate of the best mesh for an error or a budget: the mesh of `Fit::frame` of `fit_mesh`.
 ///
 /// Its tolerance is that of the target, or the deviation of the mesh. Reasons stand behind the mesh for a budget alone.
-/// Cost (not proved): that of `Fit::frame` for a budget; a byte for each splittable triangle, and a few passes over
-/// all of them, in each the error of each leaf; 12 bytes for each reason.
+/// Cost (not proved): that of `Fit::frame` for a budget; the error of each triangle that is split or a leaf, once, and a
+/// few passes over them; two bytes for each splittable triangle, and 12 for each reason.
 pub fn make(alloc: Global, grid: &Grid, target: Target) -> Result<FitCert, NoMemory>
     requires possible { IsPossible target }
     ensures sound { IfOk result (λ c. (mesh : List ℕ) × IsFitSound grid.now.n grid.now.heights target c mesh) }
@@ -28,27 +29,44 @@ pub fn make(alloc: Global, grid: &Grid, target: Target) -> Result<FitCert, NoMem
 {
     let tolerance = tolerance_for(alloc, grid, target)?;
     let mut flags = vec![in alloc; false; end(grid.n()) as usize]?;
-    cert_of(alloc, grid, target, tolerance, &mut flags)
+    let mut known = vec![in alloc; false; end(grid.n()) as usize]?;
+    cert_of(alloc, grid, target, tolerance, &mut flags, &mut known)
 }
 
-/// The same for this tolerance, with flags of no triangle.
+/// The same for this tolerance, with flags of no triangle, and none that is known.
 fn cert_of(
     alloc: Global,
     grid: &Grid,
     target: Target,
     tolerance: u32,
     flags: &mut [bool],
+    known: &mut [bool],
 ) -> Result<FitCert, NoMemory>
     requires flags { length flags.old ≡ 2 ^ (2 * grid.now.n + 1) }
     requires empty { (a : ℕ) → is_flagged flags.old a ≡ false }
+    requires room { length known.old ≡ 2 ^ (2 * grid.now.n + 1) }
+    requires none_known { (a : ℕ) → is_flagged known.old a ≡ false }
     requires best { IsBestTolerance grid.now.n (error_of grid.now.n grid.now.heights) target tolerance }
     ensures sound { IfOk result (λ c. (mesh : List ℕ) × IsFitSound grid.now.n grid.now.heights target c mesh) }
     ensures behind { IfOk result (λ c. HasNoneBehind target c.beyond) }
 {
     let _level = grid.n();
-    let needed = settle(alloc, grid, tolerance, flags)?;
-    let beyond = settle_below(alloc, grid, target, tolerance, flags)?;
+    let lower = lower_of(target, tolerance);
+    let needed = settle(alloc, grid, tolerance, lower, flags, known)?;
+    let beyond = settle_below(alloc, grid, target, lower, flags, known)?;
     Ok(FitCert::new(tolerance, needed, beyond))
+}
+
+/// The least tolerance of the reasons: for a budget that of those behind the mesh, which are off by no less than the
+/// tolerance.
+fn lower_of(target: Target, tolerance: u32) -> u32
+    ensures value { IsLower target tolerance result }
+    ensures most { result ≤ tolerance }
+{
+    match target {
+        Target::Error { tolerance: _ } => tolerance,
+        Target::Budget { triangles: _ } => tolerance.saturating_sub(1),
+    }
 }
 
 /// The tolerance of the target, or the deviation of the mesh of its budget.
@@ -66,25 +84,28 @@ fn tolerance_for(alloc: Global, grid: &Grid, target: Target) -> Result<u32, NoMe
     }
 }
 
-/// For a budget, splits each leaf that is off by no less than the tolerance, until none is. Answers the reasons.
+/// For a budget, splits each leaf that is off by more than `lower`, until none is. Answers the reasons.
 fn settle_below(
     alloc: Global,
     grid: &Grid,
     target: Target,
-    tolerance: u32,
+    lower: u32,
     flags: &mut [bool],
+    known: &mut [bool],
 ) -> Result<Vec<Off>, NoMemory>
     requires flags { length flags.old ≡ 2 ^ (2 * grid.now.n + 1) }
     requires closed { IsClosed grid.now.n (is_flagged flags.old) }
-    ensures leads { IfOk result (λ v. LeadsTo grid.now.n grid.now.heights (tolerance - 1)
-        (is_flagged flags.old) v.items (is_flagged flags.new)) }
-    ensures below { IfOk result (λ v. IsBelow target (error_of grid.now.n grid.now.heights)
-        (tolerance - 1) (leaves_of grid.now.n (is_flagged flags.new))) }
+    requires room { length known.old ≡ 2 ^ (2 * grid.now.n + 1) }
+    requires known { AreKnown grid.now.n grid.now.heights lower known.old }
+    ensures leads { IfOk result (λ v. (own : ℕ) → IsLower target own lower →
+        LeadsTo grid.now.n grid.now.heights (own - 1) (is_flagged flags.old) v.items (is_flagged flags.new)) }
+    ensures below { IfOk result (λ v. (own : ℕ) → IsLower target own lower →
+        IsBelow target (error_of grid.now.n grid.now.heights) (own - 1) (leaves_of grid.now.n (is_flagged flags.new))) }
     ensures few { IfOk result (λ v. length v.items ≤ MOST_REASONS) }
     ensures none { IfOk result (λ v. HasNoneBehind target v.items) }
 {
     match target {
         Target::Error { tolerance: _ } => Ok(Vec::new(alloc)),
-        Target::Budget { triangles: _ } => settle(alloc, grid, tolerance.saturating_sub(1), flags),
+        Target::Budget { triangles: _ } => settle(alloc, grid, lower, lower, flags, known),
     }
 }

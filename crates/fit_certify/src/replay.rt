@@ -67,7 +67,7 @@ fn is_reason(grid: &Grid, tolerance: u32, flags: &[bool], reason: Off) -> bool
 }
 
 /// Whether the triangle is no member, and its parent is one, if it has one.
-pub(crate) fn is_leaf(flags: &[bool], t: Tri) -> bool
+fn is_leaf(flags: &[bool], t: Tri) -> bool
     ensures { (n : ℕ) → IsClosed n (is_flagged flags.now) → IsSplittable n t →
         IsTrue result ↔ Contains (leaves_of n (is_flagged flags.now)) t }
 {

@@ -1,36 +1,46 @@
 //! Splitting what is too far off, in any order, with a reason for each split.
 
-ghost use Rattle.std.specs.Prelude.{◌≡◌, ◌+◌, ◌*◌, ◌^◌, ◌<◌, ◌≤◌, ◌||◌, true, false, IfOk, OnOk, length, Contains};
-ghost use Rattle.mesh_defs.specs.Triangle.{IsSplittable};
-ghost use Rattle.mesh_defs.specs.ClosedSet.{IsClosed, leaves_of};
+ghost use Rattle.std.specs.Prelude.{◌≡◌, ◌+◌, ◌-◌, ◌*◌, ◌/◌, ◌^◌, ◌<◌, ◌≤◌, ◌||◌, true, false, IsTrue, All};
+ghost use Rattle.std.specs.Prelude.{IfOk, OnOk, length};
+ghost use Rattle.mesh_defs.specs.Triangle.{level_of, IsAddress, IsSplittable};
+ghost use Rattle.mesh_defs.specs.ClosedSet.{IsClosed, leaves_under, leaves_of};
 ghost use Rattle.mesh_defs.specs.Priority.{worst_of};
 ghost use Rattle.mesh_laws.specs.Sweep.{is_flagged};
 ghost use Rattle.fit_laws.specs.Error.{error_of};
 ghost use Rattle.certificate_laws.specs.FitCertificate.{LeadsTo};
 ghost use Rattle.certificate_laws.specs.declared.limits.TheConstants.{MOST_REASONS};
-ghost use Rattle.fit_certify.specs.Settling.{IsGoingOn};
+ghost use Rattle.fit_certify.specs.Settling.{AreKnown, IsGoingOn};
 
 use crate::force::force;
-use crate::replay::is_leaf;
-use address_flags::end;
+use crate::known::point_off;
+use address_flags::is_set;
 use bintree_addr::Tri;
 use certificate_laws::Off;
 use mesh_defs::NoMemory;
-use mesh_measure::point_above;
 use pgm_grid::Grid;
 use std::alloc::Global;
 
 /// Splits each leaf that is off by more than the tolerance, with what that forces, until none is. Answers the reasons.
 ///
-/// Cost (not proved): a few passes over all splittable triangles, in each the error of each leaf.
+/// Leaves that are found to be off by no more than `lower` are known from then on, and are not measured again.
+/// Cost (not proved): the error of each triangle that is split or a leaf, once; a few passes over the mesh, in each a
+/// step for each triangle that is split or a leaf, and the errors of the leaves that are off by more than `lower`.
 pub(crate) fn settle(
     alloc: Global,
     grid: &Grid,
     tolerance: u32,
+    lower: u32,
     flags: &mut [bool],
+    known: &mut [bool],
 ) -> Result<Vec<Off>, NoMemory>
+    requires lower { lower ≤ tolerance }
     requires flags { length flags.old ≡ 2 ^ (2 * grid.now.n + 1) }
     requires closed { IsClosed grid.now.n (is_flagged flags.old) }
+    requires room { length known.old ≡ 2 ^ (2 * grid.now.n + 1) }
+    requires known { AreKnown grid.now.n grid.now.heights lower known.old }
+    ensures room { length known.new ≡ length known.old }
+    ensures known { AreKnown grid.now.n grid.now.heights lower known.new }
+    ensures flags { length flags.new ≡ length flags.old }
     ensures leads { IfOk result (λ v. LeadsTo grid.now.n grid.now.heights tolerance
         (is_flagged flags.old) v.items (is_flagged flags.new)) }
     ensures within { OnOk result (worst_of (error_of grid.now.n grid.now.heights)
@@ -41,20 +51,27 @@ pub(crate) fn settle(
     let mut reasons = Vec::new(alloc);
     let mut again = true;
     while again {
-        again = sweep(grid, tolerance, flags, &mut reasons)?;
+        again = sweep(grid, tolerance, lower, flags, known, &mut reasons)?;
     }
     Ok(reasons)
 }
 
-/// Splits each of these leaves once, from the first address on. Answers whether there was one.
+/// Splits each of these leaves, and of what comes with that, depth first. Answers whether there was one.
 fn sweep(
     grid: &Grid,
     tolerance: u32,
+    lower: u32,
     flags: &mut [bool],
+    known: &mut [bool],
     reasons: &mut Vec<Off>,
 ) -> Result<bool, NoMemory>
+    requires lower { lower ≤ tolerance }
     requires flags { length flags.old ≡ 2 ^ (2 * grid.now.n + 1) }
     requires closed { IsClosed grid.now.n (is_flagged flags.old) }
+    requires room { length known.old ≡ 2 ^ (2 * grid.now.n + 1) }
+    requires known { AreKnown grid.now.n grid.now.heights lower known.old }
+    ensures room { length known.new ≡ length known.old }
+    ensures known { AreKnown grid.now.n grid.now.heights lower known.new }
     ensures flags { length flags.new ≡ length flags.old }
     ensures going { OnOk result (IsGoingOn grid.now.n grid.now.heights tolerance
         flags.old reasons.old.items flags.new reasons.new.items) }
@@ -64,13 +81,50 @@ fn sweep(
         (flags.new ≡ flags.old) × (worst_of (error_of grid.now.n grid.now.heights)
         (leaves_of grid.now.n (is_flagged flags.new)) ≤ tolerance)) }
 {
-    let mut again = false;
-    for number in 2..end(grid.n()) {
-        let t = Tri::new(number).unwrap();
-        let is_split = split_leaf(grid, tolerance, flags, reasons, t)?;
-        again = either(again, is_split);
+    let _level = grid.n();
+    let below = sweep_under(grid, tolerance, lower, flags, known, reasons, Tri::LOWER)?;
+    let above = sweep_under(grid, tolerance, lower, flags, known, reasons, Tri::UPPER)?;
+    Ok(either(below, above))
+}
+
+/// Splits each of them that is the triangle or lies in it, where its parent is split.
+fn sweep_under(
+    grid: &Grid,
+    tolerance: u32,
+    lower: u32,
+    flags: &mut [bool],
+    known: &mut [bool],
+    reasons: &mut Vec<Off>,
+    t: Tri,
+) -> Result<bool, NoMemory>
+    requires address { IsAddress grid.now.n t }
+    requires lower { lower ≤ tolerance }
+    requires flags { length flags.old ≡ 2 ^ (2 * grid.now.n + 1) }
+    requires closed { IsClosed grid.now.n (is_flagged flags.old) }
+    requires parent { 4 ≤ t → IsTrue (is_flagged flags.old (t / 2)) }
+    requires room { length known.old ≡ 2 ^ (2 * grid.now.n + 1) }
+    requires known { AreKnown grid.now.n grid.now.heights lower known.old }
+    ensures room { length known.new ≡ length known.old }
+    ensures known { AreKnown grid.now.n grid.now.heights lower known.new }
+    ensures flags { length flags.new ≡ length flags.old }
+    ensures going { OnOk result (IsGoingOn grid.now.n grid.now.heights tolerance
+        flags.old reasons.old.items flags.new reasons.new.items) }
+    ensures more { IfOk result (λ again. again ≡ true →
+        length (leaves_of grid.now.n (is_flagged flags.old)) < length (leaves_of grid.now.n (is_flagged flags.new))) }
+    ensures none { IfOk result (λ again. again ≡ false → (flags.new ≡ flags.old) ×
+        All (λ a. error_of grid.now.n grid.now.heights a ≤ tolerance)
+        (leaves_under (2 * grid.now.n - level_of t) (is_flagged flags.new) t)) }
+{
+    if t.level() >= 2 * grid.n() {
+        return Ok(false);
     }
-    Ok(again)
+    let is_off = split_leaf(grid, tolerance, lower, flags, known, reasons, t)?;
+    if !is_set(flags, t) {
+        return Ok(is_off);
+    }
+    let left = sweep_under(grid, tolerance, lower, flags, known, reasons, t.left())?;
+    let right = sweep_under(grid, tolerance, lower, flags, known, reasons, t.right())?;
+    Ok(either(is_off, either(left, right)))
 }
 
 /// Whether one of them is true.
@@ -80,30 +134,37 @@ fn either(one: bool, other: bool) -> bool
     one || other
 }
 
-/// Splits the triangle, if it is such a leaf. Answers whether it is.
+/// Splits the triangle, whose parent is split, if it is such a leaf. Answers whether it is.
 fn split_leaf(
     grid: &Grid,
     tolerance: u32,
+    lower: u32,
     flags: &mut [bool],
+    known: &mut [bool],
     reasons: &mut Vec<Off>,
     t: Tri,
 ) -> Result<bool, NoMemory>
+    requires splittable { IsSplittable grid.now.n t }
+    requires lower { lower ≤ tolerance }
     requires flags { length flags.old ≡ 2 ^ (2 * grid.now.n + 1) }
     requires closed { IsClosed grid.now.n (is_flagged flags.old) }
-    requires splittable { IsSplittable grid.now.n t }
+    requires parent { 4 ≤ t → IsTrue (is_flagged flags.old (t / 2)) }
+    requires room { length known.old ≡ 2 ^ (2 * grid.now.n + 1) }
+    requires known { AreKnown grid.now.n grid.now.heights lower known.old }
+    ensures room { length known.new ≡ length known.old }
+    ensures known { AreKnown grid.now.n grid.now.heights lower known.new }
     ensures flags { length flags.new ≡ length flags.old }
     ensures going { OnOk result (IsGoingOn grid.now.n grid.now.heights tolerance
         flags.old reasons.old.items flags.new reasons.new.items) }
     ensures more { IfOk result (λ is. is ≡ true →
         length (leaves_of grid.now.n (is_flagged flags.old)) < length (leaves_of grid.now.n (is_flagged flags.new))) }
     ensures none { IfOk result (λ is. is ≡ false → (flags.new ≡ flags.old) ×
-        (Contains (leaves_of grid.now.n (is_flagged flags.old)) t →
-        error_of grid.now.n grid.now.heights t ≤ tolerance)) }
+        (is_flagged flags.new t ≡ false → error_of grid.now.n grid.now.heights t ≤ tolerance)) }
 {
-    if !is_leaf(flags, t) {
+    if is_set(flags, t) {
         return Ok(false);
     }
-    match point_above(grid, t, tolerance) {
+    match point_off(grid, t, tolerance, lower, known) {
         None => Ok(false),
         Some(point) => {
             reasons.push(Off {

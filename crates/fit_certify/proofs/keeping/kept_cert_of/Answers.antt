@@ -8,6 +8,7 @@ use Rattle.certificate_laws.specs.FitCertificate.{FitCertificate}
 use Rattle.certificate_laws.specs.Keeping.{KeptCertificate, IsKeptSound}
 use Rattle.certificate_laws.proofs.KeepingLemmas.{kept-made}
 use Rattle.fit_certify.specs.Keeping.{AreNeeded}
+use Rattle.fit_certify.proofs.SettleLemmas.{known-none}
 use Rattle.fit_certify.proofs.keeping.kept_cert_of.Goals as goal
 
 -- a certificate of these parts
@@ -21,6 +22,10 @@ pub settle-requires-clause-closed : goal.settle-requires-clause-closed
 settle-requires-clause-closed c =
     (subst (λ (k : ℕ). AreNeeded k c.args.points.now c.args.points.now c.in_ok-needs.needs.items c.list_needs.new.flags)
     c.n.ensures.value c.in_ok-needs.ensures.needed).begun.closed
+
+pub settle-requires-clause-known : goal.settle-requires-clause-known
+settle-requires-clause-known c =
+    known-none c.args.grid.now.n c.args.grid.now.heights c.args.tolerance c.args.known.now c.requires.none_known
 
 pub returns-clause-sound : goal.returns-clause-sound
 returns-clause-sound c =

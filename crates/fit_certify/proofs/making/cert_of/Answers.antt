@@ -8,12 +8,17 @@ use Rattle.certificate_laws.specs.FitCertificate.{FitCertificate, LeadsToFit, Is
 use Rattle.certificate_laws.specs.Making.{HasNoneBehind}
 use Rattle.certificate_laws.proofs.LeadLemmas.{leads-closed, leads-same}
 use Rattle.certificate_laws.proofs.FitMakeLemmas.{made-sound}
+use Rattle.fit_certify.proofs.SettleLemmas.{known-none}
 use Rattle.fit_certify.proofs.making.cert_of.Goals as goal
 
 pub settle-requires-clause-closed : goal.settle-requires-clause-closed
 settle-requires-clause-closed c =
     let n : ℕ = c.args.grid.now.n in
     closed-same n (λ a. false) (is_flagged c.args.flags.now) (λ a. sym (c.requires.empty a)) (nothing_closed n)
+
+pub settle-requires-clause-known : goal.settle-requires-clause-known
+settle-requires-clause-known c =
+    known-none c.args.grid.now.n c.args.grid.now.heights c.lower_of-lower.result c.args.known.now c.requires.none_known
 
 pub settle_below-requires-clause-closed : goal.settle_below-requires-clause-closed
 settle_below-requires-clause-closed c =
@@ -44,9 +49,10 @@ returns c =
       sound = (
         leaves_of n has,
         subst (λ (x : FitCertificate). IsFitSound n heights c.args.target x (leaves_of n has)) (sym c.new.ensures)
-            (made-sound n heights cert has (is_flagged c.settle_below.new.flags) fitted c.in_ok-beyond.ensures.leads
+            (made-sound n heights cert has (is_flagged c.settle_below.new.flags) fitted
+            (c.in_ok-beyond.ensures.leads c.args.tolerance c.lower_of-lower.ensures.value)
             c.args.target c.requires.best
-            c.in_ok-beyond.ensures.below),
+            (c.in_ok-beyond.ensures.below c.args.tolerance c.lower_of-lower.ensures.value)),
       );
       behind = subst (λ (x : FitCertificate). HasNoneBehind c.args.target x.beyond) (sym c.new.ensures)
           c.in_ok-beyond.ensures.none;

@@ -1,21 +1,17 @@
 -- A leaf that is off is split, and its point is the reason.
-use Rattle.std.proofs.Common.{ℕ, refl, subst}
-use Rattle.mesh_defs.specs.ClosedSet.{IsLeastClosed}
+use Rattle.std.proofs.Common.{◌≡◌, ℕ, false, Contains, sym, ◌∙◌, subst}
+use Rattle.mesh_defs.specs.ClosedSet.{IsLeastClosed, leaves_of}
 use Rattle.mesh_defs.specs.Greedy.{with_triangle}
 use Rattle.mesh_laws.specs.Sweep.{is_flagged}
-use Rattle.fit_certify.proofs.SettleLemmas.{error-most, split-going, split-grown}
+use Rattle.fit_certify.proofs.SettleLemmas.{unset-leaf, split-going, split-grown}
 use Rattle.fit_certify.proofs.settle.split_leaf.Goals as goal
-
-pub returns-in-None-clause-none : goal.returns-in-None-clause-none
-returns-in-None-clause-none c = λ _. (
-  refl,
-  λ _. error-most c.args.grid.now.n c.args.grid.now.heights c.args.t c.args.tolerance c.in-None.ensures.none,
-)
 
 pub returns-in_ok-push-in-Some-clause-going : goal.returns-in_ok-push-in-Some-clause-going
 returns-in_ok-push-in-Some-clause-going c =
     let n : ℕ = c.args.grid.now.n in
-    let leaf = (c.is_leaf.ensures n c.requires.closed c.requires.splittable).0 c.if-not-is_leaf.false in
+    let unset : is_flagged c.args.flags.now c.args.t ≡ false = sym c.is_set.ensures.value ∙ c.if-is_set.false in
+    let leaf : Contains (leaves_of n (is_flagged c.args.flags.now)) c.args.t =
+    unset-leaf n c.args.flags.now c.args.t c.requires.closed c.requires.splittable unset c.requires.parent in
     let least = subst (λ (k : ℕ). IsLeastClosed k (with_triangle (is_flagged c.args.flags.now) c.args.t)
     (is_flagged c.force.new.flags))
     c.n.ensures.value c.force.ensures.least in
@@ -27,7 +23,9 @@ returns-in_ok-push-in-Some-clause-going c =
 pub returns-in_ok-push-in-Some-clause-more : goal.returns-in_ok-push-in-Some-clause-more
 returns-in_ok-push-in-Some-clause-more c _ =
     let n : ℕ = c.args.grid.now.n in
-    let leaf = (c.is_leaf.ensures n c.requires.closed c.requires.splittable).0 c.if-not-is_leaf.false in
+    let unset : is_flagged c.args.flags.now c.args.t ≡ false = sym c.is_set.ensures.value ∙ c.if-is_set.false in
+    let leaf : Contains (leaves_of n (is_flagged c.args.flags.now)) c.args.t =
+    unset-leaf n c.args.flags.now c.args.t c.requires.closed c.requires.splittable unset c.requires.parent in
     let least = subst (λ (k : ℕ). IsLeastClosed k (with_triangle (is_flagged c.args.flags.now) c.args.t)
     (is_flagged c.force.new.flags))
     c.n.ensures.value c.force.ensures.least in
