@@ -18,10 +18,10 @@ ghost use Rattle.mesh_defs.specs.declared.level.TheConstants.{GREATEST_LEVEL};
 use crate::areas::Areas;
 use crate::columns::Columns;
 use crate::edges::held_columns;
-use crate::facet::{bounds_of, facet_of, weighted};
+use crate::facet::{bounds_of, corners_in, facet_at, weighted};
 use crate::line::{Plane, farther, greatest_off, height_on, line_from, line_in, plane_of};
 use crate::shape::{Bounds, Facet, HeldRow};
-use bintree_addr::Tri;
+use bintree_addr::{Corners, Tri};
 use pgm_grid::Grid;
 
 /// How far the surface is from the plane at a point, times twice the triangle's area.
@@ -178,8 +178,17 @@ pub fn off_triangle(grid: &Grid, t: Tri) -> u32
     requires level { level_of t ≤ 2 * grid.now.n }
     ensures { result ≡ greatest (offs_in grid.now.n grid.now.heights t) }
 {
+    off_triangle_at(grid, t, corners_in(grid, t))
+}
+
+/// The same, where its corners are known.
+pub fn off_triangle_at(grid: &Grid, t: Tri, corners: Corners) -> u32
+    requires level { level_of t ≤ 2 * grid.now.n }
+    requires corners { corners ≡ corners_of grid.now.n t }
+    ensures { result ≡ greatest (offs_in grid.now.n grid.now.heights t) }
+{
     let _address = t.number();
-    let facet = facet_of(grid, t);
+    let facet = facet_at(grid, t, corners);
     most_until(grid, facet, t, bounds_of(facet.corners), u32::MAX)
 }
 
@@ -191,8 +200,17 @@ pub fn exceeds(grid: &Grid, t: Tri, tolerance: u32) -> bool
     requires level { level_of t ≤ 2 * grid.now.n }
     ensures { IsTrue result ↔ (tolerance < greatest (offs_in grid.now.n grid.now.heights t)) }
 {
+    exceeds_at(grid, t, corners_in(grid, t), tolerance)
+}
+
+/// The same, where its corners are known.
+pub fn exceeds_at(grid: &Grid, t: Tri, corners: Corners, tolerance: u32) -> bool
+    requires level { level_of t ≤ 2 * grid.now.n }
+    requires corners { corners ≡ corners_of grid.now.n t }
+    ensures { IsTrue result ↔ (tolerance < greatest (offs_in grid.now.n grid.now.heights t)) }
+{
     let _address = t.number();
-    let facet = facet_of(grid, t);
+    let facet = facet_at(grid, t, corners);
     off_middle(grid, facet, t) > tolerance
         || most_until(grid, facet, t, bounds_of(facet.corners), tolerance) > tolerance
 }
