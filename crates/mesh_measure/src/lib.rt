@@ -16,6 +16,7 @@ mod mesh;
 mod own;
 mod points;
 mod shape;
+mod slope;
 
 pub use at_point::{off_point, point_above};
 pub use facet::{corners_in, plane_height};

@@ -1,5 +1,5 @@
 -- The corners lie in the largest square, and the heights and the area are those of the definitions.
-use Rattle.std.proofs.Common.{◌≡◌, ◌-◌, ◌*◌, ◌^◌, ◌≤◌, ◌∙◌, ℕ, sym, ap, subst, arith}
+use Rattle.std.proofs.Common.{◌≡◌, ◌-◌, ◌*◌, ◌^◌, ◌≤◌, ◌∙◌, ℕ, sym, subst, arith}
 use Rattle.mesh_defs.specs.declared.point.Corners.{Corners}
 use Rattle.mesh_defs.specs.Triangle.{corners_of}
 use Rattle.bintree_laws.specs.Corners.{IsWithin}
