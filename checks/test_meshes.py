@@ -37,6 +37,17 @@ def test_mesh(program: Path, side: int, seed: int, budget: int, spacing: int) ->
         them.check("mesh", "g", "s", "out", budget, spacing)
 
 
+# Fits of every side up to 257: rows of each length, measured in full for a budget and up to the first that is off for an error.
+@table("side, seed, kind, bound", *((f"fit_of_side_{row[0]}_{row[2]}_{row[3]}", *row) for row in (
+    (3, 11, "error", "200"), (3, 12, "budget", 5), (5, 13, "error", "310.5"), (5, 14, "budget", 20), (9, 15, "error", "400"),
+    (9, 16, "budget", 90), (17, 17, "error", "520"), (17, 18, "budget", 300), (33, 19, "error", "600"), (33, 20, "budget", 700),
+    (65, 21, "error", "750"), (65, 22, "budget", 600), (129, 23, "error", "900"), (129, 24, "budget", 300),
+    (257, 26, "error", "290"), (257, 25, "budget", 40))))
+def test_fit(program: Path, side: int, seed: int, kind: str, bound: object) -> None:
+    with both(program, {"g": rough_grid(side, seed)}) as them:
+        them.check("fit", "g", "out", kind, bound, 1)
+
+
 # Whole scripts over a rough grid.
 @table(
     "side, seed, budget, spacing, script",

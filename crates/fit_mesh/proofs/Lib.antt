@@ -6,6 +6,7 @@ pub mod HeapLemmas
 pub mod KeptLemmas
 pub mod LimitLemmas
 pub mod LogLemmas
+pub mod PairLemmas
 pub mod PendingLemmas
 pub mod SettleLemmas
 pub mod SplitLemmas

@@ -1,12 +1,12 @@
 //! The error of a triangle, asked of the grid.
 
 ghost use Rattle.std.specs.Prelude.{◌≡◌, ◌*◌, ◌≤◌, All, IsTrue, max};
-ghost use Rattle.mesh_defs.specs.Triangle.{level_of};
+ghost use Rattle.mesh_defs.specs.Triangle.{level_of, corners_of};
 ghost use Rattle.mesh_defs.specs.Priority.{worst_of};
 ghost use Rattle.fit_laws.specs.Error.{error_of};
 
-use bintree_addr::Tri;
-use mesh_measure::{off_point, off_triangle};
+use bintree_addr::{Corners, Tri};
+use mesh_measure::{corners_in, off_point, off_triangle_at};
 use pgm_grid::Grid;
 
 /// The error of the triangle, in units of height, times 2^n: of a finest one, which holds its corners alone, none.
@@ -18,7 +18,16 @@ pub fn error(grid: &Grid, t: Tri) -> u32
     if t.level() >= 2 * grid.n() {
         return 0;
     }
-    off_triangle(grid, t)
+    error_at(grid, t, corners_in(grid, t))
+}
+
+/// The same of a triangle whose corners are known.
+pub(crate) fn error_at(grid: &Grid, t: Tri, corners: Corners) -> u32
+    requires level { level_of t ≤ 2 * grid.now.n }
+    requires corners { corners ≡ corners_of grid.now.n t }
+    ensures { result ≡ error_of grid.now.n grid.now.heights t }
+{
+    off_triangle_at(grid, t, corners)
 }
 
 /// The greatest error of a triangle of the list.

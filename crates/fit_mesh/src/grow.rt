@@ -16,6 +16,7 @@ use crate::force::{force, set_back};
 use crate::leaves::{next_leaf, push_pair, push_unsplit};
 use crate::start::start;
 use bintree_addr::Tri;
+use mesh_measure::corners_in;
 use pgm_grid::Grid;
 use std::collections::BinaryHeap;
 
@@ -73,8 +74,8 @@ fn fill(grid: &Grid, heap: &mut BinaryHeap<(u32, u32)>, flags: &[bool], log: &[T
         IsWaiting grid.now.n e (is_flagged flags.now) (heap_items heap.new) }
 {
     let _level = grid.n();
-    push_unsplit(grid, heap, flags, Tri::LOWER);
-    push_unsplit(grid, heap, flags, Tri::UPPER);
+    push_unsplit(grid, heap, flags, Tri::LOWER, corners_in(grid, Tri::LOWER));
+    push_unsplit(grid, heap, flags, Tri::UPPER, corners_in(grid, Tri::UPPER));
     push_children(grid, heap, flags, log, 0);
 }
 

@@ -3,20 +3,22 @@
 ghost use Rattle.std.specs.Prelude.{◌≡◌, ℕ, ◌+◌, ◌*◌, ◌^◌, ◌/◌, ◌<◌, ◌≤◌, ◌⊎◌, IfSome, IfNone, [], Contains, false};
 ghost use Rattle.std.specs.Prelude.{slice_index_or};
 ghost use Rattle.std.specs.BinaryHeap.{IsHeap, heap_items, heap_len, heap_capacity};
-ghost use Rattle.mesh_defs.specs.Triangle.{level_of, IsAddress, IsSplittable};
+ghost use Rattle.mesh_defs.specs.Triangle.{level_of, corners_of, IsAddress, IsSplittable};
 ghost use Rattle.mesh_laws.specs.Sweep.{is_flagged};
 ghost use Rattle.fit_laws.specs.Error.{error_of};
 ghost use Rattle.fit_mesh.specs.Waiting.{pair_cmp, AreKept, AreLeft, IsFirst};
 
-use crate::error::error;
+use crate::error::error_at;
+use crate::pair::{corners_below, has_open_child};
 use address_flags::is_set;
-use bintree_addr::Tri;
+use bintree_addr::{Corners, Tri};
 use pgm_grid::Grid;
 use std::collections::BinaryHeap;
 
 /// Lets the triangle wait, where it has an error.
-fn push_leaf(grid: &Grid, heap: &mut BinaryHeap<(u32, u32)>, t: Tri)
+fn push_leaf(grid: &Grid, heap: &mut BinaryHeap<(u32, u32)>, t: Tri, corners: Corners)
     requires level { level_of t ≤ 2 * grid.now.n }
+    requires corners { corners ≡ corners_of grid.now.n t }
     requires room { heap_len heap.old < heap_capacity heap.old }
     requires ordered { IsHeap pair_cmp (heap_items heap.old) }
     ensures capacity { heap_capacity heap.old ≤ heap_capacity heap.new }
@@ -29,7 +31,7 @@ fn push_leaf(grid: &Grid, heap: &mut BinaryHeap<(u32, u32)>, t: Tri)
         (r : ℕ × ℕ) → Contains (heap_items heap.new) r →
         Contains (heap_items heap.old) r ⊎ ((r ≡ (e t, t)) × (0 < e t)) }
 {
-    let worst = error(grid, t);
+    let worst = error_at(grid, t, corners);
     if worst > 0 {
         let Ok(()) = heap.push((worst, t.number())) else {
             unreachable!()
@@ -38,8 +40,15 @@ fn push_leaf(grid: &Grid, heap: &mut BinaryHeap<(u32, u32)>, t: Tri)
 }
 
 /// The same, where it is not split.
-pub fn push_unsplit(grid: &Grid, heap: &mut BinaryHeap<(u32, u32)>, flags: &[bool], t: Tri)
+pub fn push_unsplit(
+    grid: &Grid,
+    heap: &mut BinaryHeap<(u32, u32)>,
+    flags: &[bool],
+    t: Tri,
+    corners: Corners,
+)
     requires level { level_of t ≤ 2 * grid.now.n }
+    requires corners { corners ≡ corners_of grid.now.n t }
     requires room { heap_len heap.old < heap_capacity heap.old }
     requires ordered { IsHeap pair_cmp (heap_items heap.old) }
     ensures capacity { heap_capacity heap.old ≤ heap_capacity heap.new }
@@ -53,7 +62,7 @@ pub fn push_unsplit(grid: &Grid, heap: &mut BinaryHeap<(u32, u32)>, flags: &[boo
         Contains (heap_items heap.old) r ⊎ ((r ≡ (e t, t)) × (0 < e t)) }
 {
     if !is_set(flags, t) {
-        push_leaf(grid, heap, t);
+        push_leaf(grid, heap, t, corners);
     }
 }
 
@@ -73,9 +82,12 @@ pub fn push_pair(grid: &Grid, heap: &mut BinaryHeap<(u32, u32)>, flags: &[bool],
         (r : ℕ × ℕ) → Contains (heap_items heap.new) r → Contains (heap_items heap.old) r
         ⊎ ((r.1 / 2 ≡ t) × (4 ≤ r.1) × (r.0 ≡ e r.1) × (0 < r.0) × IsAddress grid.now.n r.1) }
 {
-    let _level = grid.n();
-    push_unsplit(grid, heap, flags, t.left());
-    push_unsplit(grid, heap, flags, t.right());
+    if !has_open_child(flags, grid.n(), t) {
+        return;
+    }
+    let (left, right) = corners_below(grid, t);
+    push_unsplit(grid, heap, flags, t.left(), left);
+    push_unsplit(grid, heap, flags, t.right(), right);
 }
 
 /// The leaf with the greatest error, where one has an error. Drops what was split before.

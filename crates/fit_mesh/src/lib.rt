@@ -17,6 +17,7 @@ mod grow;
 mod leaves;
 mod limit;
 mod list;
+mod pair;
 mod required;
 mod settle;
 mod splits;

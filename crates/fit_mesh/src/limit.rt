@@ -1,14 +1,14 @@
 //! By how much a mesh may be off, and whether a triangle is off by more.
 
 ghost use Rattle.std.specs.Prelude.{◌≡◌, ◌*◌, ◌<◌, ◌≤◌, ◌↔◌, All, IsTrue};
-ghost use Rattle.mesh_defs.specs.Triangle.{level_of};
+ghost use Rattle.mesh_defs.specs.Triangle.{level_of, corners_of};
 ghost use Rattle.mesh_defs.specs.Priority.{worst_of};
 ghost use Rattle.fit_laws.specs.Error.{error_of};
 ghost use Rattle.fit_mesh.specs.Limit.{tolerance_of, error_within, IsComplete};
 
 use crate::error::{worst_error, worst_within};
-use bintree_addr::Tri;
-use mesh_measure::{exceeds, exceeds_own};
+use bintree_addr::{Corners, Tri};
+use mesh_measure::{exceeds_at, exceeds_own};
 use pgm_grid::Grid;
 
 /// By how much a mesh may be off at a grid point, in units of height, times 2^n.
@@ -21,8 +21,9 @@ pub enum Limit<'a> {
 }
 
 /// Whether the triangle is off by more, which no finest one is.
-pub(crate) fn is_over(grid: &Grid, t: Tri, limit: Limit) -> bool
+pub(crate) fn is_over(grid: &Grid, t: Tri, corners: Corners, limit: Limit) -> bool
     requires level { level_of t ≤ 2 * grid.now.n }
+    requires corners { corners ≡ corners_of grid.now.n t }
     requires complete { IsComplete grid.now.n limit }
     ensures { IsTrue result
         ↔ (tolerance_of limit.entry < error_within grid.now.n grid.now.heights limit.entry t) }
@@ -32,7 +33,7 @@ pub(crate) fn is_over(grid: &Grid, t: Tri, limit: Limit) -> bool
         return false;
     }
     match limit {
-        Limit::Common(tolerance) => exceeds(grid, t, tolerance),
+        Limit::Common(tolerance) => exceeds_at(grid, t, corners, tolerance),
         Limit::Own(tolerances) => exceeds_own(grid, t, tolerances),
     }
 }

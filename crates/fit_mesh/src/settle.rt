@@ -1,7 +1,7 @@
 //! The fewest triangles within a limit: what is required is split, and then whatever is off by more, in any order.
 
 ghost use Rattle.std.specs.Prelude.{◌≡◌, ℕ, ◌+◌, ◌-◌, ◌*◌, ◌/◌, ◌^◌, ◌<◌, ◌≤◌, ◌↔◌, Bool, IsTrue, [], length, vec_capacity};
-ghost use Rattle.mesh_defs.specs.Triangle.{IsAddress, IsSplittable};
+ghost use Rattle.mesh_defs.specs.Triangle.{corners_of, IsAddress, IsSplittable};
 ghost use Rattle.mesh_defs.specs.ClosedSet.{IsClosed, IsSubset, among};
 ghost use Rattle.mesh_laws.specs.Sweep.{is_flagged};
 ghost use Rattle.fit_laws.specs.Required.{IsLeastSettledWith};
@@ -14,9 +14,11 @@ ghost use Rattle.fit_mesh.specs.Required.{is_required, or_required, IsAskable};
 use crate::demand::split_required;
 use crate::force::{clear, force};
 use crate::limit::{Limit, is_over};
+use crate::pair::{corners_below, has_open_child};
 use crate::required::Required;
 use address_flags::is_set;
-use bintree_addr::Tri;
+use bintree_addr::{Corners, Tri};
+use mesh_measure::corners_in;
 use pgm_grid::Grid;
 
 /// Flags the least settled set of the limit that has all that is required: splits that, and each leaf that is off by
@@ -41,8 +43,22 @@ pub fn settle_anew(
     clear(flags);
     log.clear();
     split_required(flags, log, grid.n(), required);
-    ask(grid, limit, flags, log, Tri::LOWER);
-    ask(grid, limit, flags, log, Tri::UPPER);
+    ask(
+        grid,
+        limit,
+        flags,
+        log,
+        Tri::LOWER,
+        corners_in(grid, Tri::LOWER),
+    );
+    ask(
+        grid,
+        limit,
+        flags,
+        log,
+        Tri::UPPER,
+        corners_in(grid, Tri::UPPER),
+    );
     settle(grid, limit, usize::MAX, flags, log);
 }
 
@@ -140,15 +156,26 @@ fn ask_pair(grid: &Grid, limit: Limit, flags: &mut [bool], log: &mut Vec<Tri>, t
     ensures settled { let e = error_within grid.now.n grid.now.heights limit.entry in
         (a : ℕ) → 2 ≤ a → a / 2 ≡ t → tolerance_of limit.entry < e a → IsTrue (is_flagged flags.new a) }
 {
-    let _level = grid.n();
-    ask(grid, limit, flags, log, t.left());
-    ask(grid, limit, flags, log, t.right());
+    if !has_open_child(flags, grid.n(), t) {
+        return;
+    }
+    let (left, right) = corners_below(grid, t);
+    ask(grid, limit, flags, log, t.left(), left);
+    ask(grid, limit, flags, log, t.right(), right);
 }
 
 /// Splits a triangle whose parent is split, where it is off by more than the limit.
-pub fn ask(grid: &Grid, limit: Limit, flags: &mut [bool], log: &mut Vec<Tri>, t: Tri)
+pub fn ask(
+    grid: &Grid,
+    limit: Limit,
+    flags: &mut [bool],
+    log: &mut Vec<Tri>,
+    t: Tri,
+    corners: Corners,
+)
     requires complete { IsComplete grid.now.n limit }
     requires address { IsAddress grid.now.n t }
+    requires corners { corners ≡ corners_of grid.now.n t }
     requires flags { length flags.old ≡ 2 ^ (2 * grid.now.n + 1) }
     requires room { 2 ^ (2 * grid.now.n + 1) ≤ vec_capacity log.old }
     requires log { IsLogged flags.old log.old.items }
@@ -169,7 +196,7 @@ pub fn ask(grid: &Grid, limit: Limit, flags: &mut [bool], log: &mut Vec<Tri>, t:
     if is_set(flags, t) {
         return;
     }
-    if is_over(grid, t, limit) {
+    if is_over(grid, t, corners, limit) {
         force(flags, log, grid.n(), t);
     }
 }

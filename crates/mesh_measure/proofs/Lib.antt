@@ -8,3 +8,4 @@ pub mod LineLemmas
 pub mod MiddleLemmas
 pub mod MostLemmas
 pub mod RowLemmas
+pub mod SlopeLemmas

@@ -6,3 +6,4 @@ pub mod Facet
 pub mod Line
 pub mod Most
 pub mod Row
+pub mod Slope

@@ -14,13 +14,34 @@ use bintree_addr::{Corners, Point, Tri};
 use pgm_grid::Grid;
 use wedgie_tree::Wedges;
 
+/// The corners of a triangle of the grid.
+///
+/// Cost (not proved): that of `Tri::corners`; those of children follow from their parent's by `child_corners`.
+pub fn corners_in(grid: &Grid, t: Tri) -> Corners
+    requires level { level_of t ≤ 2 * grid.now.n }
+    ensures { result ≡ corners_of grid.now.n t }
+{
+    t.corners(grid.n())
+}
+
 /// The triangle with its heights.
 pub(crate) fn facet_of(grid: &Grid, t: Tri) -> Facet
     requires level { level_of t ≤ 2 * grid.now.n }
     ensures valid { IsFacet grid.now.n grid.now.heights result }
     ensures corners { result.corners ≡ corners_of grid.now.n t }
 {
-    let corners = t.corners(grid.n());
+    facet_at(grid, t, corners_in(grid, t))
+}
+
+/// The same, where its corners are known.
+#[inline(always)]
+pub(crate) fn facet_at(grid: &Grid, t: Tri, corners: Corners) -> Facet
+    requires level { level_of t ≤ 2 * grid.now.n }
+    requires corners { corners ≡ corners_of grid.now.n t }
+    ensures valid { IsFacet grid.now.n grid.now.heights result }
+    ensures corners { result.corners ≡ corners_of grid.now.n t }
+{
+    let _level = grid.n();
     Facet {
         corners,
         apex: grid.height(corners.apex.x, corners.apex.y),

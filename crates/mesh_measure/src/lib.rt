@@ -16,9 +16,10 @@ mod mesh;
 mod own;
 mod points;
 mod shape;
+mod slope;
 
 pub use at_point::{off_point, point_above};
-pub use facet::plane_height;
+pub use facet::{corners_in, plane_height};
 pub use mesh::{deviation, thickest};
 pub use own::exceeds_own;
-pub use points::{exceeds, off_triangle};
+pub use points::{exceeds, exceeds_at, off_triangle, off_triangle_at};

@@ -69,44 +69,13 @@ pub(crate) fn line_in(plane: Plane, x: u32, y: u32) -> Line
 
 /// The heights at the corners, each as often as it says here.
 #[inline(always)]
-fn weigh(facet: Facet, apex: u32, v0: u32, v1: u32) -> u64
+pub(crate) fn weigh(facet: Facet, apex: u32, v0: u32, v1: u32) -> u64
     ensures value { result ≡ apex * facet.apex + v0 * facet.v0 + v1 * facet.v1 }
     ensures small { (most : ℕ) → apex ≤ most → v0 ≤ most → v1 ≤ most → result ≤ 196608 * most }
 {
     u64::from(apex) * u64::from(facet.apex)
         + u64::from(v0) * u64::from(facet.v0)
         + u64::from(v1) * u64::from(facet.v1)
-}
-
-/// The line from a column farther right on.
-#[inline(always)]
-pub(crate) fn line_from(line: Line, x: u32) -> Line
-    requires high { high_on line x ≤ 4398046511104 }
-    requires low { low_on line x ≤ 4398046511104 }
-    ensures high { result.high ≡ high_on line x }
-    ensures low { result.low ≡ low_on line x }
-    ensures rise { result.rise ≡ line.rise }
-    ensures fall { result.fall ≡ line.fall }
-{
-    Line {
-        high: line.high + u64::from(x) * line.rise,
-        low: line.low + u64::from(x) * line.fall,
-        rise: line.rise,
-        fall: line.fall,
-    }
-}
-
-/// The height of the plane at the first column of the line, times 2^n.
-#[inline(always)]
-pub(crate) fn height_on(line: Line, n: u32, log_area: u32) -> u32
-    requires in_grid { n ≤ GREATEST_LEVEL }
-    requires area { log_area ≤ 22 }
-    requires held { line.low ≤ line.high }
-    requires small { line.high ≤ 4398046511104 }
-    requires fits { 2 ^ n * (line.high - line.low) / 2 ^ log_area < 2 ^ 32 }
-    ensures { result ≡ 2 ^ n * (line.high - line.low) / 2 ^ log_area }
-{
-    (((line.high - line.low) << n) >> log_area) as u32
 }
 
 /// How far the heights, times 2^n, are from a plane at most, a column each: the plane rises by a step a column, modulo

@@ -11,17 +11,19 @@ ghost use Rattle.fit_laws.specs.PlaneHeight.{off_plane, offs_in};
 ghost use Rattle.mesh_measure.specs.Areas.{AreAcross, AreSmall};
 ghost use Rattle.mesh_measure.specs.Facet.{IsFacet};
 ghost use Rattle.mesh_measure.specs.Most.{gap_of, IsMost, IsMostUntil, IsInRow, IsInBounds};
-ghost use Rattle.mesh_measure.specs.Line.{high_on, low_on, IsPlaneOf};
+ghost use Rattle.mesh_measure.specs.Line.{IsPlaneOf};
 ghost use Rattle.mesh_measure.specs.Row.{IsHeldRow};
+ghost use Rattle.mesh_measure.specs.Slope.{AreSlopesOf};
 ghost use Rattle.mesh_defs.specs.declared.level.TheConstants.{GREATEST_LEVEL};
 
 use crate::areas::Areas;
 use crate::columns::Columns;
 use crate::edges::held_columns;
-use crate::facet::{bounds_of, facet_of, weighted};
-use crate::line::{Plane, farther, greatest_off, height_on, line_from, line_in, plane_of};
+use crate::facet::{bounds_of, corners_in, facet_at, weighted};
+use crate::line::{Plane, farther, greatest_off, line_in};
 use crate::shape::{Bounds, Facet, HeldRow};
-use bintree_addr::Tri;
+use crate::slope::{Slopes, height_at, slopes_of};
+use bintree_addr::{Corners, Tri};
 use pgm_grid::Grid;
 
 /// How far the surface is from the plane at a point, times twice the triangle's area.
@@ -103,48 +105,28 @@ pub(crate) fn held_row(
     Some(HeldRow { columns, line })
 }
 
-/// By how much the plane rises from the first column, where it is `at`, to the second, modulo 2^32; where there is one
-/// column alone this is of no use.
-#[inline(always)]
-fn step_from(row: HeldRow, at: u32, n: u32, log_area: u32) -> u32
-    requires in_grid { n ≤ GREATEST_LEVEL }
-    requires area { log_area ≤ 22 }
-    requires ordered { row.columns.from ≤ row.columns.end }
-    requires high { high_on row.line (row.columns.end - row.columns.from) ≤ 4398046511104 }
-    requires low { low_on row.line (row.columns.end - row.columns.from) ≤ 4398046511104 }
-    requires held { row.columns.from + 1 < row.columns.end → low_on row.line 1 ≤ high_on row.line 1 }
-    requires fits { row.columns.from + 1 < row.columns.end →
-        2 ^ n * (high_on row.line 1 - low_on row.line 1) / 2 ^ log_area < 2 ^ 32 }
-    ensures { row.columns.from + 1 < row.columns.end → result
-        ≡ (2 ^ n * (high_on row.line 1 - low_on row.line 1) / 2 ^ log_area + (2 ^ 32 - at)) % 2 ^ 32 }
-{
-    if row.columns.end - row.columns.from < 2 {
-        return 0;
-    }
-    height_on(line_from(row.line, 1), n, log_area).wrapping_sub(at)
-}
-
 /// How far the surface is from the triangle's plane at most in a row, from column `left` to column `right`.
 #[inline(always)]
-fn row_off(grid: &Grid, facet: Facet, plane: Plane, t: Tri, y: u32, left: u32, right: u32) -> u32
+fn row_off(grid: &Grid, facet: Facet, slopes: Slopes, t: Tri, y: u32, left: u32, right: u32) -> u32
     requires level { level_of t ≤ 2 * grid.now.n }
     requires y_in_grid { y ≤ 2 ^ grid.now.n }
     requires right_in_grid { right ≤ 2 ^ grid.now.n }
     requires facet { IsFacet grid.now.n grid.now.heights facet }
     requires corners { facet.corners ≡ corners_of grid.now.n t }
-    requires plane { IsPlaneOf facet.corners (height_of grid.now.n grid.now.heights) plane }
+    requires slopes { AreSlopesOf grid.now.n grid.now.heights t slopes }
     ensures { IsMost (IsInRow facet.corners y left (right + 1)) (off_plane grid.now.n grid.now.heights t) result }
 {
-    let _address = t.number();
-    match held_row(grid, facet, plane, y, left, right) {
-        None => 0,
-        Some(row) => {
-            let n = grid.n();
-            let at = height_on(row.line, n, facet.log_area);
-            let step = step_from(row, at, n, facet.log_area);
-            greatest_off(row_of(grid, y, row.columns), n, at, step)
-        }
+    let n = grid.n();
+    let all = Columns {
+        from: left,
+        end: right + 1,
+    };
+    let columns = held_columns(facet.corners, y, all);
+    if columns.end <= columns.from {
+        return 0;
     }
+    let at = height_at(slopes, columns.from, y);
+    greatest_off(row_of(grid, y, columns), n, at, slopes.right)
 }
 
 /// How far the surface is from the triangle's plane at most, or in the first row that shows it to be above the limit.
@@ -157,10 +139,10 @@ fn most_until(grid: &Grid, facet: Facet, t: Tri, bounds: Bounds, limit: u32) -> 
     requires ordered { bounds.low ≤ bounds.high }
     ensures { IsMostUntil (IsInBounds facet.corners bounds) (off_plane grid.now.n grid.now.heights t) limit result }
 {
-    let plane = plane_of(facet);
+    let slopes = slopes_of(grid, facet, t);
     let mut most = 0;
     for y in bounds.low..bounds.high + 1 {
-        let row = row_off(grid, facet, plane, t, y, bounds.left, bounds.right);
+        let row = row_off(grid, facet, slopes, t, y, bounds.left, bounds.right);
         most = farther(most, row);
         if most > limit {
             return most;
@@ -178,8 +160,17 @@ pub fn off_triangle(grid: &Grid, t: Tri) -> u32
     requires level { level_of t ≤ 2 * grid.now.n }
     ensures { result ≡ greatest (offs_in grid.now.n grid.now.heights t) }
 {
+    off_triangle_at(grid, t, corners_in(grid, t))
+}
+
+/// The same, where its corners are known.
+pub fn off_triangle_at(grid: &Grid, t: Tri, corners: Corners) -> u32
+    requires level { level_of t ≤ 2 * grid.now.n }
+    requires corners { corners ≡ corners_of grid.now.n t }
+    ensures { result ≡ greatest (offs_in grid.now.n grid.now.heights t) }
+{
     let _address = t.number();
-    let facet = facet_of(grid, t);
+    let facet = facet_at(grid, t, corners);
     most_until(grid, facet, t, bounds_of(facet.corners), u32::MAX)
 }
 
@@ -191,8 +182,17 @@ pub fn exceeds(grid: &Grid, t: Tri, tolerance: u32) -> bool
     requires level { level_of t ≤ 2 * grid.now.n }
     ensures { IsTrue result ↔ (tolerance < greatest (offs_in grid.now.n grid.now.heights t)) }
 {
+    exceeds_at(grid, t, corners_in(grid, t), tolerance)
+}
+
+/// The same, where its corners are known.
+pub fn exceeds_at(grid: &Grid, t: Tri, corners: Corners, tolerance: u32) -> bool
+    requires level { level_of t ≤ 2 * grid.now.n }
+    requires corners { corners ≡ corners_of grid.now.n t }
+    ensures { IsTrue result ↔ (tolerance < greatest (offs_in grid.now.n grid.now.heights t)) }
+{
     let _address = t.number();
-    let facet = facet_of(grid, t);
+    let facet = facet_at(grid, t, corners);
     off_middle(grid, facet, t) > tolerance
         || most_until(grid, facet, t, bounds_of(facet.corners), tolerance) > tolerance
 }

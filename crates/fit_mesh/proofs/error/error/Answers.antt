@@ -2,7 +2,6 @@
 use Rattle.std.proofs.Common.{◌≤◌, sym, ◌∙◌, arith}
 use Rattle.mesh_laws.proofs.DescentLemmas.{IsAddress-level}
 use Rattle.fit_laws.proofs.ErrorLemmas.{error-finest}
-use Rattle.fit_mesh.proofs.ErrorLemmas.{error-greatest}
 use Rattle.fit_mesh.proofs.error.error.Goals as goal
 
 pub returns-then-level-n : goal.returns-then-level-n
@@ -14,6 +13,3 @@ returns-then-level-n c =
     let side = c.n.ensures.value in
     sym (error-finest c.args.grid.now.n c.args.grid.now.heights c.args.t
     (IsAddress-level c.args.grid.now.n c.args.t low c.requires.level) (omega arith))
-
-pub returns : goal.returns
-returns c = c.off_triangle.ensures ∙ error-greatest c.args.grid.now.n c.args.grid.now.heights c.args.t

@@ -6,6 +6,12 @@ use Rattle.fit_laws.specs.Error.{error_of}
 use Rattle.fit_mesh.proofs.GrownLemmas.{start-pending}
 use Rattle.fit_mesh.proofs.grow.fill.Goals as goal
 
+pub corners_in-requires : goal.corners_in-requires
+corners_in-requires c = record { level = let l = level_of-root 2 (omega arith) (omega arith) in omega arith }
+
+pub corners_in-requires-2 : goal.corners_in-requires-2
+corners_in-requires-2 c = record { level = let l = level_of-root 3 (omega arith) (omega arith) in omega arith }
+
 pub push_unsplit-requires-clause-level : goal.push_unsplit-requires-clause-level
 push_unsplit-requires-clause-level c = let l = level_of-root 2 (omega arith) (omega arith) in omega arith
 

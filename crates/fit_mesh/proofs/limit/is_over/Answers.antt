@@ -24,10 +24,10 @@ pub returns-in-Common : goal.returns-in-Common
 returns-in-Common c =
     let n : ℕ = c.args.grid.now.n in
     let heights : List ℕ = c.args.grid.now.heights in
-    subst (λ (l : Limit). IsTrue c.exceeds.result ↔ (tolerance_of l < error_within n heights l c.args.t))
+    subst (λ (l : Limit). IsTrue c.exceeds_at.result ↔ (tolerance_of l < error_within n heights l c.args.t))
     (sym c.in-Common.is)
-    (subst (λ k. IsTrue c.exceeds.result ↔ (c.in-Common.tolerance < k)) (error-greatest n heights c.args.t)
-    c.exceeds.ensures)
+    (subst (λ k. IsTrue c.exceeds_at.result ↔ (c.in-Common.tolerance < k)) (error-greatest n heights c.args.t)
+    c.exceeds_at.ensures)
 
 pub returns-in-Own : goal.returns-in-Own
 returns-in-Own c =

@@ -1,5 +1,10 @@
 -- The children of a member are triangles of the grid whose parent is split.
-use Rattle.std.proofs.Common.{arith}
+use Rattle.std.proofs.Common.{ℕ, ◌*◌, ◌≤◌, ◌⊎◌, IsTrue, subst, arith}
+use Rattle.mesh_defs.specs.Triangle.{level_of}
+use Rattle.mesh_laws.specs.Sweep.{is_flagged}
+use Rattle.fit_mesh.specs.Limit.{error_within}
+use Rattle.fit_mesh.proofs.LimitLemmas.{limit-finest}
+use Rattle.fit_mesh.proofs.PairLemmas.{all-split}
 use Rattle.fit_mesh.proofs.PendingLemmas.{child-address}
 use Rattle.fit_mesh.proofs.settle.ask_pair.Goals as goal
 
@@ -25,3 +30,14 @@ returns-clause-least c other closed inside asked =
     c.ask-2.ensures.least other closed
     (c.ask.ensures.least other closed inside (asked c.left.result (omega arith) (omega arith)))
     (asked c.right.result (omega arith) (omega arith))
+
+pub returns-then-not-has_open_child-clause-settled : goal.returns-then-not-has_open_child-clause-settled
+returns-then-not-has_open_child-clause-settled c a low half above =
+    let n : ℕ = c.args.grid.now.n in
+    all-split n (error_within n c.args.grid.now.heights c.args.limit) (is_flagged c.args.flags.now) c.args.t
+    (limit-finest n c.args.grid.now.heights c.args.limit) c.requires.splittable
+    (λ b few two. subst (λ k. IsTrue (is_flagged c.args.flags.now b) ⊎ (2 * k ≤ level_of b)) c.n.ensures.value
+    (c.has_open_child.ensures.none c.if-not-has_open_child.true b few two)) a low half (omega arith)
+
+pub returns-clause-log : goal.returns-clause-log
+returns-clause-log c before first = c.ask-2.ensures.log before (c.ask.ensures.log before first)

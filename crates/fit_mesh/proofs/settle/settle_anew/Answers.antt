@@ -2,6 +2,7 @@
 use Rattle.std.proofs.Common.{◌≡◌, ℕ, ◌+◌, ◌*◌, ◌^◌, replicate, Bool, IsTrue, false, ◌||◌, List, [], length, sym, ◌∙◌, subst, ap, arith}
 use Rattle.std.proofs.lemmas.Bool.{or_right}
 use Rattle.std.proofs.lemmas.List.{length-replicate}
+use Rattle.bintree_laws.proofs.LevelLemmas.{level_of-root}
 use Rattle.mesh_laws.proofs.DescentLemmas.{IsAddress-down, IsDown-2, IsDown-3}
 use Rattle.mesh_defs.specs.ClosedSet.{IsClosed, IsLeastClosed}
 use Rattle.mesh_laws.proofs.ClosureLemmas.{nothing_closed}
@@ -40,6 +41,12 @@ pub split_required-requires-clause-closed : goal.split_required-requires-clause-
 split_required-requires-clause-closed c =
     closed-same c.n.result (λ a. false) (is_flagged c.clear.new.flags)
     (λ a. sym (cleared c.args.flags.now c.clear.new.flags c.clear.ensures a)) (nothing_closed c.n.result)
+
+pub corners_in-requires : goal.corners_in-requires
+corners_in-requires c = record { level = let l = level_of-root 2 (omega arith) (omega arith) in omega arith }
+
+pub corners_in-requires-2 : goal.corners_in-requires-2
+corners_in-requires-2 c = record { level = let l = level_of-root 3 (omega arith) (omega arith) in omega arith }
 
 pub ask-requires-clause-address : goal.ask-requires-clause-address
 ask-requires-clause-address c = let n : ℕ = c.args.grid.now.n in IsAddress-down n (2 * n) 2 (IsDown-2 n)

@@ -1,5 +1,6 @@
 -- The halves, and then the children of all that is split.
 use Rattle.std.proofs.Common.{ℕ, ◌*◌, ◌∙◌, arith}
+use Rattle.bintree_laws.proofs.LevelLemmas.{level_of-root}
 use Rattle.mesh_laws.proofs.DescentLemmas.{IsAddress-down, IsDown-2, IsDown-3}
 use Rattle.mesh_laws.specs.Sweep.{is_flagged}
 use Rattle.fit_laws.specs.Error.{error_of}
@@ -8,6 +9,12 @@ use Rattle.fit_mesh.specs.Log.{nothing}
 use Rattle.fit_mesh.proofs.ForceLemmas.{extends-extends}
 use Rattle.fit_mesh.proofs.SettleLemmas.{settled-inside, anew-outer}
 use Rattle.fit_mesh.proofs.start.settle_within.Goals as goal
+
+pub corners_in-requires : goal.corners_in-requires
+corners_in-requires c = record { level = let l = level_of-root 2 (omega arith) (omega arith) in omega arith }
+
+pub corners_in-requires-2 : goal.corners_in-requires-2
+corners_in-requires-2 c = record { level = let l = level_of-root 3 (omega arith) (omega arith) in omega arith }
 
 pub ask-requires-clause-address : goal.ask-requires-clause-address
 ask-requires-clause-address c = let n : ℕ = c.args.grid.now.n in IsAddress-down n (2 * n) 2 (IsDown-2 n)

@@ -1,7 +1,6 @@
 -- A row more, until a distance is above the limit.
 use Rattle.std.proofs.Common.{ℕ, ◌+◌, ◌≤◌, sym, subst, arith}
 use Rattle.mesh_defs.specs.declared.point.Point.{Point}
-use Rattle.mesh_defs.specs.Thickness.{height_of}
 use Rattle.fit_laws.specs.PlaneHeight.{off_plane}
 use Rattle.mesh_measure.specs.Most.{IsMost, IsInRows}
 use Rattle.mesh_measure.proofs.MostLemmas.{IsMost-rows_next, IsMostUntil-all, IsMostUntil-some}
@@ -32,12 +31,3 @@ returns c =
     IsMostUntil-all c.args.facet.corners c.args.bounds
     (off_plane c.args.grid.now.n c.args.grid.now.heights c.args.t) c.args.limit
     c.loop-y.y c.loop-y.most (omega arith) end c.loop-y.invariant
-
-pub row_off-row-requires-clause-plane : goal.row_off-row-requires-clause-plane
-row_off-row-requires-clause-plane c =
-    let f = height_of c.args.grid.now.n c.args.grid.now.heights in
-    let valid = c.requires.facet in
-    record {
-      line = λ y. c.plane_of-plane.ensures.line f y (record { apex = valid.apex; v0 = valid.v0; v1 = valid.v1 });
-      small = c.plane_of-plane.ensures.small;
-    }

@@ -1,66 +1,42 @@
--- The plane along the columns that the triangle holds, by its heights at the first two.
-use Rattle.std.proofs.Common.{◌+◌, ◌-◌, ◌%◌, ◌^◌, ◌∙◌, ap, arith}
-use Rattle.mesh_laws.proofs.DescentLemmas.{IsAddress-level}
-use Rattle.mesh_measure.proofs.RowLemmas.{row-ordered, row-height, row-ordered-second, row-height-second}
-use Rattle.mesh_measure.proofs.RowLemmas.{row-small, row-most}
+-- The plane along the columns that the triangle holds, by its steps.
+use Rattle.std.proofs.Common.{◌≡◌, ◌+◌, ◌^◌, ◌≤◌, true, refl, subst, arith, pow_mono}
+use Rattle.mesh_defs.specs.BoundingBox.{is_in_closed}
+use Rattle.bintree_laws.proofs.LatticeLemmas.{same_point}
+use Rattle.fit_laws.specs.PlaneHeight.{off_plane}
+use Rattle.mesh_measure.specs.Most.{IsInRow}
+use Rattle.mesh_measure.proofs.MostLemmas.{IsMost-none, columns-within}
+use Rattle.mesh_measure.proofs.RowLemmas.{row-most}
 use Rattle.mesh_measure.proofs.points.row_off.Goals as goal
 
-pub height_on-at-requires-clause-held : goal.height_on-at-requires-clause-held
-height_on-at-requires-clause-held c =
-    row-ordered c.args.grid.now.n c.args.grid.now.heights c.args.t c.args.grid.now.maxval c.args.facet c.args.y c.args.left
-    c.args.right c.n-n.result c.in-Some.row (IsAddress-level c.args.grid.now.n c.args.t (omega arith) c.requires.level)
-    c.n-n.ensures.valid.n_high c.n-n.ensures.valid.maxval_high c.n-n.ensures.valid.bounded
-    c.requires.facet c.requires.corners c.n-n.ensures.value c.in-Some.ensures.some
-
-pub height_on-at-requires-clause-fits : goal.height_on-at-requires-clause-fits
-height_on-at-requires-clause-fits c =
-    let same = row-height c.args.grid.now.n c.args.grid.now.heights c.args.t c.args.grid.now.maxval c.args.facet c.args.y c.args.left
-    c.args.right c.n-n.result c.in-Some.row (IsAddress-level c.args.grid.now.n c.args.t (omega arith) c.requires.level)
-    c.n-n.ensures.valid.n_high c.n-n.ensures.valid.maxval_high c.n-n.ensures.valid.bounded
-    c.requires.facet c.requires.corners c.n-n.ensures.value c.in-Some.ensures.some in
-    let ordered = c.in-Some.ensures.some.ordered in
-    let small = row-small c.args.grid.now.n c.args.grid.now.heights c.args.t c.args.grid.now.maxval c.args.facet c.args.y c.args.left
-    c.args.right c.n-n.result c.in-Some.row (IsAddress-level c.args.grid.now.n c.args.t (omega arith) c.requires.level)
-    c.n-n.ensures.valid.n_high c.n-n.ensures.valid.maxval_high c.n-n.ensures.valid.bounded
-    c.requires.facet c.requires.corners c.n-n.ensures.value c.in-Some.ensures.some
-    0 (omega arith) in
+pub held_columns-columns-requires-clause-row : goal.held_columns-columns-requires-clause-row
+held_columns-columns-requires-clause-row c =
+    let side : 2 ^ c.args.grid.now.n ≤ 2 ^ 11 = pow_mono c.requires.facet.in_grid in
+    let row = c.requires.y_in_grid in
     omega arith
 
-pub step_from-step-requires-clause-held : goal.step_from-step-requires-clause-held
-step_from-step-requires-clause-held c =
-    row-ordered-second c.args.grid.now.n c.args.grid.now.heights c.args.t c.args.grid.now.maxval c.args.facet c.args.y c.args.left
-    c.args.right c.n-n.result c.in-Some.row (IsAddress-level c.args.grid.now.n c.args.t (omega arith) c.requires.level)
-    c.n-n.ensures.valid.n_high c.n-n.ensures.valid.maxval_high c.n-n.ensures.valid.bounded
-    c.requires.facet c.requires.corners c.n-n.ensures.value c.in-Some.ensures.some
+pub returns-then-columns : goal.returns-then-columns
+returns-then-columns c =
+    IsMost-none (IsInRow c.args.facet.corners c.args.y c.args.left (c.args.right + 1))
+    (off_plane c.args.grid.now.n c.args.grid.now.heights c.args.t) (λ r p.
+    let empty = c.if-columns.true in
+    let same = same_point r.x r.y r.x c.args.y refl p.row in
+    let column = (c.held_columns-columns.ensures r.x).1 (
+      (p.from, p.before),
+      subst (λ q. is_in_closed c.args.facet.corners q ≡ true) same p.held,
+    ) in
+    omega arith)
 
-pub step_from-step-requires-clause-fits : goal.step_from-step-requires-clause-fits
-step_from-step-requires-clause-fits c some =
-    let same = row-height-second c.args.grid.now.n c.args.grid.now.heights c.args.t c.args.grid.now.maxval c.args.facet c.args.y c.args.left
-    c.args.right c.n-n.result c.in-Some.row (IsAddress-level c.args.grid.now.n c.args.t (omega arith) c.requires.level)
-    c.n-n.ensures.valid.n_high c.n-n.ensures.valid.maxval_high c.n-n.ensures.valid.bounded
-    c.requires.facet c.requires.corners c.n-n.ensures.value c.in-Some.ensures.some some in
-    let small = row-small c.args.grid.now.n c.args.grid.now.heights c.args.t c.args.grid.now.maxval c.args.facet c.args.y c.args.left
-    c.args.right c.n-n.result c.in-Some.row (IsAddress-level c.args.grid.now.n c.args.t (omega arith) c.requires.level)
-    c.n-n.ensures.valid.n_high c.n-n.ensures.valid.maxval_high c.n-n.ensures.valid.bounded
-    c.requires.facet c.requires.corners c.n-n.ensures.value c.in-Some.ensures.some
-    1 (omega arith) in
+pub row_of-requires-clause-end_in_grid : goal.row_of-requires-clause-end_in_grid
+row_of-requires-clause-end_in_grid c =
+    let end = columns-within c.args.facet.corners c.args.y c.args.left c.args.right c.held_columns-columns.result
+    c.if-columns.false c.held_columns-columns.ensures in
+    let right = c.requires.right_in_grid in
     omega arith
 
-pub returns-in-Some : goal.returns-in-Some
-returns-in-Some c =
-    row-most c.args.grid.now.n c.args.grid.now.heights c.args.t c.args.grid.now.maxval c.args.facet c.args.y c.args.left
-    c.args.right c.n-n.result c.in-Some.row (IsAddress-level c.args.grid.now.n c.args.t (omega arith) c.requires.level)
-    c.n-n.ensures.valid.n_high c.n-n.ensures.valid.maxval_high c.n-n.ensures.valid.bounded
-    c.requires.facet c.requires.corners c.n-n.ensures.value c.in-Some.ensures.some
-    c.height_on-at.result c.step_from-step.result c.greatest_off.result c.row_of.result.now
-    c.row_of.ensures.count c.row_of.ensures.heights
-    (c.height_on-at.ensures ∙ row-height c.args.grid.now.n c.args.grid.now.heights c.args.t c.args.grid.now.maxval c.args.facet c.args.y c.args.left
-    c.args.right c.n-n.result c.in-Some.row (IsAddress-level c.args.grid.now.n c.args.t (omega arith) c.requires.level)
-    c.n-n.ensures.valid.n_high c.n-n.ensures.valid.maxval_high c.n-n.ensures.valid.bounded
-    c.requires.facet c.requires.corners c.n-n.ensures.value c.in-Some.ensures.some)
-    (λ some. c.step_from-step.ensures some
-    ∙ ap (λ z. (z + (2 ^ 32 - c.height_on-at.result)) % 2 ^ 32) (row-height-second c.args.grid.now.n c.args.grid.now.heights c.args.t c.args.grid.now.maxval c.args.facet c.args.y c.args.left
-    c.args.right c.n-n.result c.in-Some.row (IsAddress-level c.args.grid.now.n c.args.t (omega arith) c.requires.level)
-    c.n-n.ensures.valid.n_high c.n-n.ensures.valid.maxval_high c.n-n.ensures.valid.bounded
-    c.requires.facet c.requires.corners c.n-n.ensures.value c.in-Some.ensures.some some))
-    c.greatest_off.ensures
+pub returns : goal.returns
+returns c =
+    let some = c.if-columns.false in
+    row-most c.args.grid.now.n c.args.grid.now.heights c.args.t c.args.facet.corners c.args.y c.args.left c.args.right
+    c.n-n.result c.height_at-at.result c.greatest_off.result c.args.slopes c.held_columns-columns.result c.row_of.result.now
+    c.requires.corners c.n-n.ensures.value c.requires.slopes (omega arith) c.row_of.ensures.count
+    c.held_columns-columns.ensures c.row_of.ensures.heights c.height_at-at.ensures c.greatest_off.ensures
