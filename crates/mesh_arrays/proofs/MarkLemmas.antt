@@ -79,12 +79,6 @@ not_live n pairs t pool deep none r is =
     let found = slot_of pairs (t / 2) (omega arith) (member_parent n pairs (t / 2) pool (omega arith) has) in
     none found.0 found.1
 
--- the slots of the halves of the square
-pub half_slot : (pairs : List ℕ) (t s : ℕ) → get_or pairs 0 0 ≡ 1 → 2 ≤ t → t < 4 → s ≡ t - 2 → address_at pairs s ≡ t
-half_slot pairs t s root low half is =
-    let first : s / 2 ≡ 0 = omega arith in
-    let e : get_or pairs (s / 2) 0 ≡ 1 = ap (λ k. get_or pairs k 0) first ∙ root in omega arith
-
 -- what is not below 4
 pub deep_by : (t : ℕ) → (t < 4 → true ≡ false) → 4 ≤ t
 deep_by t half = ⊎_elim (λ low. absurd (true≢false (half low))) (λ deep. deep) (cases_lt t 4)

@@ -1,6 +1,6 @@
 -- The children of a slot, and the halves of the square.
-use Rattle.std.proofs.Common.{◌≡◌, ℕ, ◌+◌, ◌-◌, ◌*◌, ◌<◌, ◌≤◌, Bool, true, false, List, ◌++◌, length, refl, sym, ◌∙◌}
-use Rattle.std.proofs.Common.{ap, arith, length-append, append_assoc}
+use Rattle.std.proofs.Common.{◌≡◌, ℕ, ◌+◌, ◌-◌, ◌*◌, ◌/◌, ◌<◌, ◌≤◌, Bool, true, false, List, ◌++◌, length, refl, sym}
+use Rattle.std.proofs.Common.{◌∙◌, get_or, ap, arith, length-append, append_assoc}
 use Rattle.mesh_defs.specs.Triangle.{level_of}
 use Rattle.mesh_defs.specs.ClosedSet.{leaves_under, leaves_of}
 use Rattle.bintree_laws.proofs.LevelLemmas.{level_of-left, level_of-right, level_of-root}
@@ -77,6 +77,7 @@ leaves_halves n has = refl
 
 -- What holds at the halves of the square.
 pub record AreHalves (n : ℕ) (pairs : List ℕ) (levels : ℕ) : Type 0 where
+  pub all : levels ≡ 2 * n
   pub lower : address_at pairs 0 ≡ 2
   pub upper : address_at pairs 1 ≡ 3
   pub lower_level : level_of (address_at pairs 0) + levels ≡ 2 * n
@@ -88,17 +89,26 @@ pub record AreHalves (n : ℕ) (pairs : List ℕ) (levels : ℕ) : Type 0 where
       ≡ length (leaves_under levels (split_set pairs) (address_at pairs 0))
       + length (leaves_under levels (split_set pairs) (address_at pairs 1))
 
--- where slots 0 and 1 have the halves of the square, the leaves are those at the one and then at the other
-pub halves_of : (n : ℕ) (pairs : List ℕ) (levels : ℕ) → address_at pairs 0 ≡ 2 → address_at pairs 1 ≡ 3 →
-    levels ≡ 2 * n → AreHalves n pairs levels
-halves_of n pairs levels lower upper all =
+-- the slots of the halves of the square
+pub half_slot : (pairs : List ℕ) (t s : ℕ) → get_or pairs 0 0 ≡ 1 → 2 ≤ t → t < 4 → s ≡ t - 2 → address_at pairs s ≡ t
+half_slot pairs t s root low half is =
+    let first : s / 2 ≡ 0 = omega arith in
+    let e : get_or pairs (s / 2) 0 ≡ 1 = ap (λ k. get_or pairs k 0) first ∙ root in omega arith
+
+-- slots 0 and 1 have the halves of the square, and the leaves are those at the one and then at the other
+pub halves_of : (n : ℕ) (pairs : List ℕ) (k : ℕ) → get_or pairs 0 0 ≡ 1 → k ≡ n → AreHalves n pairs (2 * k)
+halves_of n pairs k root is =
+    let lower = half_slot pairs 2 0 root (omega arith) (omega arith) (omega arith) in
+    let upper = half_slot pairs 3 1 root (omega arith) (omega arith) (omega arith) in
+    let all : 2 * k ≡ 2 * n = ap (λ i. 2 * i) is in
     let lower_level = ap level_of lower ∙ level_of-root 2 (omega arith) (omega arith) in
     let upper_level = ap level_of upper ∙ level_of-root 3 (omega arith) (omega arith) in
-    let under = λ (b : ℕ). leaves_under levels (split_set pairs) b in
+    let under = λ (b : ℕ). leaves_under (2 * k) (split_set pairs) b in
     let list = leaves_halves n (split_set pairs)
     ∙ ap (λ l. leaves_under l (split_set pairs) 2 ++ leaves_under l (split_set pairs) 3) (sym all)
     ∙ ap (λ a. under a ++ under 3) (sym lower) ∙ ap (λ a. under (address_at pairs 0) ++ under a) (sym upper) in
     record {
+      all = all;
       lower = lower;
       upper = upper;
       lower_level = omega arith;

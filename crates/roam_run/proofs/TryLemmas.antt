@@ -179,10 +179,7 @@ unmade-runs now n seed = record {
         most = omega arith;
         stands = stands-nothing now.sinks;
         header = λ name job files same. cc;
-        in_order = λ name c files same. cc;
-        fit_in_order = λ name c files same. cc;
-        kept_make_in_order = λ name m files same. cc;
-        kept_in_order = λ name c files same. cc;
+        in_order = λ name job files same. cc;
       });
   leaves = record {
     files = refl;

@@ -15,15 +15,14 @@ use Rattle.run_laws.specs.declared.status.Status.{Status}
 use Rattle.run_laws.specs.declared.status.Status.TheVariants.{Done, NoMemory, ReadFault}
 use Rattle.run_laws.specs.declared.status.Status.TheVariants as ends
 use Rattle.run_words.specs.Words.{Checking, Check, Job, OnGrid}
-use Rattle.run_words.specs.Jobs.{names_of, file_count}
-use Rattle.run_laws.specs.Act.{Told}
+use Rattle.run_words.specs.Jobs.{names_of, file_count, most_open}
 use Rattle.run_laws.specs.ReportText.{rejection}
 use Rattle.run_laws.specs.Outcome.{text_outcome, IsJobOutcome}
-use Rattle.run_laws.specs.Promise.{Seen, HasEnded, HasRead, CommandNoMemory}
+use Rattle.run_laws.specs.Promise.{HasEnded, HasRead, JobHasCome}
 use Rattle.run_laws.specs.Moment.{Moment}
 use Rattle.run_laws.specs.Leaving.{Runs, HasOpened, HasFailed, ReadsGrid, TellsLast}
 use Rattle.run_laws.proofs.ActLemmas.{stands-nothing}
-use Rattle.run_laws.proofs.GridLemmas.{file-fault, same-name}
+use Rattle.run_laws.proofs.GridLemmas.{file-fault, behind-memory}
 use Rattle.run_laws.proofs.RunLemmas.{read-failed, memory-spent, opens-then, fails-then, certified-runs, rejected-runs}
 use Rattle.run_laws.proofs.RunLemmas.{tells-as}
 use Rattle.run_certify.specs.declared.verdict_report.Judgement.{Judgement}
@@ -45,21 +44,23 @@ leaf-levels n leaves are =
 -- A command that judges behind so many files.
 
 -- memory ran out, with the certificate opened or with the mesh too
-pub judges-memory : (before middle now : Moment) (name : List ℕ) (job : Job) (behind : ℕ)
+pub judges-memory : (before middle now : Moment) (name : List ℕ) (job : Job) (grid : HeightField) (behind : ℕ)
     (faultless_file : List NamedFile → Type 0) → HasOpened before middle behind
-    → ((count : ℕ) → now.shelf.opens ≡ before.shelf.opens + count → behind + 1 ≤ count → count ≤ behind + 2
-    → (behind + 2 ≤ count → (files : List NamedFile) → before.shelf.files ≡ Some files → faultless_file files)
-    → CommandNoMemory before.sinks before.sinks before.shelf now.shelf (OnGrid name job))
+    → 1 ≤ behind → behind + 2 ≤ most_open (OnGrid name job)
+    → ((files : List NamedFile) → before.shelf.files ≡ Some files → grid_of (bytes_of files name) ≡ Ok grid)
+    → ((count : ℕ) (files : List NamedFile) → before.shelf.files ≡ Some files
+    → (behind + 2 ≤ count → faultless_file files) → JobHasCome job grid files count)
     → JudgesNoMemory faultless_file middle now → Runs before now (Some (OnGrid name job)) NoMemory None
-judges-memory before middle now name job behind faultless_file read spent (inl one) =
+judges-memory before middle now name job grid behind faultless_file read some most is_grid come (inl one) =
     let opened = opens-then before middle now behind 1 read one in
     memory-spent before now name job (behind + 1) opened
-    (spent (behind + 1) opened.opens (omega arith) (omega arith) (λ more. absurd (omega (arith, more))))
-judges-memory before middle now name job behind faultless_file read spent (inr (two, faultless)) =
+    (behind-memory _ _ _ name job grid (behind + 1) opened.opens (omega (arith, some)) (omega (arith, most)) is_grid
+    (λ files told. come (behind + 1) files told (λ more. absurd (omega (arith, more)))))
+judges-memory before middle now name job grid behind faultless_file read some most is_grid come (inr (two, faultless)) =
     let opened = opens-then before middle now behind 2 read two in
     memory-spent before now name job (behind + 2) opened
-    (spent (behind + 2) opened.opens (omega arith) (omega arith)
-    (λ more files told. faultless files (read.only.files ∙ told)))
+    (behind-memory _ _ _ name job grid (behind + 2) opened.opens (omega (arith, some)) most is_grid
+    (λ files told. come (behind + 2) files told (λ more. faultless files (read.only.files ∙ told))))
 
 -- a read of the next file failed, and what was read of it is what the command reads there
 pub judges-fault : (before now : Moment) (name : List ℕ) (job : Job) (behind : ℕ) (last : List ℕ)
@@ -79,49 +80,13 @@ judges-fault before now name job behind last holds failed within named has_read 
           (has_read files told at.read at.has_read) (stands-nothing before.sinks);
     })
 
--- commands that check are the same
-same-check : (name other : List ℕ) (c check : Checking) → OnGrid name (Check c) ≡ OnGrid other (Check check) → c ≡ check
-same-check name other c check e = cc
-
--- the grid of one command is that of the same one
-pub same-found : (name other : List ℕ) (job asked : Job) (grid : HeightField) (files : List NamedFile)
-    → OnGrid name job ≡ OnGrid other asked
-    → grid_of (bytes_of files name) ≡ Ok grid → grid_of (bytes_of files other) ≡ Ok grid
-same-found name other job asked grid files e found =
-    let P : List ℕ → Type 0 = λ l. grid_of (bytes_of files l) ≡ Ok grid in
-    subst P (same-name name other job asked e) found
-
--- memory ran out behind the grid, with so many files opened
-behind-memory : (before : Told) (old new : Seen) (name : List ℕ) (c : Checking) (grid : HeightField) (count : ℕ)
-    → new.opens ≡ old.opens + count → 2 ≤ count → count ≤ 3
-    → ((files : List NamedFile) → old.files ≡ Some files → grid_of (bytes_of files name) ≡ Ok grid)
-    → (3 ≤ count → (files : List NamedFile) → old.files ≡ Some files → IsFaultlessFile c grid files)
-    → CommandNoMemory before before old new (OnGrid name (Check c))
-behind-memory before old new name c grid count opens low high found faultless = record {
-  opened = count;
-  count = opens;
-  least = λ some. omega (arith, low);
-  most = high;
-  stands = stands-nothing before;
-  header = λ other job files e told one. absurd (omega (arith, one, low));
-  in_order = λ other check files e told two. (
-    grid,
-    same-found name other (Check c) (Check check) grid files e (found files told),
-    λ three. (let P : Checking → Type 0 = λ d. IsFaultlessFile d grid files in
-        subst P (same-check name other c check e) (faultless three files told)),
-  );
-  fit_in_order = λ other check files e told two. cc;
-  kept_make_in_order = λ other making files e told two. cc;
-  kept_in_order = λ other check files e told two. cc;
-}
-
 module _ (before middle now : Moment) (name : List ℕ) (c : Checking) (grid : HeightField)
     (read : ReadsGrid before middle name grid) where
   -- memory ran out behind the grid
   pub check-memory : JudgesNoMemory (IsFaultlessFile c grid) middle now →
       Runs before now (Some (OnGrid name (Check c))) NoMemory None
-  check-memory = judges-memory before middle now name (Check c) 1 (IsFaultlessFile c grid) read.opened
-      (λ count opens low high faultless. behind-memory _ _ _ name c grid count opens low high read.is_grid faultless)
+  check-memory = judges-memory before middle now name (Check c) grid 1 (IsFaultlessFile c grid) read.opened
+      (omega arith) (omega arith) read.is_grid (λ count files told faultless. faultless)
 
   -- a read failed behind the grid
   pub check-fault : JudgesFault c grid middle now → Runs before now (Some (OnGrid name (Check c))) ReadFault None

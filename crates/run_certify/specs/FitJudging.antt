@@ -1,26 +1,20 @@
 -- What a check of a fitted mesh by a certificate comes to, and where it stops.
--- Words: fit_judged_text, fit_judged_status, fit_mesh_opens, judged_outcome, fit_judged_outcome, IsFitJudged,
--- IsFaultlessFitFile, IsSoundAs, NoMemoryBehind, FailsBehind, JudgesFault, IsSoundFor, FitNoMemoryBehind,
--- FitFailsBehind, FitJudgesNoMemory, FitJudgesFault.
-use Rattle.std.specs.Prelude.{◌≡◌, ℕ, ◌+◌, ◌⊎◌, List, length, Some, Result, Ok}
+-- Words: fit_judged_text, fit_judged_status, fit_mesh_opens, judged_outcome, IsFaultlessFile, NoMemoryBehind,
+-- FailsBehind, JudgesFault.
+use Rattle.std.specs.Prelude.{◌≡◌, ℕ, ◌+◌, ◌⊎◌, List, Some, Result, Ok}
 use Rattle.mesh_defs.specs.HeightField.{HeightField}
 use Rattle.roam_edge.specs.Shelf.{NamedFile, bytes_of}
 use Rattle.certificate_laws.specs.declared.reason.Reject.TheVariants as view
-use Rattle.certificate_laws.specs.FitCertificate.{FitCertificate}
-use Rattle.fit_laws.specs.PlaneHeight.{deviation_of}
 use Rattle.run_laws.specs.declared.status.Status.{Status}
 use Rattle.run_laws.specs.declared.status.Status.TheVariants as ends
-use Rattle.run_words.specs.Words.{FitChecking}
-use Rattle.run_laws.specs.CertFile.{fit_cert_in, FitCertHasRead}
-use Rattle.run_laws.specs.Certify.{IsFitFaultless}
 use Rattle.run_laws.specs.Fit.{fit_text}
 use Rattle.run_laws.specs.ReportText.{certified_fit_line, fit_rejection, rejection}
-use Rattle.run_laws.specs.Outcome.{Outcome, text_outcome, IsFitCheckOutcome}
+use Rattle.run_laws.specs.Outcome.{Outcome, text_outcome}
 use Rattle.run_laws.specs.Moment.{Moment}
 use Rattle.run_laws.specs.Leaving.{HasOpened, HasFailed, MeshHasRead}
-use Rattle.run_certify.specs.Judging.{JudgesNoMemory}
 use Rattle.run_certify.specs.declared.fit_verdict_report.Judgement.{Judgement}
-use Rattle.run_certify.specs.declared.fit_verdict_report.Judgement.TheVariants.{Certified, Rejected, BadLine, MeshDiffers}
+use Rattle.run_certify.specs.declared.fit_verdict_report.Judgement.TheVariants.{Certified, Rejected, BadLine}
+use Rattle.run_certify.specs.declared.fit_verdict_report.Judgement.TheVariants.{MeshDiffers}
 
 -- the line of a judgement, over the grid with this n
 abbrev pub fit_judged_text : ℕ → Judgement → List ℕ
@@ -48,29 +42,13 @@ abbrev pub judged_outcome : (files n : ℕ) → Judgement → Outcome
 judged_outcome files n judgement =
     text_outcome (fit_judged_text n judgement) (fit_judged_status judgement) (files + fit_mesh_opens judgement)
 
--- the grid and the certificate
-abbrev pub fit_judged_outcome : ℕ → Judgement → Outcome
-fit_judged_outcome n judgement = judged_outcome 2 n judgement
+-- Of certificates: these are the triangles of one that has no fault.
 
--- the judgement is right for the files
-abbrev pub IsFitJudged : FitChecking → HeightField → List NamedFile → Judgement → Type 0
-IsFitJudged c grid files judgement =
-    IsFitCheckOutcome c grid (fit_cert_in grid.n (bytes_of files c.certificate)) (bytes_of files c.mesh)
-    (fit_judged_outcome grid.n judgement)
-
--- the file is that of a certificate without a fault
-abbrev pub IsFaultlessFitFile : FitChecking → HeightField → List NamedFile → Type 0
-IsFaultlessFitFile c grid files =
-    (cert : FitCertificate) × (triangles : List ℕ) × (fit_cert_in grid.n (bytes_of files c.certificate) ≡ Ok cert)
-    × IsFitFaultless c grid cert triangles
-
--- Of a certificate: these are its triangles where it has no fault.
-
--- so many triangles without a fault, that are off by so much
-abbrev pub IsSoundAs : HeightField → (List ℕ → Type 0) → ℕ → ℕ → Type 0
-IsSoundAs grid faultless count deviation =
-    (triangles : List ℕ) × faultless triangles × (count ≡ length triangles)
-    × (deviation ≡ deviation_of grid.n grid.heights triangles)
+-- the file of this name is that of such a certificate
+abbrev pub IsFaultlessFile : {C : Type 0} → (certificate : List ℕ) (file : List ℕ → Result C ℕ)
+    (faultless : C → List ℕ → Type 0) → List NamedFile → Type 0
+IsFaultlessFile {C = C} certificate file faultless files =
+    (cert : C) × (triangles : List ℕ) × (file (bytes_of files certificate) ≡ Ok cert) × faultless cert triangles
 
 -- behind the certificate memory ran out: at once, or, if it has no fault, when the mesh was opened
 abbrev pub NoMemoryBehind : (List ℕ → Type 0) → Moment → Moment → Type 0
@@ -93,22 +71,3 @@ JudgesFault {C = C} certificate mesh spacing grid has_read file faultless before
     × ((files : List NamedFile) → before.shelf.files ≡ Some files → file (bytes_of files certificate) ≡ Ok cert)
     × faultless cert triangles
     × HasFailed before now 2 mesh (MeshHasRead (fit_text spacing grid triangles)))
-
--- The same of a certificate of a fitted mesh.
-
-abbrev pub IsSoundFor : FitChecking → HeightField → FitCertificate → ℕ → ℕ → Type 0
-IsSoundFor c grid cert count deviation = IsSoundAs grid (IsFitFaultless c grid cert) count deviation
-
-abbrev pub FitNoMemoryBehind : FitChecking → HeightField → FitCertificate → Moment → Moment → Type 0
-FitNoMemoryBehind c grid cert before now = NoMemoryBehind (IsFitFaultless c grid cert) before now
-
-abbrev pub FitFailsBehind : FitChecking → HeightField → FitCertificate → Moment → Moment → Type 0
-FitFailsBehind c grid cert before now = FailsBehind c.mesh c.spacing grid (IsFitFaultless c grid cert) before now
-
-abbrev pub FitJudgesNoMemory : FitChecking → HeightField → Moment → Moment → Type 0
-FitJudgesNoMemory c grid before now = JudgesNoMemory (IsFaultlessFitFile c grid) before now
-
-abbrev pub FitJudgesFault : FitChecking → HeightField → Moment → Moment → Type 0
-FitJudgesFault c grid before now =
-    JudgesFault c.certificate c.mesh c.spacing grid (FitCertHasRead grid.n) (fit_cert_in grid.n)
-    (IsFitFaultless c grid) before now

@@ -1,14 +1,15 @@
 //! The commands `certify check`, `certify make-fit` and `certify check-fit`: whether a certificate is sound, and a mesh
 //! the one that it is of; and a certificate of a fitted mesh is made.
 //!
-//! For the run of `roam`. A grid, a certificate and a mesh are read from an `Outside`, in this order, and the first test
-//! that fails ends the check with its line. `make-fit` reads a grid, and writes the certificate to the report.
+//! For the run of `roam`. A grid, a certificate and a mesh are read from an `Outside`, in this order, and the first
+//! test that fails ends the check with its line. `make-fit` reads a grid, and writes the certificate to the report.
 
 #![tactic(auto)]
 
 mod checking;
 mod fit_checking;
 mod fit_goal;
+mod fit_judging;
 mod fit_making;
 mod fit_verdict_report;
 mod kept_checking;

@@ -1,7 +1,7 @@
 -- What making and checking a certificate of a fitted mesh come to: there is an outcome, of a check one alone, and a
 -- mesh that is certified is a best one.
-use Rattle.std.proofs.Common.{◌≡◌, ◌≢◌, ℕ, ◌+◌, List, length, ◌++◌, Option, Some, Result, Ok, Err, IsTrue, refl, sym, ◌∙◌, ap, ap₂}
-use Rattle.std.proofs.Common.{subst, inl, inr, append-nil}
+use Rattle.std.proofs.Common.{◌≡◌, ◌≢◌, ℕ, ◌+◌, List, length, ◌++◌, Option, Some, Result, Ok, Err, IsTrue, refl, sym}
+use Rattle.std.proofs.Common.{◌∙◌, ap, ap₂, subst, inl, inr, append-nil}
 use Rattle.mesh_defs.specs.HeightField.{HeightField}
 use Rattle.roam_edge.specs.Shelf.{NamedFile, bytes_of}
 use Rattle.pgm_grid.specs.declared.fault.PgmFault.{PgmFault}
@@ -23,13 +23,13 @@ use Rattle.run_laws.specs.declared.status.Status.TheVariants.{Done, NoMemory, Re
 use Rattle.run_words.specs.Words.{Target, AtError, InBudget, FitMaking, FitChecking, CheckFit, Command, command_of}
 use Rattle.run_words.specs.Words.{MakeFit, Job}
 use Rattle.run_laws.specs.CertFile.{fit_cert_in}
-use Rattle.run_laws.specs.Certify.{IsFitMade, IsFitFaultless}
+use Rattle.run_laws.specs.Certify.{IsFitMade}
 use Rattle.run_laws.specs.Fit.{goal_of, IsFitFor, IsBestFit, fit_text}
 use Rattle.run_laws.specs.Act.{Told, Stands, report_of}
 use Rattle.run_laws.specs.ReportText.{certified_fit_line, fit_rejection, rejection}
 use Rattle.run_laws.specs.Outcome.{Outcome, text_outcome, IsJobOutcome, IsCompared, IsFitVerdictOutcome}
 use Rattle.run_laws.specs.Outcome.{IsFitCheckOutcome, IsGridOutcome, IsOutcome}
-use Rattle.run_laws.specs.Promise.{Seen, is_complete, EndsRight}
+use Rattle.run_laws.specs.Promise.{Seen, is_complete, EndsRight, IsAcceptedFitCheck}
 use Rattle.run_laws.specs.Headline.{IsRunOf, IsCertifiedAs, IsCertifiedFit}
 use Rattle.run_laws.proofs.DifferenceLemmas.{difference-same}
 use Rattle.run_laws.proofs.CertifyLemmas.{IsOneText, compared-text, compared-unique, compared-exists, not-done}
@@ -45,11 +45,11 @@ verdict-text files spacing grid triangles mesh (verdict.Certified count deviatio
 verdict-text files spacing grid triangles mesh (verdict.Rejected why) end of = (fit_rejection why, Rejected, files, of)
 
 -- what a check comes to is one line
-pub fit_check-text : (c : FitChecking) (grid : HeightField) (r : Result FitCertificate ℕ)
-    (mesh : List ℕ) (end : Outcome)
-    → IsFitCheckOutcome c grid r mesh end → IsOneText end
-fit_check-text c grid (Ok cert) mesh end is = verdict-text 2 c.spacing grid is.1 mesh is.0 end is.3
-fit_check-text c grid (Err line) mesh end is = (rejection (BadLine line), Rejected, 2, is)
+pub judged-text : {C : Type 0} (files spacing : ℕ) (grid : HeightField) (holds : C → FitVerdict → List ℕ → Type 0)
+    (r : Result C ℕ) (mesh : List ℕ) (end : Outcome) → IsFitCheckOutcome files spacing grid holds r mesh end
+    → IsOneText end
+judged-text files spacing grid holds (Ok cert) mesh end is = verdict-text files spacing grid is.1 mesh is.0 end is.3
+judged-text files spacing grid holds (Err line) mesh end is = (rejection (BadLine line), Rejected, files, is)
 
 -- what is made is one text
 pub fit_make-text : (m : FitMaking) (grid : HeightField) (files : List NamedFile) (end : Outcome) →
@@ -71,22 +71,23 @@ verdict-unique files spacing grid triangles others mesh (verdict.Certified count
     (one count deviation refl) g)
 verdict-unique files spacing grid triangles others mesh (verdict.Rejected why) end other one f g = f ∙ sym g
 
--- a check of a certificate of a fitted mesh has one outcome alone
-pub fit_check-unique : (c : FitChecking) (grid : HeightField) (r : Result FitCertificate ℕ)
-    (mesh : List ℕ) (end other : Outcome)
-    → IsFitCheckOutcome c grid r mesh end → IsFitCheckOutcome c grid r mesh other → end ≡ other
-fit_check-unique c grid (Ok cert) mesh end other f g =
-    let goal : Goal = goal_of grid.n c.target in
-    let P : FitVerdict → Type 0 =
-    λ v. IsVerdictOf grid.n grid.heights goal cert v g.1 × IsFitVerdictOutcome 2 c.spacing grid g.1 mesh v other in
-    let Q : FitVerdict → List ℕ → Type 0 = λ v l. IsVerdictOf grid.n grid.heights goal cert v l in
-    let same = verdict_one grid.n grid.heights goal cert g.0 f.0 (verdict-is grid.n grid.heights goal cert g.0 g.1 g.2)
-    (verdict-is grid.n grid.heights goal cert f.0 f.1 f.2) in
-    let as_that = subst P same (g.2, g.3) in
-    verdict-unique 2 c.spacing grid f.1 g.1 mesh f.0 end other
-    (λ count deviation is. mesh_one grid.n grid.heights goal cert g.1 f.1
-    (subst (λ v. Q v g.1) is as_that.0).0 (subst (λ v. Q v f.1) is f.2).0) f.3 as_that.1
-fit_check-unique c grid (Err line) mesh end other f g = f ∙ sym g
+-- what holds of verdicts on one certificate holds of one alone, and of the triangles of one mesh where it certifies
+abbrev pub IsOneVerdict : (FitVerdict → List ℕ → Type 0) → Type 0
+IsOneVerdict holds = (is other : FitVerdict) (triangles others : List ℕ) → holds is triangles → holds other others
+    → (other ≡ is) × ((count deviation : ℕ) → is ≡ verdict.Certified count deviation → others ≡ triangles)
+
+-- A check of certificates, each of which has one verdict.
+module _ (C : Type 0) (files spacing : ℕ) (grid : HeightField) (holds : C → FitVerdict → List ℕ → Type 0)
+    (one : (cert : C) → IsOneVerdict (holds cert)) where
+  -- it has one outcome alone
+  pub judged-unique : (r : Result C ℕ) (mesh : List ℕ) (end other : Outcome)
+      → IsFitCheckOutcome files spacing grid holds r mesh end
+      → IsFitCheckOutcome files spacing grid holds r mesh other → end ≡ other
+  judged-unique (Ok cert) mesh end other f g =
+      let same = one cert f.0 g.0 f.1 g.1 f.2 g.2 in
+      verdict-unique files spacing grid f.1 g.1 mesh f.0 end other same.1 f.3
+      (subst (λ (v : FitVerdict). IsFitVerdictOutcome files spacing grid g.1 mesh v other) same.0 g.3)
+  judged-unique (Err line) mesh end other f g = f ∙ sym g
 
 -- and it has one
 
@@ -98,14 +99,16 @@ verdict-exists files spacing grid triangles mesh (verdict.Certified count deviat
 verdict-exists files spacing grid triangles mesh (verdict.Rejected why) =
     (text_outcome (fit_rejection why) Rejected files, refl)
 
--- a check of a certificate of a fitted mesh has an outcome
-pub fit_check-exists : (c : FitChecking) (grid : HeightField) (r : Result FitCertificate ℕ) (mesh : List ℕ) →
-    (end : Outcome) × IsFitCheckOutcome c grid r mesh end
-fit_check-exists c grid (Ok cert) mesh =
-    let v = verdict_found grid.n grid.heights (goal_of grid.n c.target) cert in
-    let e = verdict-exists 2 c.spacing grid v.1 mesh v.0 in
+-- a check of certificates that have verdicts has an outcome
+pub judged-exists : {C : Type 0} (files spacing : ℕ) (grid : HeightField) (holds : C → FitVerdict → List ℕ → Type 0)
+    → ((cert : C) → (is : FitVerdict) × (triangles : List ℕ) × holds cert is triangles)
+    → (r : Result C ℕ) (mesh : List ℕ) → (end : Outcome) × IsFitCheckOutcome files spacing grid holds r mesh end
+judged-exists files spacing grid holds found (Ok cert) mesh =
+    let v = found cert in
+    let e = verdict-exists files spacing grid v.1 mesh v.0 in
     (e.0, (v.0, v.1, v.2, e.1))
-fit_check-exists c grid (Err line) mesh = (text_outcome (rejection (BadLine line)) Rejected 2, refl)
+judged-exists files spacing grid holds found (Err line) mesh =
+    (text_outcome (rejection (BadLine line)) Rejected files, refl)
 
 -- a certificate can be made
 
@@ -146,19 +149,64 @@ verdict-done files spacing grid triangles others mesh (verdict.Rejected why) end
     differ : verdict.Rejected why ≡ verdict.Certified count deviation → ⊥
     differ e = cc
 
--- a check of a faultless certificate of a fitted mesh and of the text of its triangles ends with Done
-pub fit_check-done : (c : FitChecking) (grid : HeightField) (cert : FitCertificate) (triangles mesh : List ℕ)
-    (end : Outcome) → IsFitFaultless c grid cert triangles → mesh ≡ fit_text c.spacing grid triangles
-    → IsFitCheckOutcome c grid (Ok cert) mesh end → end.status ≡ Done
-fit_check-done c grid cert triangles mesh end sound same is =
-    let goal : Goal = goal_of grid.n c.target in
-    let count : ℕ = length triangles in
-    let deviation : ℕ = deviation_of grid.n grid.heights triangles in
-    let certified = verdict_one grid.n grid.heights goal cert is.0 (verdict.Certified count deviation)
-    (verdict-is grid.n grid.heights goal cert is.0 is.1 is.2) (triangles, sound, refl, refl) in
-    let v = subst (λ (v : FitVerdict). IsVerdictOf grid.n grid.heights goal cert v is.1) certified is.2 in
-    verdict-done 2 c.spacing grid triangles is.1 mesh is.0 end count deviation certified
-    (mesh_one grid.n grid.heights goal cert triangles is.1 sound v.0) same is.3
+-- a check of a certificate that is certified, and of the text of its triangles, ends with Done
+pub judged-done : {C : Type 0} (files spacing : ℕ) (grid : HeightField) (holds : C → FitVerdict → List ℕ → Type 0)
+    (cert : C) → IsOneVerdict (holds cert) → (triangles mesh : List ℕ) (count deviation : ℕ) (end : Outcome)
+    → holds cert (verdict.Certified count deviation) triangles → mesh ≡ fit_text spacing grid triangles
+    → IsFitCheckOutcome files spacing grid holds (Ok cert) mesh end → end.status ≡ Done
+judged-done files spacing grid holds cert one triangles mesh count deviation end sound same is =
+    let that = one (verdict.Certified count deviation) is.0 triangles is.1 sound is.2 in
+    verdict-done files spacing grid triangles is.1 mesh is.0 end count deviation that.0
+    (sym (that.1 count deviation refl)) same is.3
+
+-- a check by a certificate of a fitted mesh
+
+-- the verdict on a certificate of a fitted mesh is one
+fit-one : (grid : HeightField) (goal : Goal) (cert : FitCertificate) →
+    IsOneVerdict (IsVerdictOf grid.n grid.heights goal cert)
+fit-one grid goal cert is other triangles others v w =
+    let Holds : FitVerdict → List ℕ → Type 0 = λ v l. IsVerdictOf grid.n grid.heights goal cert v l in
+    let same = verdict_one grid.n grid.heights goal cert other is
+    (verdict-is grid.n grid.heights goal cert other others w)
+    (verdict-is grid.n grid.heights goal cert is triangles v) in (
+      same,
+      λ count deviation certified. mesh_one grid.n grid.heights goal cert others triangles
+          (subst (λ v. Holds v others) (same ∙ certified) w).0 (subst (λ v. Holds v triangles) certified v).0,
+    )
+
+module _ (c : FitChecking) (grid : HeightField) (files : List NamedFile) where
+  abbrev Holds : FitCertificate → FitVerdict → List ℕ → Type 0
+  Holds cert is triangles = IsVerdictOf grid.n grid.heights (goal_of grid.n c.target) cert is triangles
+
+  abbrev the-cert : Result FitCertificate ℕ
+  the-cert = fit_cert_in grid.n (bytes_of files c.certificate)
+
+  abbrev the-mesh : List ℕ
+  the-mesh = bytes_of files c.mesh
+
+  -- it comes to one line
+  pub fit_check-text : (end : Outcome) → IsJobOutcome (CheckFit c) grid files end → IsOneText end
+  fit_check-text end is = judged-text 2 c.spacing grid Holds the-cert the-mesh end is
+
+  -- it has one outcome alone
+  pub fit_check-unique : (end other : Outcome) → IsJobOutcome (CheckFit c) grid files end
+      → IsJobOutcome (CheckFit c) grid files other → end ≡ other
+  fit_check-unique end other f g =
+      judged-unique FitCertificate 2 c.spacing grid Holds (fit-one grid (goal_of grid.n c.target)) the-cert the-mesh end
+      other f g
+
+  -- and it has one
+  pub fit_check-exists : (end : Outcome) × IsJobOutcome (CheckFit c) grid files end
+  fit_check-exists = judged-exists 2 c.spacing grid Holds
+      (λ cert. verdict_found grid.n grid.heights (goal_of grid.n c.target) cert) the-cert the-mesh
+
+  -- of a faultless certificate and of the text of its triangles it ends with Done
+  pub fit_check-done : (end : Outcome) → IsAcceptedFitCheck c grid files → IsJobOutcome (CheckFit c) grid files end
+      → end.status ≡ Done
+  fit_check-done end (cert, triangles, read, sound, same) is =
+      judged-done 2 c.spacing grid Holds cert (fit-one grid (goal_of grid.n c.target) cert) triangles the-mesh
+      (length triangles) (deviation_of grid.n grid.heights triangles) end (sound, refl, refl) same
+      (subst (λ (r : Result FitCertificate ℕ). IsFitCheckOutcome 2 c.spacing grid Holds r the-mesh end) read is)
 
 -- the mesh of a check that is done
 
@@ -186,7 +234,7 @@ module _ (files spacing : ℕ) (grid : HeightField) (is_best is_fit : List ℕ �
   compared-certifies triangles line certified (inr f) =
       absurd (not-done end (rejection (MeshDiffers f.0)) (files + 1) f.2 done)
 
-  pub verdict-certifies : (triangles : List ℕ) (is : FitVerdict)
+  verdict-certifies : (triangles : List ℕ) (is : FitVerdict)
       → ((count deviation : ℕ) → is ≡ verdict.Certified count deviation → is_best triangles × is_fit triangles
       × (count ≡ length triangles) × (deviation ≡ deviation_of grid.n grid.heights triangles))
       → IsFitVerdictOutcome files spacing grid triangles mesh is end → CertifiesOne
@@ -203,18 +251,16 @@ module _ (files spacing : ℕ) (grid : HeightField) (is_best is_fit : List ℕ �
   verdict-certifies triangles (verdict.Rejected why) right of =
       absurd (not-done end (fit_rejection why) files of done)
 
--- a check of a fitted mesh that ends with Done comes to one line, which certifies the mesh
-pub fit_check-certifies : (c : FitChecking) (grid : HeightField) (mesh : List ℕ) (end : Outcome) → end.status ≡ Done
-    → (r : Result FitCertificate ℕ) → IsFitCheckOutcome c grid r mesh end →
-    CertifiesAs 3 (λ line. IsCertifiedFit c grid mesh line) end
-fit_check-certifies c grid mesh end done (Ok cert) is =
-    let goal : Goal = goal_of grid.n c.target in
-    verdict-certifies 2 c.spacing grid (IsBestFit c.target grid) (IsFitFor c.target grid) mesh end done is.1 is.0
-    (λ count deviation certified.
-    let v = subst (λ (v : FitVerdict). IsVerdictOf grid.n grid.heights goal cert v is.1) certified is.2 in
-    let fit : IsFitFor c.target grid is.1 = sound-fits c.target grid cert is.1 v.0 in
-    (fit-best c.target grid is.1 fit, fit, v.1, v.2)) is.3
-fit_check-certifies c grid mesh end done (Err line) is = absurd (not-done end (rejection (BadLine line)) 2 is done)
+  -- a check that ends with Done comes to one line, which certifies the mesh, where the triangles of certificates are so
+  pub judged-certifies : {C : Type 0} (holds : C → FitVerdict → List ℕ → Type 0)
+      → ((cert : C) (triangles : List ℕ) (count deviation : ℕ) →
+      holds cert (verdict.Certified count deviation) triangles → is_best triangles × is_fit triangles
+      × (count ≡ length triangles) × (deviation ≡ deviation_of grid.n grid.heights triangles))
+      → (r : Result C ℕ) → IsFitCheckOutcome files spacing grid holds r mesh end → CertifiesOne
+  judged-certifies holds right (Ok cert) is =
+      verdict-certifies is.1 is.0 (λ count deviation certified. right cert is.1 count deviation
+      (subst (λ (v : FitVerdict). holds cert v is.1) certified is.2)) is.3
+  judged-certifies holds right (Err line) is = absurd (not-done end (rejection (BadLine line)) files is done)
 
 -- where it is done, the report got its line
 
@@ -266,5 +312,9 @@ pub fit_mesh-certified : TextsAreRead → (words : List (List ℕ)) (files : Lis
 fit_mesh-certified read_texts words files c grid is before now old new =
     mesh-certified read_texts words files (CheckFit c) grid is before now old new 3
     (λ line. IsCertifiedFit c grid (bytes_of files c.mesh) line)
-    (λ end done of. fit_check-certifies c grid (bytes_of files c.mesh) end done
+    (λ end done of. judged-certifies 2 c.spacing grid (IsBestFit c.target grid) (IsFitFor c.target grid)
+    (bytes_of files c.mesh) end done (Holds c grid files)
+    (λ cert triangles count deviation v.
+    let fit : IsFitFor c.target grid triangles = sound-fits c.target grid cert triangles v.0 in
+    (fit-best c.target grid triangles fit, fit, v.1, v.2))
     (fit_cert_in grid.n (bytes_of files c.certificate)) of)

@@ -1,6 +1,6 @@
 -- The headline of a fit follows from what stands after each status: whether it keeps points or not.
 use Rattle.std.proofs.lemmas.List.Elements.{All-nil, All-cons}
-use Rattle.std.proofs.Common.{◌≡◌, ◌≢◌, ℕ, true, false, IsTrue, List, [], ◌∷◌, ◌++◌, Option, Some, Result, Ok}
+use Rattle.std.proofs.Common.{◌≡◌, ◌≢◌, ℕ, true, false, IsTrue, List, [], ◌∷◌, ◌++◌, Some, Result, Ok}
 use Rattle.std.proofs.Common.{inl, inr, refl, sym, ◌∙◌, ap, subst, append-nil, arith}
 use Rattle.std.specs.List.{All}
 use Rattle.mesh_defs.specs.declared.point.Point.{Point}

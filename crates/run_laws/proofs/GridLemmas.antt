@@ -11,15 +11,14 @@ use Rattle.pgm_grid.specs.Progress.{grid_of}
 use Rattle.run_laws.specs.declared.status.Status.{Status}
 use Rattle.run_laws.specs.declared.status.Status.TheVariants as ends
 use Rattle.run_laws.specs.Walk.{Walk, start_walk}
-use Rattle.run_words.specs.Words.{Show, Scripted, Job, Frames, Facts, Command, OnGrid, Make, Check, Fit, Keep}
-use Rattle.run_words.specs.Words.{MakeFit, CheckFit, MakeKept, CheckKept}
-use Rattle.run_words.specs.Jobs.{names_of}
+use Rattle.run_words.specs.Words.{Show, Scripted, Job, Frames, Command, OnGrid}
+use Rattle.run_words.specs.Jobs.{Work, OfFrames, OfMesh, OfFacts, OfCertificate, OfCheck, File, job_row, names_of}
 use Rattle.run_laws.specs.Picture.{Picture}
 use Rattle.run_laws.specs.Act.{Act, Told, Stands}
 use Rattle.run_laws.specs.Outcome.{Outcome, EngineEnd, shown_acts, IsGridOutcome}
 use Rattle.run_laws.specs.Promise.{Seen, HasRead, FileReadFault, CommandReadFault, HasReadHeader}
-use Rattle.run_words.specs.Jobs.{most_open}
-use Rattle.run_laws.specs.Promise.{CommandNoMemory, IsUndecided, is_complete}
+use Rattle.run_words.specs.Jobs.{open_for, most_open}
+use Rattle.run_laws.specs.Promise.{JobHasCome, CommandNoMemory, IsUndecided, is_complete}
 use Rattle.run_laws.proofs.ActLemmas.{stands-nothing}
 use Rattle.run_laws.proofs.StepLemmas.{come-read}
 use Rattle.run_laws.specs.Maker.{TellsFrames, Begins, DoesAs, Leaves, EndsScript, ScriptHasCome}
@@ -89,18 +88,17 @@ grid-fault before old new name job opened stops = record {
 pub same-name : (name other : List ℕ) (job job' : Job) → OnGrid name job ≡ OnGrid other job' → name ≡ other
 same-name name other job job' e = cc
 
+-- and so are their jobs
+same-job : (name other : List ℕ) (job job' : Job) → OnGrid name job ≡ OnGrid other job' → job ≡ job'
+same-job name other job job' e = cc
+
 -- the grid is open where memory runs out
-one-open : (name : List ℕ) (job : Job) → 1 ≤ most_open (OnGrid name job)
-one-open name (Frames s) = omega arith
-one-open name Facts = omega arith
-one-open name (Make m) = omega arith
-one-open name (Check c) = omega arith
-one-open name (Fit f) = omega arith
-one-open name (Keep k) = omega arith
-one-open name (MakeFit m) = omega arith
-one-open name (CheckFit c) = omega arith
-one-open name (MakeKept m) = omega arith
-one-open name (CheckKept c) = omega arith
+some-open : (work : Work) (files : List File) → 1 ≤ open_for work files
+some-open (OfFrames show) files = omega arith
+some-open (OfMesh prefix) files = omega arith
+some-open OfFacts files = omega arith
+some-open OfCertificate files = omega arith
+some-open OfCheck files = omega arith
 
 -- memory ran out at the grid
 pub grid-memory : (before : Told) (old new : Seen) (name : List ℕ) (job : Job) → new.opens ≡ old.opens + 1
@@ -110,15 +108,32 @@ grid-memory before old new name job opened header = record {
   opened = 1;
   count = opened;
   least = λ some. omega arith;
-  most = one-open name job;
+  most = some-open (job_row job).work (job_row job).files;
   stands = stands-nothing before;
   header = λ other job' files e told_files alone.
       let P : List ℕ → Type 0 = λ l. HasReadHeader (bytes_of files l) new.rest in
       subst P (same-name name other job job' e) (header files told_files);
-  in_order = λ other c files e told_files two. absurd (omega (arith, two));
-  fit_in_order = λ other c files e told_files two. absurd (omega (arith, two));
-  kept_make_in_order = λ other m files e told_files two. absurd (omega (arith, two));
-  kept_in_order = λ other c files e told_files two. absurd (omega (arith, two));
+  in_order = λ other job' files e told_files two. absurd (omega (arith, two));
+}
+
+-- memory ran out behind the grid, with so many files opened, of which the job accepted the earlier ones
+pub behind-memory : (before : Told) (old new : Seen) (name : List ℕ) (job : Job) (grid : HeightField) (count : ℕ)
+    → new.opens ≡ old.opens + count → 2 ≤ count → count ≤ most_open (OnGrid name job)
+    → ((files : List NamedFile) → old.files ≡ Some files → grid_of (bytes_of files name) ≡ Ok grid)
+    → ((files : List NamedFile) → old.files ≡ Some files → JobHasCome job grid files count)
+    → CommandNoMemory before before old new (OnGrid name job)
+behind-memory before old new name job grid count opens low high found come = record {
+  opened = count;
+  count = opens;
+  least = λ some. omega (arith, low);
+  most = high;
+  stands = stands-nothing before;
+  header = λ other job' files e told one. absurd (omega (arith, one, low));
+  in_order = λ other job' files e told two. (
+    grid,
+    subst (λ (l : List ℕ). grid_of (bytes_of files l) ≡ Ok grid) (same-name name other job job' e) (found files told),
+    subst (λ (j : Job). JobHasCome j grid files count) (same-job name other job job' e) (come files told),
+  );
 }
 
 -- a run is complete only by a status that is

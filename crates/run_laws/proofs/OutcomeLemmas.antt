@@ -1,14 +1,12 @@
 -- Outcomes: there is one, it exists, what is accepted ends with Done, and its pictures are certified.
-use Rattle.std.proofs.Common.{◌≡◌, ℕ, ◌≤◌, ◌&&◌, Bool, true, false, nat_le, if◌then◌else◌, IsTrue, is_some, is_none, List}
-use Rattle.std.proofs.Common.{[], ◌∷◌, All, Option, Some, None, IfSome, Result, Ok, Err, refl, sym, ◌∙◌, ap, subst}
-use Rattle.std.proofs.Common.{arith, inl, inr, codes, bytes_eq, length, ◌^◌, ℤ}
+use Rattle.std.proofs.Common.{◌≡◌, ℕ, ◌≤◌, ◌&&◌, Bool, true, false, nat_le, if◌then◌else◌, IsTrue, is_some, is_none}
+use Rattle.std.proofs.Common.{List, [], ◌∷◌, All, Option, Some, None, IfSome, Result, Ok, Err, refl, sym, ◌∙◌, ap}
+use Rattle.std.proofs.Common.{subst, arith, codes, bytes_eq, length, ◌^◌, ℤ}
 use Rattle.std.specs.Prelude.{unsigned_abs}
 use Rattle.std.specs.List.{AllByRecursion}
 use Rattle.std.specs.Option.{option_map}
 use Rattle.std.proofs.lemmas.List.Elements.{All-from_recursion}
 use Rattle.std.proofs.lemmas.Bool.{leb-true}
-use Rattle.std.proofs.lemmas.Bool.Decides.{leb_tells}
-use Rattle.std.proofs.lemmas.Option.{none-some}
 use Rattle.mesh_defs.specs.declared.point.Point.{Point}
 use Rattle.mesh_defs.specs.HeightField.{HeightField}
 use Rattle.mesh_defs.specs.State.{State, start_state}
@@ -18,7 +16,6 @@ use Rattle.roam_num.specs.Places.{thousandths_in}
 use Rattle.pgm_grid.specs.declared.fault.PgmFault.{PgmFault}
 use Rattle.pgm_grid.specs.Progress.{grid_of}
 use Rattle.pgm_grid.specs.Laws.{TextsAreRead}
-use Rattle.mesh_defs.specs.BoundingBox.{CameraAt}
 use Rattle.cert_text.specs.Certificate.{Certificate}
 use Rattle.roam_gen.specs.Generated.{made_grid, made_lines}
 use Rattle.run_laws.specs.declared.status.Status.TheVariants.{Done, Usage, GridRefused}
@@ -33,19 +30,16 @@ use Rattle.run_words.specs.Words.{Keep, MakeFit, CheckFit, MakeKept, CheckKept, 
 use Rattle.run_words.specs.Words.{greatest_level, greatest_seed, greatest_tolerance, greatest_error, greatest_spacing}
 use Rattle.run_words.specs.Words.{least_budget, greatest_budget, within, number_word, budget_word, spacing_word}
 use Rattle.run_words.specs.Words.{tolerance_word, error_word, is_prefix, is_coordinate, in_reach, coordinate_word}
-use Rattle.run_words.specs.Words.{Found, fill, State as Reading, state, chosen, step, walk, start, first_needed, fit_job}
-use Rattle.run_words.specs.Words.{make_fit_job, check_fit_job, made_of, command_at, command_of}
-use Rattle.certificate_laws.specs.FitCertificate.{FitCertificate}
-use Rattle.certificate_laws.specs.Keeping.{KeptCertificate}
-use Rattle.run_laws.specs.CertFile.{cert_in, fit_cert_in, kept_cert_in}
+use Rattle.run_words.specs.Words.{Found, fill, State as Reading, state, chosen, step, walk, start, first_needed}
+use Rattle.run_words.specs.Words.{fit_job, make_fit_job, check_fit_job, made_of, command_at, command_of}
+use Rattle.run_laws.specs.CertFile.{cert_in}
 use Rattle.run_laws.specs.PointFile.{points_in}
 use Rattle.run_laws.specs.Picture.{Picture, ArePictures, IsCertified}
 use Rattle.run_laws.specs.ReportText.{info_line, grid_refusal}
 use Rattle.run_laws.specs.Outcome.{Outcome, plain_outcome, text_outcome, stop_status, engine_end, engine_for}
 use Rattle.run_laws.specs.Outcome.{frames_outcome, script_walk, made_budget, made_spacing, made_walk}
 use Rattle.run_words.specs.Jobs.{MakesNoCertificate}
-use Rattle.run_laws.specs.Outcome.{IsFramesOutcome, IsCheckOutcome, IsFitCheckOutcome, IsJobOutcome}
-use Rattle.run_laws.specs.Outcome.{IsKeepOutcome, IsKeptMakeOutcome, IsKeptCertOutcome, IsKeptCheckOutcome}
+use Rattle.run_laws.specs.Outcome.{IsFramesOutcome, IsCheckOutcome, IsJobOutcome, IsKeepOutcome, IsKeptMakeOutcome}
 use Rattle.run_laws.specs.Outcome.{IsGridOutcome, IsOutcome}
 use Rattle.run_laws.specs.Promise.{IsAcceptedJob, IsAccepted}
 use Rattle.run_laws.specs.Laws.{FramesExist, RunsAreUnique, LevelsAreInRange, AreStates, BudgetsAreTwo}
@@ -78,18 +72,11 @@ job-done (Keep k) grid files end good is =
     let P : Result (List Point) Refusal → Type 0 = λ r. IsKeepOutcome k grid r end in
     keep-done k grid good.0 end (subst P good.1 is)
 job-done (MakeFit m) grid files end good is = status-of end _ is.2
-job-done (CheckFit c) grid files end good is =
-    let P : Result FitCertificate ℕ → Type 0 = λ r. IsFitCheckOutcome c grid r (bytes_of files c.mesh) end in
-    fit_check-done c grid good.0 good.1 (bytes_of files c.mesh) end good.3 good.4 (subst P good.2 is)
+job-done (CheckFit c) grid files end good is = fit_check-done c grid files end good is
 job-done (MakeKept m) grid files end good is =
     let P : Result (List Point) Refusal → Type 0 = λ r. IsKeptMakeOutcome m grid r end in
     kept_make-done m grid good.0 end (subst P good.1 is)
-job-done (CheckKept c) grid files end (points, cert, triangles, found, read, sound, same) is =
-    let mesh : List ℕ = bytes_of files c.mesh in
-    let answer : Result KeptCertificate ℕ = kept_cert_in grid.n (bytes_of files c.certificate) in
-    let P : Result (List Point) Refusal → Type 0 = λ r. IsKeptCheckOutcome c grid r answer mesh end in
-    let Q : Result KeptCertificate ℕ → Type 0 = λ r. IsKeptCertOutcome c points grid r mesh end in
-    kept_check-done c points grid cert triangles mesh end sound same (subst Q read (subst P found is))
+job-done (CheckKept c) grid files end good is = kept_check-done c grid files end good is
 
 said-done : TextsAreRead → (said : Option Command) (files : List NamedFile) (end : Outcome) →
     IsAccepted said files → IsOutcome said files end → end.status ≡ Done
@@ -133,21 +120,11 @@ job-unique one lists runs (Keep k) (Ok grid) files end other free f g =
     keep-unique k grid (points_in grid.n (bytes_of files k.points)) end other f g
 job-unique one lists runs (MakeFit m) (Ok grid) files end other free f g = absurd free
 job-unique one lists runs (CheckFit c) (Ok grid) files end other free f g =
-    fit_check-unique c grid (fit_cert_in grid.n (bytes_of files c.certificate)) (bytes_of files c.mesh) end other f g
+    fit_check-unique c grid files end other f g
 job-unique one lists runs (MakeKept m) (Ok grid) files end other free f g = absurd free
 job-unique one lists runs (CheckKept c) (Ok grid) files end other free f g =
-    kept_check-unique c grid (points_in grid.n (bytes_of files c.points))
-    (kept_cert_in grid.n (bytes_of files c.certificate)) (bytes_of files c.mesh) end other f g
-job-unique one lists runs (Frames s) (Err fault) files end other free f g = f ∙ sym g
-job-unique one lists runs Facts (Err fault) files end other free f g = f ∙ sym g
-job-unique one lists runs (Make m) (Err fault) files end other free f g = f ∙ sym g
-job-unique one lists runs (Check c) (Err fault) files end other free f g = f ∙ sym g
-job-unique one lists runs (Fit job) (Err fault) files end other free f g = f ∙ sym g
-job-unique one lists runs (Keep k) (Err fault) files end other free f g = f ∙ sym g
-job-unique one lists runs (MakeFit m) (Err fault) files end other free f g = f ∙ sym g
-job-unique one lists runs (CheckFit c) (Err fault) files end other free f g = f ∙ sym g
-job-unique one lists runs (MakeKept m) (Err fault) files end other free f g = f ∙ sym g
-job-unique one lists runs (CheckKept c) (Err fault) files end other free f g = f ∙ sym g
+    kept_check-unique c grid files end other f g
+job-unique one lists runs job (Err fault) files end other free f g = f ∙ sym g
 
 words-unique : FramesAreUnique → SetsAreLists → RunsAreUnique →
     (command : Option Command) (files : List NamedFile) (end other : Outcome)
@@ -226,15 +203,11 @@ pub record IsWithinReach (m : Making) : Type 0 where
 -- of a job, that a budget is at least 2
 abbrev pub HasBudget : Job → Type 0
 HasBudget (Frames s) = 2 ≤ s.budget
-HasBudget Facts = Unit {0}
 HasBudget (Make m) = IsWithinReach m
-HasBudget (Check c) = Unit {0}
 HasBudget (Fit f) = IsTargetOfWords f.target
-HasBudget (Keep k) = Unit {0}
 HasBudget (MakeFit m) = IsTargetOfWords m.target
-HasBudget (CheckFit c) = Unit {0}
 HasBudget (MakeKept m) = m.thousandths ≤ greatest_error
-HasBudget (CheckKept c) = Unit {0}
+HasBudget job = Unit {0}
 
 abbrev CommandHasBudget : Command → Type 0
 CommandHasBudget (OnGrid name job) = HasBudget job
@@ -451,31 +424,11 @@ job-exists two frames made (Fit f) (Ok grid) files low range = fit-exists f grid
 job-exists two frames made (Keep k) (Ok grid) files low range =
     keep-exists k grid (points_in grid.n (bytes_of files k.points))
 job-exists two frames made (MakeFit m) (Ok grid) files low range = fit_make-exists m grid files low
-job-exists two frames made (CheckFit c) (Ok grid) files low range =
-    fit_check-exists c grid (fit_cert_in grid.n (bytes_of files c.certificate)) (bytes_of files c.mesh)
+job-exists two frames made (CheckFit c) (Ok grid) files low range = fit_check-exists c grid files
 job-exists two frames made (MakeKept m) (Ok grid) files low range =
     kept_make-exists m grid (points_in grid.n (bytes_of files m.points))
-job-exists two frames made (CheckKept c) (Ok grid) files low range =
-    kept_check-exists c grid (points_in grid.n (bytes_of files c.points))
-    (kept_cert_in grid.n (bytes_of files c.certificate)) (bytes_of files c.mesh)
-job-exists two frames made (Frames s) (Err fault) files low range =
-    (text_outcome (grid_refusal fault) GridRefused 1, refl)
-job-exists two frames made Facts (Err fault) files low range = (text_outcome (grid_refusal fault) GridRefused 1, refl)
-job-exists two frames made (Make m) (Err fault) files low range =
-    (text_outcome (grid_refusal fault) GridRefused 1, refl)
-job-exists two frames made (Check c) (Err fault) files low range =
-    (text_outcome (grid_refusal fault) GridRefused 1, refl)
-job-exists two frames made (Fit f) (Err fault) files low range = (text_outcome (grid_refusal fault) GridRefused 1, refl)
-job-exists two frames made (Keep k) (Err fault) files low range =
-    (text_outcome (grid_refusal fault) GridRefused 1, refl)
-job-exists two frames made (MakeFit m) (Err fault) files low range =
-    (text_outcome (grid_refusal fault) GridRefused 1, refl)
-job-exists two frames made (CheckFit c) (Err fault) files low range =
-    (text_outcome (grid_refusal fault) GridRefused 1, refl)
-job-exists two frames made (MakeKept m) (Err fault) files low range =
-    (text_outcome (grid_refusal fault) GridRefused 1, refl)
-job-exists two frames made (CheckKept c) (Err fault) files low range =
-    (text_outcome (grid_refusal fault) GridRefused 1, refl)
+job-exists two frames made (CheckKept c) (Ok grid) files low range = kept_check-exists c grid files
+job-exists two frames made job (Err fault) files low range = (text_outcome (grid_refusal fault) GridRefused 1, refl)
 
 words-exist : BudgetsAreTwo → FramesExist → CertificatesExist → LevelsAreInRange →
     (command : Option Command) (files : List NamedFile)
@@ -544,27 +497,15 @@ job-certified two one (Fit f) (Ok grid) files end low some is =
 job-certified two one (Keep k) (Ok grid) files end low some is =
     let P : List Picture → Type 0 = λ ps. AllByRecursion IsCertified ps in
     subst P (sym (keep-plain k grid (points_in grid.n (bytes_of files k.points)) end is)) tt
-job-certified two one (Frames s) (Err fault) files end low some is = text-certified end (refused-text fault end is)
-job-certified two one Facts (Err fault) files end low some is = text-certified end (refused-text fault end is)
 job-certified two one (MakeFit m) (Ok grid) files end low some is =
     text-certified end (fit_make-text m grid files end is)
 job-certified two one (CheckFit c) (Ok grid) files end low some is =
-    text-certified end
-    (fit_check-text c grid (fit_cert_in grid.n (bytes_of files c.certificate)) (bytes_of files c.mesh) end is)
+    text-certified end (fit_check-text c grid files end is)
 job-certified two one (MakeKept m) (Ok grid) files end low some is =
     text-certified end (kept_make-text m grid (points_in grid.n (bytes_of files m.points)) end is)
 job-certified two one (CheckKept c) (Ok grid) files end low some is =
-    text-certified end
-    (kept_check-text c grid (points_in grid.n (bytes_of files c.points))
-    (kept_cert_in grid.n (bytes_of files c.certificate)) (bytes_of files c.mesh) end is)
-job-certified two one (Make m) (Err fault) files end low some is = text-certified end (refused-text fault end is)
-job-certified two one (Check c) (Err fault) files end low some is = text-certified end (refused-text fault end is)
-job-certified two one (Fit f) (Err fault) files end low some is = text-certified end (refused-text fault end is)
-job-certified two one (Keep k) (Err fault) files end low some is = text-certified end (refused-text fault end is)
-job-certified two one (MakeFit m) (Err fault) files end low some is = text-certified end (refused-text fault end is)
-job-certified two one (CheckFit c) (Err fault) files end low some is = text-certified end (refused-text fault end is)
-job-certified two one (MakeKept m) (Err fault) files end low some is = text-certified end (refused-text fault end is)
-job-certified two one (CheckKept c) (Err fault) files end low some is = text-certified end (refused-text fault end is)
+    text-certified end (kept_check-text c grid files end is)
+job-certified two one job (Err fault) files end low some is = text-certified end (refused-text fault end is)
 
 words-certified : BudgetsAreTwo → MeshesAreCertified →
     (command : Option Command) (files : List NamedFile) (end : Outcome) →

@@ -1,18 +1,17 @@
 -- How a command on a grid is carried out: it stops at its grid, memory runs out, or one text ends it.
 use Rattle.std.proofs.Math.Nat.{min-eq_left}
 use Rattle.std.proofs.Common.{◌≡◌, ◌≢◌, ◌⊎◌, ◌↔◌, ℕ, ◌+◌, ◌^◌, ◌≤◌, ◌&&◌, Bool, true, false, IsTrue, IsSome, List, []}
-use Rattle.std.proofs.Common.{◌∷◌, length, nat_lt, Option, None, Some, Result, Err, inl, inr, refl, sym, ◌∙◌, ap, subst}
-use Rattle.std.proofs.Common.{arith}
+use Rattle.std.proofs.Common.{◌∷◌, suc, length, nat_lt, Option, None, Some, Result, Err, inl, inr, refl, sym, ◌∙◌, ap}
+use Rattle.std.proofs.Common.{subst, arith}
+use Rattle.std.proofs.lemmas.Bool.{lt-ltb}
 use Rattle.roam_edge.specs.Fault.{Rose, next_count, IsInTime}
 use Rattle.roam_edge.specs.Shelf.{NamedFile, bytes_of}
 use Rattle.run_laws.specs.declared.status.Status.{Status}
 use Rattle.run_laws.specs.declared.status.Status.TheVariants.{Done, NoMemory, Usage, GridRefused, ReadFault, WriteFault}
 use Rattle.run_laws.specs.declared.status.Status.TheVariants.{ScriptRefused, Rejected}
-use Rattle.run_words.specs.Words.{Show, Scripted, Job, Command, OnGrid, is_of_engine, Frames, Facts, Make}
-use Rattle.run_words.specs.Jobs.{is_check}
-use Rattle.run_words.specs.Jobs.{most_open, is_of_text}
-use Rattle.run_words.specs.Words.{Check, Fit, Keep, MakeFit, CheckFit, MakeKept, CheckKept}
-use Rattle.run_words.specs.Jobs.{names_of, file_count}
+use Rattle.run_words.specs.Words.{Show, Scripted, Job, Command, OnGrid, is_of_engine, Frames}
+use Rattle.run_words.specs.Jobs.{Work, OfFrames, OfMesh, OfFacts, OfCertificate, OfCheck, File, job_row, file_names}
+use Rattle.run_words.specs.Jobs.{names_of, file_count, is_check, open_for, most_open, is_of_text}
 use Rattle.mesh_defs.specs.HeightField.{HeightField}
 use Rattle.pgm_grid.specs.declared.fault.PgmFault.{PgmFault}
 use Rattle.pgm_grid.specs.Progress.{grid_of}
@@ -58,16 +57,7 @@ none-unended name job status is = refl
 
 -- a command on a grid names a file
 names-some : (name : List ℕ) (job : Job) → nat_lt 0 (length (names_of (OnGrid name job))) ≡ true
-names-some name (Frames s) = refl
-names-some name Facts = refl
-names-some name (Make m) = refl
-names-some name (Check c) = refl
-names-some name (Fit f) = refl
-names-some name (Keep k) = refl
-names-some name (MakeFit m) = refl
-names-some name (CheckFit c) = refl
-names-some name (MakeKept m) = refl
-names-some name (CheckKept c) = refl
+names-some name job = lt-ltb 0 (length (names_of (OnGrid name job))) (omega arith)
 
 in-time-then : (late middle last : Bool) (faults : ℕ) → IsInTime late faults middle → last ≡ middle →
     IsInTime late faults last
@@ -77,17 +67,15 @@ same-in-time : (late last : Bool) (faults : ℕ) → last ≡ late → IsInTime 
 same-in-time late last faults same not_late none = same ∙ not_late
 
 -- where memory runs out, no more files were opened than the command names
+open-named : (work : Work) (files : List File) → open_for work files ≤ suc (length (file_names files))
+open-named (OfFrames show) files = omega arith
+open-named (OfMesh prefix) files = omega arith
+open-named OfFacts files = omega arith
+open-named OfCertificate files = omega arith
+open-named OfCheck files = omega arith
+
 most-named : (name : List ℕ) (job : Job) → most_open (OnGrid name job) ≤ file_count (Some (OnGrid name job))
-most-named name (Frames s) = omega arith
-most-named name Facts = omega arith
-most-named name (Make m) = omega arith
-most-named name (Check c) = omega arith
-most-named name (Fit f) = omega arith
-most-named name (Keep k) = omega arith
-most-named name (MakeFit m) = omega arith
-most-named name (CheckFit c) = omega arith
-most-named name (MakeKept m) = omega arith
-most-named name (CheckKept c) = omega arith
+most-named name job = open-named (job_row job).work (job_row job).files
 
 -- reading calls no sink of meshes
 reads-no-mesh : (before now : Moment) → OnlyReads before now → SameMeshes before now

@@ -2,8 +2,8 @@
 -- Words: EngineEnd, Outcome, plain_outcome, text_outcome, picture_acts, shown_acts, sum_acts, stop_acts, stop_status,
 -- engine_end, engine_for, frames_outcome, IsFramesOutcome, script_walk, made_budget, made_spacing, made_walk, fit_acts,
 -- IsKeepOutcome, IsCompared, IsVerdictOutcome, IsCheckOutcome, IsFitVerdictOutcome, IsFitCheckOutcome,
--- IsKeptMakeOutcome, IsKeptCertOutcome, IsKeptCheckOutcome, IsJobOutcome, IsGridOutcome, IsCommandOutcome, IsOutcome.
-use Rattle.std.specs.Prelude.{◌≡◌, ⊤, ℕ, ◌+◌, ◌⊎◌, if◌then◌else◌, List, [], ◌∷◌, ◌++◌, length, sum_by, Option, Some}
+-- IsKeptMakeOutcome, IsKeptCheckOutcome, IsJobOutcome, IsGridOutcome, IsCommandOutcome, IsOutcome.
+use Rattle.std.specs.Prelude.{◌≡◌, ℕ, ◌+◌, ◌⊎◌, if◌then◌else◌, List, [], ◌∷◌, ◌++◌, length, sum_by, Option, Some}
 use Rattle.std.specs.Prelude.{None, Result, Ok, Err}
 use Rattle.mesh_defs.specs.declared.point.Point.{Point}
 use Rattle.mesh_defs.specs.HeightField.{HeightField}
@@ -29,7 +29,7 @@ use Rattle.run_laws.specs.declared.status.Status.TheVariants.{Done, Usage, GridR
 use Rattle.run_laws.specs.Walk.{Refusal, Walk, start_walk, walk_along, walk_of}
 use Rattle.run_words.specs.Words.{Meshes, Measures, Sums, Show, as_sums, is_of_engine, Scripted, Checking}
 use Rattle.run_words.specs.Words.{Fitting, Keeping, fitting_of, Job, Frames, Facts, Make, Check, Fit, Keep}
-use Rattle.run_words.specs.Words.{FitChecking, MakeFit, CheckFit, KeptMaking, KeptChecking, MakeKept, CheckKept}
+use Rattle.run_words.specs.Words.{MakeFit, CheckFit, KeptMaking, KeptChecking, MakeKept, CheckKept}
 use Rattle.run_words.specs.Words.{Command, OnGrid, Generated}
 use Rattle.run_laws.specs.CertFile.{cert_in, fit_cert_in, kept_cert_in}
 use Rattle.run_laws.specs.PointFile.{points_in}
@@ -185,14 +185,16 @@ IsFitVerdictOutcome files spacing grid triangles mesh (fitted.Certified count de
 IsFitVerdictOutcome files spacing grid triangles mesh (fitted.Rejected why) end =
     end ≡ text_outcome (fit_rejection why) Rejected files
 
--- what a check of a fitted mesh does with a certificate and the bytes of a mesh, or with the number of the line that is
--- refused
-abbrev pub IsFitCheckOutcome : FitChecking → HeightField → Result FitCertificate ℕ → List ℕ → Outcome → Type 0
-IsFitCheckOutcome c grid (Ok cert) mesh end =
-    (is : fit_verdict.FitVerdict) × (triangles : List ℕ)
-    × IsVerdictOf grid.n grid.heights (goal_of grid.n c.target) cert is triangles
-    × IsFitVerdictOutcome 2 c.spacing grid triangles mesh is end
-IsFitCheckOutcome c grid (Err line) mesh end = end ≡ text_outcome (rejection (BadLine line)) Rejected 2
+-- What a check of a fitted mesh does with a certificate, the last of so many files that are opened by then, and the
+-- bytes of a mesh, or with the number of the line that is refused. Of the verdict on a certificate and of its triangles
+-- this holds.
+abbrev pub IsFitCheckOutcome : {C : Type 0} → (files spacing : ℕ) → HeightField
+    → (holds : C → fit_verdict.FitVerdict → List ℕ → Type 0) → Result C ℕ → List ℕ → Outcome → Type 0
+IsFitCheckOutcome files spacing grid holds (Ok cert) mesh end =
+    (is : fit_verdict.FitVerdict) × (triangles : List ℕ) × holds cert is triangles
+    × IsFitVerdictOutcome files spacing grid triangles mesh is end
+IsFitCheckOutcome files spacing grid holds (Err line) mesh end =
+    end ≡ text_outcome (rejection (BadLine line)) Rejected files
 
 -- what making a certificate does with the points that the mesh keeps, or with the first line of their file that is
 -- refused
@@ -201,20 +203,12 @@ IsKeptMakeOutcome m grid (Ok points) end =
     (cert : KeptCertificate) × IsKeptMade m points grid cert × (end ≡ text_outcome (kept_cert_text cert) Done 2)
 IsKeptMakeOutcome m grid (Err refusal) end = end ≡ text_outcome (line_refusal refusal) ScriptRefused 2
 
--- what a check does with these points, a certificate and the bytes of a mesh, or with the number of the line of the
--- certificate that is refused
-abbrev pub IsKeptCertOutcome : KeptChecking → List Point → HeightField → Result KeptCertificate ℕ → List ℕ → Outcome
-    → Type 0
-IsKeptCertOutcome c points grid (Ok cert) mesh end =
-    (is : fit_verdict.FitVerdict) × (triangles : List ℕ)
-    × IsKeptVerdictOf grid.n grid.heights points (tolerance_of grid.n c.thousandths) cert is triangles
-    × IsFitVerdictOutcome 3 c.spacing grid triangles mesh is end
-IsKeptCertOutcome c points grid (Err line) mesh end = end ≡ text_outcome (rejection (BadLine line)) Rejected 3
-
--- what it does with the points, or with the first line of their file that is refused
+-- what a check does with the points that the mesh keeps, or with the first line of their file that is refused
 abbrev pub IsKeptCheckOutcome : KeptChecking → HeightField → Result (List Point) Refusal → Result KeptCertificate ℕ
     → List ℕ → Outcome → Type 0
-IsKeptCheckOutcome c grid (Ok points) answer mesh end = IsKeptCertOutcome c points grid answer mesh end
+IsKeptCheckOutcome c grid (Ok points) answer mesh end =
+    IsFitCheckOutcome 3 c.spacing grid
+    (IsKeptVerdictOf grid.n grid.heights points (tolerance_of grid.n c.thousandths)) answer mesh end
 IsKeptCheckOutcome c grid (Err refusal) answer mesh end = end ≡ text_outcome (line_refusal refusal) ScriptRefused 2
 
 -- What a job does with an accepted grid. A certificate that is made is any that may be.
@@ -231,7 +225,8 @@ IsJobOutcome (Keep k) grid files end = IsKeepOutcome k grid (points_in grid.n (b
 IsJobOutcome (MakeFit m) grid files end =
     (cert : FitCertificate) × IsFitMade m grid cert × (end ≡ text_outcome (fit_cert_text cert) Done 1)
 IsJobOutcome (CheckFit c) grid files end =
-    IsFitCheckOutcome c grid (fit_cert_in grid.n (bytes_of files c.certificate)) (bytes_of files c.mesh) end
+    IsFitCheckOutcome 2 c.spacing grid (IsVerdictOf grid.n grid.heights (goal_of grid.n c.target))
+    (fit_cert_in grid.n (bytes_of files c.certificate)) (bytes_of files c.mesh) end
 IsJobOutcome (MakeKept m) grid files end = IsKeptMakeOutcome m grid (points_in grid.n (bytes_of files m.points)) end
 IsJobOutcome (CheckKept c) grid files end =
     IsKeptCheckOutcome c grid (points_in grid.n (bytes_of files c.points))

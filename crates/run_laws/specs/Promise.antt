@@ -1,9 +1,8 @@
 -- What a run of `roam` promises, by its status.
 -- Words: Seen, seen, shelf_tells, AreFiles, is_complete, ends_script, EndsAs, EndsRight, HasEnded, may_end,
 -- OpensForStatus, IsUndecided, ScriptHasRead, CheckHasRead, FitCheckHasRead, KeptCheckHasRead, JobHasRead, HasRead,
--- FileReadFault, CommandReadFault, LeavesAtReadFault, HasReadHeader, CheckHasCome, FitCheckHasCome,
--- KeptMakeHasCome, KeptCheckHasCome, CommandNoMemory, LeavesAtNoMemory, IsAcceptedCheck, IsAcceptedFitCheck,
--- IsAcceptedKeptCheck, IsAcceptedJob, IsAccepted, leaves_engine.
+-- FileReadFault, CommandReadFault, LeavesAtReadFault, HasReadHeader, JobHasCome, CommandNoMemory, LeavesAtNoMemory,
+-- IsAcceptedCheck, IsAcceptedFitCheck, IsAcceptedKeptCheck, IsAcceptedJob, IsAccepted, leaves_engine.
 use Rattle.std.specs.Prelude.{◌≡◌, ◌≢◌, ⊤, ℕ, zero, suc, ◌+◌, ◌<◌, ◌≤◌, Bool, true, false, ◌&&◌, ◌||◌, nat_lt, IsTrue}
 use Rattle.std.specs.Prelude.{List, [], ◌++◌, length, Option, Some, None, Ok, Err, slice_get}
 use Rattle.mesh_defs.specs.declared.point.Point.{Point}
@@ -23,8 +22,8 @@ use Rattle.run_laws.specs.declared.status.Status.{Status}
 use Rattle.run_laws.specs.declared.status.Status.TheVariants.{Done, NoMemory, Usage, GridRefused, ScriptRefused}
 use Rattle.run_laws.specs.declared.status.Status.TheVariants.{ReadFault, WriteFault, Rejected}
 use Rattle.run_laws.specs.Walk.{AreWhole, HasBegun}
-use Rattle.run_words.specs.Words.{Scripted, Checking, Job, Frames, Facts, Make, Check, Fit, Keep, FitChecking, MakeFit}
-use Rattle.run_words.specs.Words.{CheckFit, KeptMaking, KeptChecking, MakeKept, CheckKept, Command, OnGrid, Generated}
+use Rattle.run_words.specs.Words.{Scripted, Checking, Job, Frames, Check, Keep, FitChecking, CheckFit, KeptChecking}
+use Rattle.run_words.specs.Words.{MakeKept, CheckKept, Command, OnGrid, Generated}
 use Rattle.run_words.specs.Jobs.{names_of}
 use Rattle.run_words.specs.Words.{is_of_engine, command_of}
 use Rattle.run_words.specs.Jobs.{most_open, file_count, has_script, has_points, is_check}
@@ -171,15 +170,12 @@ KeptCheckHasRead c grid files (suc (suc k)) read =
 -- so much of the job's file at this place, counted from 0, was read, and these acts were done
 abbrev pub JobHasRead : Job → HeightField → List NamedFile → ℕ → List ℕ → List Act → Type 0
 JobHasRead (Frames s) grid files k read acts = ScriptHasRead s grid read acts
-JobHasRead Facts grid files k read acts = ⊥
-JobHasRead (Make m) grid files k read acts = ⊥
 JobHasRead (Check c) grid files k read acts = CheckHasRead c grid files k read × (acts ≡ [])
-JobHasRead (Fit f) grid files k read acts = ⊥
 JobHasRead (Keep p) grid files k read acts = PointsHaveRead grid.n read × (acts ≡ [])
-JobHasRead (MakeFit m) grid files k read acts = ⊥
 JobHasRead (CheckFit c) grid files k read acts = FitCheckHasRead c grid files k read × (acts ≡ [])
 JobHasRead (MakeKept m) grid files k read acts = PointsHaveRead grid.n read × (acts ≡ [])
 JobHasRead (CheckKept c) grid files k read acts = KeptCheckHasRead c grid files k read × (acts ≡ [])
+JobHasRead job grid files k read acts = ⊥
 
 -- Of the command's file at this place, counted from 0, these bytes were read, and no refusal was met; these
 -- acts are what the run has done by then.
@@ -224,37 +220,25 @@ HasReadHeader bytes rest =
     (header : Header) × (at : ℕ) × (behind : List ℕ) × HasHeader bytes header at behind
     × ((unread : List ℕ) → rest ≡ Some unread → (read : List ℕ) × (behind ≡ read ++ unread))
 
--- A check opens its certificate only once the grid is accepted, and its mesh only once the certificate has no fault.
-abbrev pub CheckHasCome : List ℕ → Checking → List NamedFile → ℕ → Type 0
-CheckHasCome name c files opened = 2 ≤ opened → (grid : HeightField) × (grid_of (bytes_of files name) ≡ Ok grid)
-    × (3 ≤ opened → (cert : Certificate) × (cert_in grid.n (bytes_of files c.certificate) ≡ Ok cert)
-    × IsFaultless c grid cert)
-
--- the same of a check of a fitted mesh
-abbrev pub FitCheckHasCome : List ℕ → FitChecking → List NamedFile → ℕ → Type 0
-FitCheckHasCome name c files opened = 2 ≤ opened → (grid : HeightField) × (grid_of (bytes_of files name) ≡ Ok grid)
-    × (3 ≤ opened → (cert : FitCertificate) × (triangles : List ℕ)
-    × (fit_cert_in grid.n (bytes_of files c.certificate) ≡ Ok cert)
-    × IsFitFaultless c grid cert triangles)
-
--- Where a certificate of a mesh that keeps points is made, the points are opened only once the grid is accepted, and no
--- memory is taken while they are read.
-abbrev pub KeptMakeHasCome : List ℕ → List ℕ → List NamedFile → ℕ → Type 0
-KeptMakeHasCome name points_name files opened = 2 ≤ opened → (grid : HeightField)
-    × (grid_of (bytes_of files name) ≡ Ok grid)
-    × (points : List Point) × (points_in grid.n (bytes_of files points_name) ≡ Ok points)
-
--- so of a check by one, which opens the mesh only once the certificate has no fault
-abbrev pub KeptCheckHasCome : List ℕ → KeptChecking → List NamedFile → ℕ → Type 0
-KeptCheckHasCome name c files opened = 2 ≤ opened → (grid : HeightField) × (grid_of (bytes_of files name) ≡ Ok grid)
-    × (points : List Point) × (points_in grid.n (bytes_of files c.points) ≡ Ok points)
+-- What a job has accepted behind its grid when memory runs out with so many files opened, two or more. A check opens
+-- its mesh only once the certificate has no fault, and no memory is taken while points are read.
+abbrev pub JobHasCome : Job → HeightField → List NamedFile → ℕ → Type 0
+JobHasCome (Check c) grid files opened = 3 ≤ opened → (cert : Certificate)
+    × (cert_in grid.n (bytes_of files c.certificate) ≡ Ok cert) × IsFaultless c grid cert
+JobHasCome (CheckFit c) grid files opened = 3 ≤ opened → (cert : FitCertificate) × (triangles : List ℕ)
+    × (fit_cert_in grid.n (bytes_of files c.certificate) ≡ Ok cert) × IsFitFaultless c grid cert triangles
+JobHasCome (MakeKept m) grid files opened =
+    (points : List Point) × (points_in grid.n (bytes_of files m.points) ≡ Ok points)
+JobHasCome (CheckKept c) grid files opened =
+    (points : List Point) × (points_in grid.n (bytes_of files c.points) ≡ Ok points)
     × (4 ≤ opened → (cert : KeptCertificate) × (triangles : List ℕ)
     × (kept_cert_in grid.n (bytes_of files c.certificate) ≡ Ok cert)
     × IsKeptFaultless c points grid cert triangles)
+JobHasCome job grid files opened = ⊤
 
 -- Memory ran out. Nothing was written, and no script was opened, nor points that a mesh is fitted to; if the command
--- names a grid, a whole accepted header of it was read; and what makes or checks a certificate opened a later file only
--- after accepted ones. Where this holds nothing forbids the status.
+-- names a grid, a whole accepted header of it was read; and a later file was opened only after accepted ones. Where
+-- this holds nothing forbids the status.
 pub record CommandNoMemory (before now : Told) (old new : Seen) (command : Command) : Type 0 where
   pub opened : ℕ
   pub count : new.opens ≡ old.opens + opened
@@ -263,18 +247,9 @@ pub record CommandNoMemory (before now : Told) (old new : Seen) (command : Comma
   pub stands : Stands before now []
   pub header : (name : List ℕ) (job : Job) (files : List NamedFile) → command ≡ OnGrid name job → old.files ≡ Some files
       → opened ≡ 1 → HasReadHeader (bytes_of files name) new.rest
-  pub in_order : (name : List ℕ) (c : Checking) (files : List NamedFile) →
-      command ≡ OnGrid name (Check c) → old.files ≡ Some files
-      → CheckHasCome name c files opened
-  pub fit_in_order : (name : List ℕ) (c : FitChecking) (files : List NamedFile) →
-      command ≡ OnGrid name (CheckFit c) → old.files ≡ Some files
-      → FitCheckHasCome name c files opened
-  pub kept_make_in_order : (name : List ℕ) (m : KeptMaking) (files : List NamedFile) →
-      command ≡ OnGrid name (MakeKept m) → old.files ≡ Some files
-      → KeptMakeHasCome name m.points files opened
-  pub kept_in_order : (name : List ℕ) (c : KeptChecking) (files : List NamedFile) →
-      command ≡ OnGrid name (CheckKept c) → old.files ≡ Some files
-      → KeptCheckHasCome name c files opened
+  pub in_order : (name : List ℕ) (job : Job) (files : List NamedFile) → command ≡ OnGrid name job
+      → old.files ≡ Some files → 2 ≤ opened
+      → (grid : HeightField) × (grid_of (bytes_of files name) ≡ Ok grid) × JobHasCome job grid files opened
 
 -- so only for words of a command
 pub record LeavesAtNoMemory (before now : Told) (old new : Seen) (words : List (List ℕ)) : Type 0 where
@@ -305,17 +280,14 @@ IsAcceptedKeptCheck c grid files =
 -- what a job reads is accepted: each line of its script or of its points, or the certificate and the mesh of a check
 abbrev pub IsAcceptedJob : Job → HeightField → List NamedFile → Type 0
 IsAcceptedJob (Frames s) grid files = (script_walk s grid (bytes_of files s.script)).stop ≡ None
-IsAcceptedJob Facts grid files = ⊤
-IsAcceptedJob (Make m) grid files = ⊤
 IsAcceptedJob (Check c) grid files = IsAcceptedCheck c grid files
-IsAcceptedJob (Fit f) grid files = ⊤
 IsAcceptedJob (Keep k) grid files =
     (points : List Point) × (points_in grid.n (bytes_of files k.points) ≡ Ok points)
-IsAcceptedJob (MakeFit m) grid files = ⊤
 IsAcceptedJob (CheckFit c) grid files = IsAcceptedFitCheck c grid files
 IsAcceptedJob (MakeKept m) grid files =
     (points : List Point) × (points_in grid.n (bytes_of files m.points) ≡ Ok points)
 IsAcceptedJob (CheckKept c) grid files = IsAcceptedKeptCheck c grid files
+IsAcceptedJob job grid files = ⊤
 
 -- the words are a command, and what it reads is accepted: the file of its grid is a text of one, and what its job reads
 -- is accepted; a generated run reads nothing

@@ -1,6 +1,7 @@
 use Rattle.std.proofs.Common.{◌-◌, refl, ◌∙◌, sym, subst, arith}
 use Rattle.mesh_arrays.specs.Walk.{IsPathMarked}
-use Rattle.mesh_arrays.proofs.MarkLemmas.{marked_half, marked_absent, marked_by, not_live, half_slot, deep_by}
+use Rattle.mesh_arrays.proofs.SlotLemmas.{half_slot}
+use Rattle.mesh_arrays.proofs.MarkLemmas.{marked_half, marked_absent, marked_by, not_live, deep_by}
 use Rattle.mesh_arrays.proofs.marks.+mark.Goals as goal
 
 pub returns-in-None-clause-marked : goal.returns-in-None-clause-marked

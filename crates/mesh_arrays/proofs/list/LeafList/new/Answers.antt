@@ -2,28 +2,19 @@ use Rattle.std.proofs.Common.{◌≡◌, ℕ, ◌*◌, ◌++◌, length, sym, �
 use Rattle.mesh_defs.specs.ClosedSet.{leaves_under}
 use Rattle.mesh_laws.specs.Slots.{address_at, split_set}
 use Rattle.mesh_arrays.specs.Walk.{WalkState}
-use Rattle.mesh_arrays.proofs.MarkLemmas.{half_slot}
-use Rattle.mesh_arrays.proofs.SlotLemmas.{AreHalves, halves_of}
+use Rattle.mesh_arrays.proofs.SlotLemmas.{halves_of}
 use Rattle.mesh_arrays.proofs.list.LeafList.new.Goals as goal
 
 pub put_under-requires-clause-level : goal.put_under-requires-clause-level
 put_under-requires-clause-level c =
-    let pairs = c.args.pool.now.pairs in
-    let lower = half_slot pairs 2 0 c.requires.root (omega arith) (omega arith) (omega arith) in
-    let upper = half_slot pairs 3 1 c.requires.root (omega arith) (omega arith) (omega arith) in
-    let all : 2 * c.n-levels.result ≡ 2 * c.args.pool.now.n = ap (λ k. 2 * k) c.n-levels.ensures.value in
-    let halves : AreHalves c.args.pool.now.n pairs (2 * c.n-levels.result) =
-    halves_of c.args.pool.now.n pairs (2 * c.n-levels.result) lower upper all in
+    let halves = halves_of c.args.pool.now.n c.args.pool.now.pairs c.n-levels.result c.requires.root
+    c.n-levels.ensures.value in
     halves.lower_level
 
 pub put_under-requires-clause-room : goal.put_under-requires-clause-room
 put_under-requires-clause-room c =
-    let pairs = c.args.pool.now.pairs in
-    let lower = half_slot pairs 2 0 c.requires.root (omega arith) (omega arith) (omega arith) in
-    let upper = half_slot pairs 3 1 c.requires.root (omega arith) (omega arith) (omega arith) in
-    let all : 2 * c.n-levels.result ≡ 2 * c.args.pool.now.n = ap (λ k. 2 * k) c.n-levels.ensures.value in
-    let halves : AreHalves c.args.pool.now.n pairs (2 * c.n-levels.result) =
-    halves_of c.args.pool.now.n pairs (2 * c.n-levels.result) lower upper all in
+    let halves = halves_of c.args.pool.now.n c.args.pool.now.pairs c.n-levels.result c.requires.root
+    c.n-levels.ensures.value in
     let none = ap length c.in_ok-walk.ensures.leaves in
     let most = c.in_ok-walk.ensures.most in
     let count = halves.count in
@@ -31,22 +22,14 @@ put_under-requires-clause-room c =
 
 pub put_under-requires-2-clause-level : goal.put_under-requires-2-clause-level
 put_under-requires-2-clause-level c =
-    let pairs = c.args.pool.now.pairs in
-    let lower = half_slot pairs 2 0 c.requires.root (omega arith) (omega arith) (omega arith) in
-    let upper = half_slot pairs 3 1 c.requires.root (omega arith) (omega arith) (omega arith) in
-    let all : 2 * c.n-levels.result ≡ 2 * c.args.pool.now.n = ap (λ k. 2 * k) c.n-levels.ensures.value in
-    let halves : AreHalves c.args.pool.now.n pairs (2 * c.n-levels.result) =
-    halves_of c.args.pool.now.n pairs (2 * c.n-levels.result) lower upper all in
+    let halves = halves_of c.args.pool.now.n c.args.pool.now.pairs c.n-levels.result c.requires.root
+    c.n-levels.ensures.value in
     halves.upper_level
 
 pub put_under-requires-2-clause-room : goal.put_under-requires-2-clause-room
 put_under-requires-2-clause-room c =
-    let pairs = c.args.pool.now.pairs in
-    let lower = half_slot pairs 2 0 c.requires.root (omega arith) (omega arith) (omega arith) in
-    let upper = half_slot pairs 3 1 c.requires.root (omega arith) (omega arith) (omega arith) in
-    let all : 2 * c.n-levels.result ≡ 2 * c.args.pool.now.n = ap (λ k. 2 * k) c.n-levels.ensures.value in
-    let halves : AreHalves c.args.pool.now.n pairs (2 * c.n-levels.result) =
-    halves_of c.args.pool.now.n pairs (2 * c.n-levels.result) lower upper all in
+    let halves = halves_of c.args.pool.now.n c.args.pool.now.pairs c.n-levels.result c.requires.root
+    c.n-levels.ensures.value in
     let none = ap length c.in_ok-walk.ensures.leaves in
     let most = c.in_ok-walk.ensures.most in
     let count = halves.count in
@@ -55,11 +38,7 @@ put_under-requires-2-clause-room c =
 pub returns-clause-leaves : goal.returns-clause-leaves
 returns-clause-leaves c =
     let pairs = c.args.pool.now.pairs in
-    let lower = half_slot pairs 2 0 c.requires.root (omega arith) (omega arith) (omega arith) in
-    let upper = half_slot pairs 3 1 c.requires.root (omega arith) (omega arith) (omega arith) in
-    let all : 2 * c.n-levels.result ≡ 2 * c.args.pool.now.n = ap (λ k. 2 * k) c.n-levels.ensures.value in
-    let halves : AreHalves c.args.pool.now.n pairs (2 * c.n-levels.result) =
-    halves_of c.args.pool.now.n pairs (2 * c.n-levels.result) lower upper all in
+    let halves = halves_of c.args.pool.now.n pairs c.n-levels.result c.requires.root c.n-levels.ensures.value in
     let under = λ (a : ℕ). leaves_under (2 * c.n-levels.result) (split_set pairs) (address_at pairs a) in
     ap (λ (z : WalkState). z.leaves) (c.in_ok-new.ensures.ok ∙ c.forget.ensures)
     ∙ ap (λ (z : WalkState). z.leaves) c.put_under-2.ensures

@@ -1,6 +1,6 @@
 use Rattle.std.proofs.Common.{inr, arith}
 use Rattle.run_laws.proofs.RunLemmas.{opens-one, fails-then}
-use Rattle.run_certify.proofs.kept_checking.judge.Goals as goal
+use Rattle.run_certify.proofs.fit_judging.judge.Goals as goal
 
 pub returns-in-Ok-clause-failed : goal.returns-in-Ok-clause-failed
 returns-in-Ok-clause-failed g c is =

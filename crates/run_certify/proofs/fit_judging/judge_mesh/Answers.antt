@@ -2,7 +2,7 @@ use Rattle.std.proofs.Common.{List, ℕ, sym, ◌∙◌}
 use Rattle.roam_edge.specs.Shelf.{bytes_of}
 use Rattle.run_laws.specs.Fit.{fit_text}
 use Rattle.run_certify.proofs.FitJudgingLemmas.{same-judged, differs-judged}
-use Rattle.run_certify.proofs.fit_checking.judge_mesh.Goals as goal
+use Rattle.run_certify.proofs.fit_judging.judge_mesh.Goals as goal
 
 pub returns-in-Ok-None-clause-ok : goal.returns-in-Ok-None-clause-ok
 returns-in-Ok-None-clause-ok g c files told before =
