@@ -21,13 +21,13 @@ def level(a):
 
 
 class Terrain:
-    """Heights, camera, planes and budget in force, and the triangles of the grid by address."""
+    """Heights, camera, planes, threshold and budget in force, and the triangles of the grid by address."""
 
     def __init__(self, grid, spacing, budget):
         self.n, self.maxval, self.heights = grid
         self.spacing, self.budget = spacing, budget
         self.m = m = 2 ** self.n
-        self.camera, self.planes = (0, 0, 0), []
+        self.camera, self.planes, self.threshold = (0, 0, 0), [], 0
         self.finest = 2 ** (2 * self.n + 1)  # the least address of the finest level
         self.addresses = range(2, 2 * self.finest)
         self.splittable = range(2, self.finest)
@@ -93,7 +93,8 @@ class Terrain:
         if thickness == 0 or self.planes and self.mark(a) == "outside":
             return 0
         gaps = [max(low - at, at - high, 0) for (low, high), at in zip(self.box(a), self.camera)]
-        return 65536 * thickness // (math.isqrt(sum(gap * gap for gap in gaps)) + 1)
+        ratio = 65536 * thickness // (math.isqrt(sum(gap * gap for gap in gaps)) + 1)
+        return ratio if ratio > self.threshold else 0
 
     def priorities(self):
         """By address; the first two places are those of no triangle."""

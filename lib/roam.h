@@ -113,6 +113,14 @@ int32_t roam_look(roam_handle *h, const roam_plane *planes, size_t count);
  * too. It answers ROAM_WORN itself behind more than 2^60 evaluations, splits or merges: at a million a second, in 36,000 years. */
 int32_t roam_renew(roam_handle *h);
 
+/* Puts a threshold in force: a triangle whose ratio, 65,536 times its thickness (in half units of height) over its distance and 1,
+ * is no more than that has priority 0, and is split only where a neighbour forces it. An engine opens with 0, which changes nothing.
+ * Where a frame's `worst` is 0, its mesh has the fewest triangles of all whose ratios are at most the threshold; else the budget is
+ * not enough for that. A point of the terrain in a triangle of ratio t is off by less than (t + 1) (d + 1) / 131,072 units of height,
+ * d the distance: for p pixels take 262,144 p tan(f / 2) / rows, f the field of view from bottom to top, rows those of the screen.
+ * A change asks anew for every triangle. */
+int32_t roam_threshold(roam_handle *h, uint64_t threshold);
+
 /* Puts a budget in force, from 2 to the one that the engine was opened with. */
 int32_t roam_budget(roam_handle *h, uint32_t triangles);
 
@@ -157,7 +165,7 @@ int32_t roam_deviation(roam_handle *h, roam_deviation_note *out);
  * bytes a grid point, and 16 a triangle of a budget that is a bound, and gives them back. The engine is as before. */
 int32_t roam_fit(roam_handle *h, uint32_t thousandths, uint32_t budget, uint32_t *out, size_t places, roam_fit_note *told);
 
-/* Writes the certificate of the best mesh from (x, y, z), without planes and of the budget in force, as text: that of
+/* Writes the certificate of the best mesh from (x, y, z), without planes, at threshold 0 and of the budget in force, as text: that of
  * `roam certify make` for the same grid, camera, budget and spacing, which `roam certify check` or a checker of your own can check.
  * 48 + 30 times the budget bytes always suffice. Takes the memory and the time of an engine of this grid and budget and its first
  * frame, and gives the memory back. The engine is as before. */

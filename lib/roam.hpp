@@ -72,6 +72,15 @@ inline std::array<roam_plane, 4> frustum(int64_t x, int64_t y, int64_t z, double
     return planes;
 }
 
+/// The threshold of an error of so many pixels, for engine::threshold: on a screen of `rows` pixels that shows `degrees` from bottom to
+/// top. The picture of a height error is so high where it is in the middle of the picture, and seen from the side.
+/// 0 where a number is out of range: the degrees from 0 to 170, or rows that are not positive.
+inline uint64_t pixel_threshold(double pixels, double degrees, double rows) noexcept {
+    const double ratio = 262144 * pixels * std::tan(degrees / 2 * std::acos(-1.0) / 180) / rows;
+    const bool seen = pixels > 0 && degrees > 0 && degrees <= 170 && rows > 0;
+    return !seen || !(ratio >= 1) ? 0 : ratio < 1e15 ? static_cast<uint64_t>(ratio) : uint64_t{1000000000000000};
+}
+
 /// Owns what a handle of this kind owns, or nothing.
 template <class Handle, int32_t (*close_of)(Handle *)> class owner {
 protected:
@@ -144,6 +153,7 @@ public:
     template <class Planes> result look(const Planes &planes) { return look(std::data(planes), std::size(planes)); }
     result renew() { return told(roam_renew(&h), "renew"); }
     result clear_planes() { return told(roam_clear_planes(&h), "clear_planes"); }
+    result threshold(uint64_t ratio) { return told(roam_threshold(&h, ratio), "threshold"); } // pixel_threshold gives one
     result budget(uint32_t triangles) { return told(roam_budget(&h, triangles), "budget"); }
     result set(uint32_t x, uint32_t y, uint16_t height) { return told(roam_set(&h, x, y, height), "set"); }
     result raise(uint32_t x0, uint32_t y0, uint32_t x1, uint32_t y1, int32_t dz) {

@@ -39,6 +39,13 @@ static class Frames {
         Must(note.Triangles <= 5 && note.Inside + note.Cut + note.Outside == note.Triangles, "a frame after changes");
         State state = engine.State();
         Must((ulong)state.Side == 3 && state.Frames == 2 && state.Most == 8 && state.Budget == 5 && state.Planes == 1 && state.Way == 170, "the state");
+        using (var good = new Engine(hill, 8, 10)) { // thickness 200 half units at distance 50: 65536 * 200 / 51 = 257003
+            good.Camera(10, 10, 150);
+            good.Threshold(257003);
+            Must(good.Frame().Triangles == 2, "what is good enough is split");
+            good.Threshold(257002);
+            Must(good.Frame().Triangles == 4, "what is not good enough is whole");
+        }
         Must(AnswerOf(() => new Engine(new ushort[8], 8, 10)) == Answer.BadGrid, "a grid of eight");
         Must(AnswerOf(() => new Engine(new ushort[0], 8, 10)) == Answer.BadGrid, "an empty grid");
         Must(AnswerOf(() => engine.Indices(new uint[0])) == Answer.NoRoom, "no room");

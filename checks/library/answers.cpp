@@ -79,6 +79,25 @@ static int view() {
     return 0;
 }
 
+// The hill of one point from (10, 10, 150): thickness 200 half units at distance 50, 65536 * 200 / 51 = 257003. A field of view of
+// 60 degrees over 1080 rows: 262144 * 0.57735 / 1080 = 140.1.
+static int thresholds() {
+    const uint16_t hill[9] = {0, 0, 0, 0, 100, 0, 0, 0, 0};
+    roam_frame_note note;
+    roam::engine one;
+    if (one.threshold(7) != ROAM_IS_EMPTY) return fail("a threshold of no engine");
+    if (one.open(hill, 9, 8, 10) != ROAM_OK || one.camera(10, 10, 150) != ROAM_OK) return fail("a hill");
+    if (one.threshold(257003) != ROAM_OK || one.frame(note) != ROAM_OK || note.triangles != 2 || note.worst != 0)
+        return fail("what is good enough is split");
+    if (one.threshold(257002) != ROAM_OK || one.frame(note) != ROAM_OK || note.triangles != 4) return fail("it is not good enough");
+    if (roam::pixel_threshold(1, 60, 1080) != 140 || roam::pixel_threshold(2, 60, 1080) != 280) return fail("an error in pixels");
+    const double nan = std::nan("");
+    for (const uint64_t none : {roam::pixel_threshold(nan, 60, 1080), roam::pixel_threshold(1, nan, 1080), roam::pixel_threshold(1, 60, 0),
+                                roam::pixel_threshold(0, 60, 1080), roam::pixel_threshold(1, 171, 1080)})
+        if (none != 0) return fail("a threshold of numbers out of range");
+    return 0;
+}
+
 int main() {
     const uint16_t heights[9] = {0, 0, 0, 0, 100, 0, 0, 0, 0};
     uint32_t out[12];
@@ -114,5 +133,5 @@ int main() {
     if (terrain.open(std::span<const uint16_t>(heights).first(9), 8, 10) != ROAM_OK || terrain.frame(note) != ROAM_OK || note.triangles != 4)
         return fail("a span");
 #endif
-    return tiles() || view();
+    return tiles() || view() || thresholds();
 }

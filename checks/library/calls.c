@@ -4,9 +4,9 @@
  * usage: calls SEED COUNT       until each call was made COUNT times
  *        calls ends             each side, each allocation refused in turn, and an engine that is worn
  * With -DFUZZER the numbers are those of libFuzzer. Fitters and mosaics have a program of their own, tiles.c. */
-enum { OPEN, CLOSE, CAMERA, ADD_PLANE, CLEAR_PLANES, BUDGET, SET, RAISE, FRAME, INDICES, LEAVES, CHANGED, CHANGES, STATE, POSITIONS, COMPACT, STRIP, DEVIATION, FIT, CERTIFICATE, LOOK, RENEW, CALLS };
+enum { OPEN, CLOSE, CAMERA, ADD_PLANE, CLEAR_PLANES, BUDGET, SET, RAISE, FRAME, INDICES, LEAVES, CHANGED, CHANGES, STATE, POSITIONS, COMPACT, STRIP, DEVIATION, FIT, CERTIFICATE, LOOK, RENEW, THRESHOLD, CALLS };
 static const char *const names[CALLS] = { "open", "close", "camera", "add_plane", "clear_planes", "budget", "set", "raise", "frame", "indices", "leaves", "changed", "changes", "state",
-    "positions", "compact", "strip", "deviation", "fit", "certificate", "look", "renew" };
+    "positions", "compact", "strip", "deviation", "fit", "certificate", "look", "renew", "threshold" };
 #include "random_calls.h"
 
 enum { SIDE = 33, POINTS = SIDE * SIDE, MOST = 2 * (SIDE - 1) * (SIDE - 1), ENGINES = 3, ROOM = 3 * MOST + 8 };
@@ -16,6 +16,7 @@ static struct engine {
     bool is_open;
     roam_state_note state;
     int64_t camera[3];
+    uint64_t threshold;
     uint16_t height[POINTS]; /* as they are, where the grid has no more */
     uint32_t spacing, triangles, vertices, before_count, before[MOST]; /* of the last frame, and the leaves that were written last */
     uint32_t old_count, old[MOST], now_count, now[MOST]; /* the leaves before and after the last frame */
@@ -53,6 +54,7 @@ static void do_open(struct engine *e, const uint16_t *from, size_t count, uint32
     if (answer == ROAM_OK) {
         memset(&e->state, 0, sizeof e->state);
         memset(e->camera, 0, sizeof e->camera);
+        e->threshold = 0;
         e->state.side = ((size_t)1 << level_of(count)) + 1;
         e->state.most = e->state.budget = budget;
         e->is_open = true, e->triangles = 2, e->vertices = 4, e->before_count = 0, e->spacing = spacing;
@@ -120,6 +122,13 @@ static void do_clear_planes(struct engine *e) {
     test_state(e);
 }
 
+static void do_threshold(struct engine *e, uint64_t threshold) {
+    call = THRESHOLD;
+    answers(roam_threshold(&e->handle, threshold), e->is_open ? ROAM_OK : ROAM_IS_EMPTY);
+    if (e->is_open) e->threshold = threshold;
+    test_state(e);
+}
+
 static void do_budget(struct engine *e, uint32_t budget) {
     call = BUDGET;
     bool is_budget = 2 <= budget && budget <= e->state.most;
@@ -158,7 +167,7 @@ static void do_frame(struct engine *e) {
     if (wanted == ROAM_OK) {
         must(2 <= it.triangles && it.triangles <= e->state.budget, "the mesh is not within the budget");
         must(it.triangles <= 2 * (e->state.side - 1) * (e->state.side - 1), "more triangles than the grid has");
-        must(it.blocking == 0 ? it.worst == 0 && it.need == 0 : it.worst > 0 && it.need > e->state.budget, "the certificate");
+        must(it.blocking == 0 ? it.worst == 0 && it.need == 0 : it.worst > e->threshold && it.need > e->state.budget, "the certificate");
         must(it.triangles - e->triangles == it.splits - it.merges, "splits and merges do not lead to the mesh");
         must(it.inside + it.cut + it.outside == it.triangles && (e->state.planes > 0 || it.inside == it.triangles), "the counts by planes");
         must(it.spare == 0, "spare");
@@ -557,6 +566,7 @@ static void step(void) {
         break;
     }
     case RENEW: do_renew(e); break;
+    case THRESHOLD: do_threshold(e, below(4) == 0 ? 0 : word() >> below(64)); break;
     default: test_state(e); break;
     }
 }

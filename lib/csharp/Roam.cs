@@ -71,6 +71,7 @@ namespace Roam {
         [DllImport(Library)] public static extern int roam_clear_planes(ref Handle h);
         [DllImport(Library)] public static extern int roam_look(ref Handle h, Plane[] planes, UIntPtr count);
         [DllImport(Library)] public static extern int roam_renew(ref Handle h);
+        [DllImport(Library)] public static extern int roam_threshold(ref Handle h, ulong threshold);
         [DllImport(Library)] public static extern int roam_budget(ref Handle h, uint triangles);
         [DllImport(Library)] public static extern int roam_set(ref Handle h, uint x, uint y, ushort height);
         [DllImport(Library)] public static extern int roam_raise(ref Handle h, uint x0, uint y0, uint x1, uint y1, int dz);
@@ -128,6 +129,7 @@ namespace Roam {
         public void ClearPlanes() { Calls.Must(Calls.roam_clear_planes(ref h)); }
         public void Look(params Plane[] planes) { Calls.Must(Calls.roam_look(ref h, Calls.There(planes, "planes"), (UIntPtr)planes.Length)); }
         public void Renew() { Calls.Must(Calls.roam_renew(ref h)); }
+        public void Threshold(ulong ratio) { Calls.Must(Calls.roam_threshold(ref h, ratio)); }
         public void Budget(uint triangles) { Calls.Must(Calls.roam_budget(ref h, triangles)); }
         public void Set(uint x, uint y, ushort height) { Calls.Must(Calls.roam_set(ref h, x, y, height)); }
         public void Raise(uint x0, uint y0, uint x1, uint y1, int dz) { Calls.Must(Calls.roam_raise(ref h, x0, y0, x1, y1, dz)); }

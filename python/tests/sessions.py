@@ -8,7 +8,7 @@ from fractions import Fraction
 
 import calfrewin
 import certifying
-from frames import View, forced, frame_of, leaves_of, run_of_steps, vertices_of
+from frames import View, forced, frame_of, least_split, leaves_of, run_of_steps, vertices_of
 from scripts import carry_out
 from strips import deviation, strip_of
 from terrain import Terrain
@@ -59,7 +59,7 @@ class Session:
     def change(self):
         """One change, of the engine and of the terrain."""
         draw = self.draw
-        kind = draw.choice([b"camera", b"camera", b"set", b"raise", b"plane", b"noplanes", b"look", b"budget"])
+        kind = draw.choice([b"camera", b"camera", b"set", b"raise", b"plane", b"noplanes", b"look", b"budget", b"threshold"])
         if kind == b"camera":
             values = [draw.randint(-self.reach, self.reach) for _ in range(3)]
             if draw.randrange(9) == 0:
@@ -85,6 +85,12 @@ class Session:
             for plane in planes:
                 carry_out(self.terrain, b"plane", plane)
             return
+        elif kind == b"threshold":
+            self.terrain.threshold = 0
+            ratio = draw.choice(self.terrain.priorities())
+            self.terrain.threshold = draw.choice([0, 2 ** 64 - 1, ratio, max(ratio - 1, 0)])
+            self.engine.threshold(self.terrain.threshold)
+            return
         elif kind == b"budget":
             values = [draw.randint(2, self.most)]
             self.engine.budget(*values)
@@ -109,15 +115,24 @@ class Session:
 
     def certify(self):
         """A certificate from some place, and what is wrong with it."""
-        terrain, (camera, planes) = self.terrain, (self.terrain.camera, self.terrain.planes)
+        terrain = self.terrain
+        before = terrain.camera, terrain.planes, terrain.threshold
         place = tuple(self.draw.randint(-self.reach, self.reach) for _ in range(3))
         text = self.engine.certificate(*place)
-        terrain.camera, terrain.planes = place, []
+        terrain.camera, terrain.planes, terrain.threshold = place, [], 0
         told, leaves, reasons = certifying.read(text.encode(), terrain)
         assert told == place, "the certificate is of another place"
         assert leaves == leaves_of(frame_of(terrain, View(terrain))[0]), "the certificate is of another mesh"
         certifying.check(terrain, leaves, reasons)
-        terrain.camera, terrain.planes = camera, planes
+        terrain.camera, terrain.planes, terrain.threshold = before
+
+    def good_enough(self):
+        """The least closed set with all ratios above the threshold."""
+        terrain, threshold = self.terrain, self.terrain.threshold
+        terrain.threshold = 0
+        split = least_split(terrain, View(terrain), threshold)
+        terrain.threshold = threshold
+        return split
 
     def frame(self):
         """One frame, and what is wrong with it."""
@@ -127,6 +142,8 @@ class Session:
         reached, splits, merges = run_of_steps(terrain, view, self.before)
         assert reached == split, "the frame steps lead elsewhere than to the frame of the budget"
         leaves = leaves_of(split)
+        if note.worst == 0:
+            assert split == self.good_enough(), "the mesh has not the fewest triangles for the threshold"
         marks = [terrain.mark(a) for a in leaves]
         counts = (marks.count(kind) for kind in ("inside", "cut", "outside"))
         wanted = calfrewin.Note(view.worst(leaves), len(leaves), len(vertices_of(terrain, leaves)), splits, merges,

@@ -20,6 +20,8 @@ pub type Marks = (u32, u32, u32);
 enum Step {
     /// The state changes as by this line of a script.
     Change(Line),
+    /// Another threshold is in force.
+    Threshold(u64),
     /// A frame tells this.
     Frame(Told),
     /// A frame splits and merges nothing, and so many triangles are inside, cut and outside.
@@ -132,6 +134,10 @@ fn goes(engine: &mut Engine, step: Step) -> bool {
     let before = engine.evaluations();
     match step {
         Step::Change(line) => change(engine, line),
+        Step::Threshold(ratio) => {
+            engine.threshold(ratio);
+            engine.threshold_in_force() == ratio
+        }
         Step::Frame(wanted) => frame(engine).is_some_and(|(told, _marks)| told == wanted),
         Step::Still(inside, cut, outside) => frame(engine).is_some_and(|(told, marks)| {
             (told.3, told.4) == (0, 0) && marks == (inside, cut, outside)
@@ -323,6 +329,38 @@ fn a_raise_reaches_what_only_its_border_meets(rt: HostRuntime) {
     ];
     assert_eq!(rt;
         steps_that_go(rt.alloc(), 2, 12, &steps),
+        Some((steps.len(), Some(true)))
+    );
+}
+
+// The ratios are 3932160 of 3, 1966080 of 7, and 1310720 of 2 and 4; the split of 3 forces that of 2.
+#[test]
+fn what_is_at_most_the_threshold_is_split_only_where_a_neighbour_forces_it(rt: HostRuntime) {
+    let steps = [
+        set(1, 0, 10),
+        set(2, 1, 30),
+        Step::Frame((6, 7, 0, 4, 0, None)),
+        Step::Threshold(1310720),
+        Step::Frame((5, 6, 0, 0, 1, None)),
+        Step::Threshold(1310719),
+        Step::Frame((6, 7, 0, 1, 0, None)),
+        Step::Threshold(1966080),
+        Step::Frame((4, 5, 0, 0, 2, None)),
+        Step::Threshold(3932159),
+        Step::Frame((4, 5, 0, 0, 0, None)),
+        Step::Threshold(3932160),
+        Step::Frame((2, 4, 0, 0, 2, None)),
+        Step::Threshold(3932160),
+        Step::Cheap,
+        Step::Change(Line::Budget { n: 3 }),
+        Step::Threshold(1966080),
+        Step::Frame((2, 4, 3932160, 0, 0, Some((3, 4)))),
+        Step::Change(Line::Budget { n: 8 }),
+        Step::Threshold(0),
+        Step::Frame((6, 7, 0, 4, 0, None)),
+    ];
+    assert_eq!(rt;
+        steps_that_go(rt.alloc(), 1, 8, &steps),
         Some((steps.len(), Some(true)))
     );
 }

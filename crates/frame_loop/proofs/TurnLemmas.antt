@@ -8,7 +8,7 @@ use Rattle.mesh_defs.specs.Triangle.{IsSplittable, level_of}
 use Rattle.mesh_defs.specs.BoundingBox.{box_of, distance_of}
 use Rattle.mesh_defs.specs.Thickness.{thickness_of}
 use Rattle.mesh_defs.specs.View.{ViewPlane}
-use Rattle.mesh_defs.specs.Priority.{seen_ratio, priority_of}
+use Rattle.mesh_defs.specs.Priority.{above, seen_ratio, priority_of}
 use Rattle.bintree_laws.proofs.LevelLemmas.{level_of-parent}
 use Rattle.mesh_laws.proofs.ConformityLemmas.{IsUnder, self, below}
 use Rattle.mesh_laws.proofs.SizeLemmas.{under-true}
@@ -92,8 +92,9 @@ pub IsSamePriority-unturned : (o : SceneState) (planes : List ViewPlane) (a : â„
     IsSamePriority o (seen_within planes o) a
 unfolding priority_of
 IsSamePriority-unturned o planes a none to =
-    seen_same (mark_under o o.view.planes a) (mark_under o planes a) (thickness_of o.grid.n o.grid.heights a)
-    (distance_of (box_of o.grid.n o.grid.heights o.view.spacing a) to) none
+    ap (above o.view.threshold)
+    (seen_same (mark_under o o.view.planes a) (mark_under o planes a) (thickness_of o.grid.n o.grid.heights a)
+    (distance_of (box_of o.grid.n o.grid.heights o.view.spacing a) to) none)
 
 -- ---- engines
 

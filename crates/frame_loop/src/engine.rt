@@ -200,6 +200,13 @@ impl Engine {
         self.budget
     }
 
+    /// The threshold in force.
+    pub fn threshold_in_force(&self) -> u64
+        ensures { result ≡ self.now.state.view.threshold }
+    {
+        self.outlook.threshold
+    }
+
     /// How many view planes are in force.
     pub fn planes(&self) -> u32
         ensures { result ≡ length self.now.state.view.planes }

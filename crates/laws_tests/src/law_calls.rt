@@ -9,6 +9,11 @@ fn laws_of_texts_are_calls() {
 }
 
 #[test]
+fn laws_of_thresholds_are_calls() {
+    mesh_defs::threshold_laws();
+}
+
+#[test]
 fn laws_of_the_bintree_are_calls() {
     bintree_laws::level_laws();
     bintree_laws::corner_laws();

@@ -77,7 +77,7 @@ const FORCED_MERGES: u32 = 2;
 /// The second frame's priorities are those of the peaks seen from (4, 4, 0), with spacing 1 and no plane.
 fn the_priorities_are_those_of_two_peaks()
     ensures { let camera : CameraAt = record { x = pos 4; y = pos 4; z = pos 0 } in
-        let view : View = record { camera = camera; spacing = 1; planes = [] } in
+        let view : View = record { camera = camera; spacing = 1; planes = []; threshold = 0 } in
         All (λ a. told_by FROM_UPPER_RIGHT a ≡ priority_of 2 TWO_PEAKS view a) SPLITTABLE }
 {}
 

@@ -225,28 +225,28 @@ fn roots_are_rounded_down()
 
 fn priority_is_thickness_over_distance()
     ensures in_the_box { let camera : CameraAt = record { x = pos 0; y = pos 0; z = pos 0 } in
-        let view : View = record { camera = camera; spacing = 1; planes = [] } in
+        let view : View = record { camera = camera; spacing = 1; planes = []; threshold = 0 } in
         priority_of 1 MIDDLE view 2 ≡ 1310720 }
     ensures in_the_other_box { let camera : CameraAt = record { x = pos 0; y = pos 0; z = pos 0 } in
-        let view : View = record { camera = camera; spacing = 1; planes = [] } in
+        let view : View = record { camera = camera; spacing = 1; planes = []; threshold = 0 } in
         priority_of 1 MIDDLE view 3 ≡ 1310720 }
     ensures finest { let camera : CameraAt = record { x = pos 0; y = pos 0; z = pos 0 } in
-        let view : View = record { camera = camera; spacing = 1; planes = [] } in
+        let view : View = record { camera = camera; spacing = 1; planes = []; threshold = 0 } in
         priority_of 1 MIDDLE view 8 ≡ 0 }
     ensures five_away { let camera : CameraAt = record { x = negsuc 2; y = negsuc 3; z = pos 0 } in
-        let view : View = record { camera = camera; spacing = 1; planes = [] } in
+        let view : View = record { camera = camera; spacing = 1; planes = []; threshold = 0 } in
         priority_of 1 MIDDLE view 2 ≡ 218453 }
     ensures thirteen_away { let camera : CameraAt = record { x = negsuc 2; y = negsuc 3; z = negsuc 11 } in
-        let view : View = record { camera = camera; spacing = 1; planes = [] } in
+        let view : View = record { camera = camera; spacing = 1; planes = []; threshold = 0 } in
         priority_of 1 MIDDLE view 2 ≡ 93622 }
     ensures spaced { let camera : CameraAt = record { x = negsuc 28; y = pos 0; z = pos 0 } in
-        let view : View = record { camera = camera; spacing = 30; planes = [] } in
+        let view : View = record { camera = camera; spacing = 30; planes = []; threshold = 0 } in
         priority_of 1 MIDDLE view 2 ≡ 43690 }
     ensures upper_half { let camera : CameraAt = record { x = pos 0; y = pos 0; z = pos 0 } in
-        let view : View = record { camera = camera; spacing = 1; planes = [] } in
+        let view : View = record { camera = camera; spacing = 1; planes = []; threshold = 0 } in
         priority_of 2 TWO_CORNERS view 6 ≡ 436906 }
     ensures lower_half { let camera : CameraAt = record { x = pos 4; y = pos 4; z = pos 0 } in
-        let view : View = record { camera = camera; spacing = 1; planes = [] } in
+        let view : View = record { camera = camera; spacing = 1; planes = []; threshold = 0 } in
         priority_of 2 TWO_CORNERS view 4 ≡ 436906 }
 {}
 
@@ -254,115 +254,115 @@ fn priority_is_thickness_over_distance()
 /// 3 is split too, but by force alone.
 fn a_small_priority_rounds_down_to_zero()
     ensures far_2 { let camera : CameraAt = record { x = negsuc 65535; y = pos 0; z = pos 0 } in
-        let view : View = record { camera = camera; spacing = 1; planes = [] } in
+        let view : View = record { camera = camera; spacing = 1; planes = []; threshold = 0 } in
         priority_of 1 LOWER_LEFT view 2 ≡ 0 }
     ensures far_4 { let camera : CameraAt = record { x = negsuc 65535; y = pos 0; z = pos 0 } in
-        let view : View = record { camera = camera; spacing = 1; planes = [] } in
+        let view : View = record { camera = camera; spacing = 1; planes = []; threshold = 0 } in
         priority_of 1 LOWER_LEFT view 4 ≡ 0 }
     ensures far_5 { let camera : CameraAt = record { x = negsuc 65535; y = pos 0; z = pos 0 } in
-        let view : View = record { camera = camera; spacing = 1; planes = [] } in
+        let view : View = record { camera = camera; spacing = 1; planes = []; threshold = 0 } in
         priority_of 1 LOWER_LEFT view 5 ≡ 0 }
     ensures near_2 { let camera : CameraAt = record { x = negsuc 65534; y = pos 0; z = pos 0 } in
-        let view : View = record { camera = camera; spacing = 1; planes = [] } in
+        let view : View = record { camera = camera; spacing = 1; planes = []; threshold = 0 } in
         priority_of 1 LOWER_LEFT view 2 ≡ 1 }
     ensures near_4 { let camera : CameraAt = record { x = negsuc 65534; y = pos 0; z = pos 0 } in
-        let view : View = record { camera = camera; spacing = 1; planes = [] } in
+        let view : View = record { camera = camera; spacing = 1; planes = []; threshold = 0 } in
         priority_of 1 LOWER_LEFT view 4 ≡ 1 }
     ensures near_5 { let camera : CameraAt = record { x = negsuc 65534; y = pos 0; z = pos 0 } in
-        let view : View = record { camera = camera; spacing = 1; planes = [] } in
+        let view : View = record { camera = camera; spacing = 1; planes = []; threshold = 0 } in
         priority_of 1 LOWER_LEFT view 5 ≡ 1 }
     ensures near_3 { let camera : CameraAt = record { x = negsuc 65534; y = pos 0; z = pos 0 } in
-        let view : View = record { camera = camera; spacing = 1; planes = [] } in
+        let view : View = record { camera = camera; spacing = 1; planes = []; threshold = 0 } in
         priority_of 1 LOWER_LEFT view 3 ≡ 0 }
     ensures near_6 { let camera : CameraAt = record { x = negsuc 65534; y = pos 0; z = pos 0 } in
-        let view : View = record { camera = camera; spacing = 1; planes = [] } in
+        let view : View = record { camera = camera; spacing = 1; planes = []; threshold = 0 } in
         priority_of 1 LOWER_LEFT view 6 ≡ 0 }
     ensures near_7 { let camera : CameraAt = record { x = negsuc 65534; y = pos 0; z = pos 0 } in
-        let view : View = record { camera = camera; spacing = 1; planes = [] } in
+        let view : View = record { camera = camera; spacing = 1; planes = []; threshold = 0 } in
         priority_of 1 LOWER_LEFT view 7 ≡ 0 }
 {}
 
 fn worst_is_the_greatest_priority()
     ensures unsplit { let camera : CameraAt = record { x = pos 0; y = pos 0; z = pos 0 } in
-        let view : View = record { camera = camera; spacing = 1; planes = [] } in
+        let view : View = record { camera = camera; spacing = 1; planes = []; threshold = 0 } in
         worst_of (priority_of 1 MIDDLE view) (2 ∷ 3 ∷ []) ≡ 1310720 }
     ensures split { let camera : CameraAt = record { x = pos 0; y = pos 0; z = pos 0 } in
-        let view : View = record { camera = camera; spacing = 1; planes = [] } in
+        let view : View = record { camera = camera; spacing = 1; planes = []; threshold = 0 } in
         worst_of (priority_of 1 MIDDLE view) (4 ∷ 5 ∷ 6 ∷ 7 ∷ []) ≡ 0 }
     ensures one_short { let camera : CameraAt = record { x = pos 0; y = pos 0; z = pos 0 } in
-        let view : View = record { camera = camera; spacing = 1; planes = [] } in
+        let view : View = record { camera = camera; spacing = 1; planes = []; threshold = 0 } in
         worst_of (priority_of 2 CORNER view) EIGHT_LEAVES ≡ 1310720 }
     ensures nine { let camera : CameraAt = record { x = pos 0; y = pos 0; z = pos 0 } in
-        let view : View = record { camera = camera; spacing = 1; planes = [] } in
+        let view : View = record { camera = camera; spacing = 1; planes = []; threshold = 0 } in
         worst_of (priority_of 2 CORNER view) LEAVES ≡ 0 }
     ensures other_corner { let camera : CameraAt = record { x = pos 0; y = pos 0; z = pos 0 } in
-        let view : View = record { camera = camera; spacing = 1; planes = [] } in
+        let view : View = record { camera = camera; spacing = 1; planes = []; threshold = 0 } in
         worst_of (priority_of 2 TWO_CORNERS view) LEAVES ≡ 436906 }
     ensures moved { let camera : CameraAt = record { x = pos 4; y = pos 4; z = pos 0 } in
-        let view : View = record { camera = camera; spacing = 1; planes = [] } in
+        let view : View = record { camera = camera; spacing = 1; planes = []; threshold = 0 } in
         worst_of (priority_of 2 TWO_CORNERS view) OTHER_LEAVES ≡ 436906 }
 {}
 
 fn marks_are_decided_by_the_corners_of_the_box()
     ensures no_plane { let camera : CameraAt = record { x = pos 0; y = pos 0; z = pos 0 } in
-        let view : View = record { camera = camera; spacing = 1; planes = [] } in
+        let view : View = record { camera = camera; spacing = 1; planes = []; threshold = 0 } in
         triangle_mark 1 MIDDLE view.spacing view.planes 2 ≡ Mark.Inside }
     ensures beyond_2 { let camera : CameraAt = record { x = pos 0; y = pos 0; z = pos 0 } in
         let planes : List ViewPlane = record { a = pos 1; b = pos 0; c = pos 0; d = negsuc 2 } ∷ [] in
-        let view : View = record { camera = camera; spacing = 1; planes = planes } in
+        let view : View = record { camera = camera; spacing = 1; planes = planes; threshold = 0 } in
         triangle_mark 1 MIDDLE view.spacing view.planes 2 ≡ Mark.Outside }
     ensures beyond_3 { let camera : CameraAt = record { x = pos 0; y = pos 0; z = pos 0 } in
         let planes : List ViewPlane = record { a = pos 1; b = pos 0; c = pos 0; d = negsuc 2 } ∷ [] in
-        let view : View = record { camera = camera; spacing = 1; planes = planes } in
+        let view : View = record { camera = camera; spacing = 1; planes = planes; threshold = 0 } in
         triangle_mark 1 MIDDLE view.spacing view.planes 3 ≡ Mark.Outside }
     ensures edge_4 { let camera : CameraAt = record { x = pos 0; y = pos 0; z = pos 0 } in
         let planes : List ViewPlane = record { a = pos 1; b = pos 0; c = pos 0; d = negsuc 1 } ∷ [] in
-        let view : View = record { camera = camera; spacing = 1; planes = planes } in
+        let view : View = record { camera = camera; spacing = 1; planes = planes; threshold = 0 } in
         triangle_mark 1 MIDDLE view.spacing view.planes 4 ≡ Mark.Cut }
     ensures edge_5 { let camera : CameraAt = record { x = pos 0; y = pos 0; z = pos 0 } in
         let planes : List ViewPlane = record { a = pos 1; b = pos 0; c = pos 0; d = negsuc 1 } ∷ [] in
-        let view : View = record { camera = camera; spacing = 1; planes = planes } in
+        let view : View = record { camera = camera; spacing = 1; planes = planes; threshold = 0 } in
         triangle_mark 1 MIDDLE view.spacing view.planes 5 ≡ Mark.Outside }
     ensures edge_6 { let camera : CameraAt = record { x = pos 0; y = pos 0; z = pos 0 } in
         let planes : List ViewPlane = record { a = pos 1; b = pos 0; c = pos 0; d = negsuc 1 } ∷ [] in
-        let view : View = record { camera = camera; spacing = 1; planes = planes } in
+        let view : View = record { camera = camera; spacing = 1; planes = planes; threshold = 0 } in
         triangle_mark 1 MIDDLE view.spacing view.planes 6 ≡ Mark.Cut }
     ensures edge_7 { let camera : CameraAt = record { x = pos 0; y = pos 0; z = pos 0 } in
         let planes : List ViewPlane = record { a = pos 1; b = pos 0; c = pos 0; d = negsuc 1 } ∷ [] in
-        let view : View = record { camera = camera; spacing = 1; planes = planes } in
+        let view : View = record { camera = camera; spacing = 1; planes = planes; threshold = 0 } in
         triangle_mark 1 MIDDLE view.spacing view.planes 7 ≡ Mark.Cut }
     ensures on_the_plane { let camera : CameraAt = record { x = pos 0; y = pos 0; z = pos 0 } in
         let planes : List ViewPlane = record { a = pos 1; b = pos 0; c = pos 0; d = pos 0 } ∷ [] in
-        let view : View = record { camera = camera; spacing = 1; planes = planes } in
+        let view : View = record { camera = camera; spacing = 1; planes = planes; threshold = 0 } in
         triangle_mark 1 MIDDLE view.spacing view.planes 2 ≡ Mark.Inside }
     ensures one_of_two { let camera : CameraAt = record { x = pos 0; y = pos 0; z = pos 0 } in
         let here : ViewPlane = record { a = pos 1; b = pos 0; c = pos 0; d = pos 0 } in
         let beyond : ViewPlane = record { a = pos 1; b = pos 0; c = pos 0; d = negsuc 2 } in
         let planes : List ViewPlane = here ∷ beyond ∷ [] in
-        let view : View = record { camera = camera; spacing = 1; planes = planes } in
+        let view : View = record { camera = camera; spacing = 1; planes = planes; threshold = 0 } in
         triangle_mark 1 MIDDLE view.spacing view.planes 2 ≡ Mark.Outside }
     ensures height_counts { let camera : CameraAt = record { x = pos 0; y = pos 0; z = pos 0 } in
         let planes : List ViewPlane = record { a = pos 0; b = pos 0; c = negsuc 0; d = pos 9 } ∷ [] in
-        let view : View = record { camera = camera; spacing = 1; planes = planes } in
+        let view : View = record { camera = camera; spacing = 1; planes = planes; threshold = 0 } in
         triangle_mark 1 MIDDLE view.spacing view.planes 2 ≡ Mark.Cut }
 {}
 
 fn what_is_outside_has_priority_zero()
     ensures outside { let camera : CameraAt = record { x = pos 0; y = pos 0; z = pos 0 } in
         let planes : List ViewPlane = record { a = pos 1; b = pos 0; c = pos 0; d = negsuc 2 } ∷ [] in
-        let view : View = record { camera = camera; spacing = 1; planes = planes } in
+        let view : View = record { camera = camera; spacing = 1; planes = planes; threshold = 0 } in
         priority_of 1 MIDDLE view 2 ≡ 0 }
     ensures cut { let camera : CameraAt = record { x = pos 0; y = pos 0; z = pos 0 } in
         let planes : List ViewPlane = record { a = pos 1; b = pos 0; c = pos 0; d = negsuc 1 } ∷ [] in
-        let view : View = record { camera = camera; spacing = 1; planes = planes } in
+        let view : View = record { camera = camera; spacing = 1; planes = planes; threshold = 0 } in
         priority_of 1 MIDDLE view 2 ≡ 1310720 }
     ensures lower_side { let camera : CameraAt = record { x = pos 0; y = pos 0; z = pos 0 } in
         let planes : List ViewPlane = record { a = pos 0; b = pos 1; c = pos 0; d = negsuc 1 } ∷ [] in
-        let view : View = record { camera = camera; spacing = 1; planes = planes } in
+        let view : View = record { camera = camera; spacing = 1; planes = planes; threshold = 0 } in
         priority_of 1 LOWER_SIDE view 4 ≡ 0 }
     ensures lower_half { let camera : CameraAt = record { x = pos 0; y = pos 0; z = pos 0 } in
         let planes : List ViewPlane = record { a = pos 0; b = pos 1; c = pos 0; d = negsuc 1 } ∷ [] in
-        let view : View = record { camera = camera; spacing = 1; planes = planes } in
+        let view : View = record { camera = camera; spacing = 1; planes = planes; threshold = 0 } in
         priority_of 1 LOWER_SIDE view 2 ≡ 1310720 }
 {}
 
@@ -384,30 +384,30 @@ fn vertices_go_by_row_and_then_by_column()
 
 fn mesh_texts_have_these_bytes()
     ensures flat { let camera : CameraAt = record { x = pos 0; y = pos 0; z = pos 0 } in
-        let view : View = record { camera = camera; spacing = 1; planes = [] } in
+        let view : View = record { camera = camera; spacing = 1; planes = []; threshold = 0 } in
         mesh_text 1 FLAT view.spacing view.planes (2 ∷ 3 ∷ []) ≡ FLAT_TEXT }
     ensures middle { let camera : CameraAt = record { x = pos 0; y = pos 0; z = pos 0 } in
-        let view : View = record { camera = camera; spacing = 1; planes = [] } in
+        let view : View = record { camera = camera; spacing = 1; planes = []; threshold = 0 } in
         mesh_text 1 MIDDLE view.spacing view.planes (4 ∷ 5 ∷ 6 ∷ 7 ∷ []) ≡ MIDDLE_TEXT }
     ensures spaced { let camera : CameraAt = record { x = negsuc 28; y = pos 0; z = pos 0 } in
-        let view : View = record { camera = camera; spacing = 30; planes = [] } in
+        let view : View = record { camera = camera; spacing = 30; planes = []; threshold = 0 } in
         mesh_text 1 MIDDLE view.spacing view.planes (2 ∷ 3 ∷ []) ≡ SPACED_TEXT }
     ensures upper_left { let camera : CameraAt = record { x = pos 0; y = pos 0; z = pos 0 } in
-        let view : View = record { camera = camera; spacing = 1; planes = [] } in
+        let view : View = record { camera = camera; spacing = 1; planes = []; threshold = 0 } in
         mesh_text 1 UPPER_LEFT view.spacing view.planes (2 ∷ 3 ∷ []) ≡ UPPER_LEFT_TEXT }
     ensures corner { let camera : CameraAt = record { x = pos 0; y = pos 0; z = pos 0 } in
-        let view : View = record { camera = camera; spacing = 1; planes = [] } in
+        let view : View = record { camera = camera; spacing = 1; planes = []; threshold = 0 } in
         mesh_text 2 CORNER view.spacing view.planes LEAVES ≡ CORNER_TEXT }
 {}
 
 fn marks_group_the_faces()
     ensures three_groups { let camera : CameraAt = record { x = pos 0; y = pos 0; z = pos 0 } in
         let planes : List ViewPlane = record { a = pos 1; b = pos 0; c = pos 0; d = negsuc 1 } ∷ [] in
-        let view : View = record { camera = camera; spacing = 1; planes = planes } in
+        let view : View = record { camera = camera; spacing = 1; planes = planes; threshold = 0 } in
         mesh_text 1 MIDDLE view.spacing view.planes (4 ∷ 5 ∷ 6 ∷ 7 ∷ []) ≡ MARKED_TEXT }
     ensures one_group { let camera : CameraAt = record { x = pos 0; y = pos 0; z = pos 0 } in
         let planes : List ViewPlane = record { a = pos 1; b = pos 0; c = pos 0; d = pos 0 } ∷ [] in
-        let view : View = record { camera = camera; spacing = 1; planes = planes } in
+        let view : View = record { camera = camera; spacing = 1; planes = planes; threshold = 0 } in
         mesh_text 1 FLAT view.spacing view.planes (2 ∷ 3 ∷ []) ≡ INSIDE_TEXT }
 {}
 
@@ -438,7 +438,7 @@ fn force_adds_no_more_than_parents_and_mates()
 
 fn equal_priorities_rank_by_address()
     ensures ranking { let camera : CameraAt = record { x = pos 0; y = pos 0; z = pos 0 } in
-        let view : View = record { camera = camera; spacing = 1; planes = [] } in
+        let view : View = record { camera = camera; spacing = 1; planes = []; threshold = 0 } in
         IsRanking 2 (priority_of 2 CORNER view) RANKING }
 {}
 
@@ -452,7 +452,7 @@ fn the_budget_decides_the_chosen()
 
 fn greedy_refinement_stops_before_the_jump()
     ensures seven { let camera : CameraAt = record { x = pos 0; y = pos 0; z = pos 0 } in
-        let view : View = record { camera = camera; spacing = 1; planes = [] } in
+        let view : View = record { camera = camera; spacing = 1; planes = []; threshold = 0 } in
         IsGreedyEnd 2 7 (priority_of 2 CORNER view) (among (2 ∷ 3 ∷ 4 ∷ [])) }
 {}
 

@@ -123,6 +123,7 @@ impl Least {
             camera,
             spacing,
             planes,
+            threshold: 0,
         };
         self.frame_of(&scene, tolerance, meter)
     }

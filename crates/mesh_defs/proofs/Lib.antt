@@ -4,5 +4,6 @@ pub mod WorstLemmas
 pub mod TestLemmas
 pub mod PointLemmas
 pub mod DistanceLemmas
+pub mod ThresholdLemmas
 pub mod TextLemmas
 pub mod RootLemmas

@@ -2,7 +2,7 @@
 -- Source: the priority queues of Duchaineau et al., "ROAMing Terrain", IEEE Visualization 1997, the parts on priorities
 -- and on the projected error; thickness over distance stands here in the place of the projected error, in whole
 -- numbers.
-use Rattle.std.specs.Prelude.{ℕ, ◌+◌, ◌*◌, ◌/◌, max, List, [], ◌∷◌}
+use Rattle.std.specs.Prelude.{ℕ, ◌+◌, ◌*◌, ◌/◌, max, nat_lt, if◌then◌else◌, List, [], ◌∷◌}
 use Rattle.mesh_defs.specs.declared.mark.Mark.{Mark}
 use Rattle.mesh_defs.specs.declared.mark.Mark.TheVariants.{Inside, Cut, Outside}
 use Rattle.mesh_defs.specs.Thickness.{thickness_of}
@@ -19,11 +19,15 @@ seen_ratio Inside thickness distance = ratio_of thickness distance
 seen_ratio Cut thickness distance = ratio_of thickness distance
 seen_ratio Outside thickness distance = 0
 
+-- a ratio that is above the threshold, or 0 for what is good enough
+abbrev pub above : ℕ → ℕ → ℕ
+above threshold ratio = if nat_lt threshold ratio then ratio else 0
+
 -- The priority of triangle a in this view.
 unfoldable pub priority_of : ℕ → List ℕ → View → ℕ → ℕ
 priority_of n heights view a =
     let box : BoundingBox = box_of n heights view.spacing a in
-    seen_ratio (mark_of view.planes box) (thickness_of n heights a) (distance_of box view.camera)
+    above view.threshold (seen_ratio (mark_of view.planes box) (thickness_of n heights a) (distance_of box view.camera))
 
 -- the worst of a list: the greatest priority in it, or 0 of an empty one
 abbrev pub worst_of : (ℕ → ℕ) → List ℕ → ℕ

@@ -2,8 +2,8 @@
 -- the view, and the budget in force. Each kind of line that changes it has one function here.
 -- This project's own words.
 -- Words: State, SceneState, scene_of, start_state, with_camera, with_heights, with_height, with_plane, without_planes,
--- with_budget, Area, is_in_area, clamped, raised_at, raised_heights, with_raised, priority_seen, priority_in, text_in,
--- move_length.
+-- with_threshold, with_budget, Area, is_in_area, clamped, raised_at, raised_heights, with_raised, priority_seen,
+-- priority_in, text_in, move_length.
 use Rattle.std.specs.Prelude.{ℕ, ◌+◌, ◌-◌, ◌^◌, ◌/◌, ◌%◌, min, Bool, ◌&&◌, nat_le, if◌then◌else◌, List, [], ◌∷◌, ◌++◌}
 use Rattle.std.specs.Prelude.{map, slice_set, ℤ, pos, ◌+ℤ◌, ◌-ℤ◌, int_lt, unsigned_abs}
 use Rattle.std.specs.List.{enumerate_from}
@@ -13,7 +13,7 @@ use Rattle.mesh_defs.specs.View.{View, ViewPlane, start_view}
 use Rattle.mesh_defs.specs.Priority.{priority_of}
 use Rattle.mesh_defs.specs.MeshText.{mesh_text}
 
--- the height field with its heights as they are, the camera, spacing and planes, and the budget in force
+-- the height field with its heights as they are, the view, and the budget in force
 pub record State : Type 0 where
   pub grid : HeightField
   pub view : View
@@ -51,6 +51,10 @@ with_plane plane state = record state { view = record state.view { planes = stat
 -- no plane is in force
 abbrev pub without_planes : State → State
 without_planes state = record state { view = record state.view { planes = [] } }
+
+-- the threshold is replaced
+abbrev pub with_threshold : ℕ → State → State
+with_threshold t state = record state { view = record state.view { threshold = t } }
 
 -- the budget is replaced
 abbrev pub with_budget : ℕ → State → State

@@ -1,4 +1,4 @@
--- What is seen: the camera, the spacing, and the planes of the view frustum.
+-- What is seen: the camera, the spacing, the planes of the view frustum, and the threshold of priorities.
 -- Source: the view frustum culling of Duchaineau et al., "ROAMing Terrain", IEEE Visualization 1997, the part on view
 -- frustum culling; a mark is decided here by the eight corners of the box alone.
 use Rattle.std.specs.Prelude.{ℕ, Bool, if◌then◌else◌, List, [], ◌∷◌, ℤ, pos, ◌+ℤ◌, ◌*ℤ◌, int_lt}
@@ -14,11 +14,13 @@ pub record ViewPlane : Type 0 where
   pub c : ℤ
   pub d : ℤ
 
--- where the camera is, how many world units a grid step has, and the planes in force
+-- where the camera is, how many world units a grid step has, the planes in force, and the greatest ratio of thickness
+-- and distance that is good enough
 pub record View : Type 0 where
   pub camera : CameraAt
   pub spacing : ℕ
   pub planes : List ViewPlane
+  pub threshold : ℕ
 
 -- the point (x, y, z) is outside the plane
 abbrev pub is_outside : ViewPlane → ℤ → ℤ → ℤ → Bool
@@ -46,6 +48,11 @@ mark_of planes box =
     if list_any (is_all_outside box) planes then Outside
     else (if list_any (is_some_outside box) planes then Cut else Inside)
 
--- the view before the first line of a script: the camera at the origin, and no plane
+-- the view before the first line of a script: the camera at the origin, no plane, and threshold 0
 abbrev pub start_view : ℕ → View
-start_view spacing = record { camera = record { x = pos 0; y = pos 0; z = pos 0 }; spacing = spacing; planes = [] }
+start_view spacing = record {
+  camera = record { x = pos 0; y = pos 0; z = pos 0 };
+  spacing = spacing;
+  planes = [];
+  threshold = 0;
+}

@@ -1,7 +1,8 @@
 //! Laws of the definitions, each a clause of a function with an empty body.
 
-ghost use Rattle.std.specs.Prelude.{ℕ, ◌≡◌, ◌^◌};
+ghost use Rattle.std.specs.Prelude.{ℕ, ◌≡◌, ◌≤◌, ◌↔◌, ◌^◌};
 ghost use Rattle.mesh_defs.specs.BoundingBox.{root_of, IsRoot};
+ghost use Rattle.mesh_defs.specs.Priority.{above};
 ghost use Rattle.mesh_defs.specs.declared.level.TheConstants.{GREATEST_LEVEL};
 ghost use Rattle.mesh_defs.specs.declared.limits.TheConstants.{LEAST_TRIANGLES, MOST_TRIANGLES, GREATEST_HEIGHT};
 ghost use Rattle.mesh_defs.specs.declared.limits.TheConstants.{GREATEST_ERROR, MOST_PLANES, GREATEST_SLOPE};
@@ -11,6 +12,14 @@ ghost use Rattle.mesh_defs.specs.declared.counters.TheConstants.{LONGEST_WAY, MO
 /// The square root by digits is the square root, rounded down.
 pub fn roots()
     ensures { (s : ℕ) → IsRoot s (root_of s) }
+{}
+
+/// A threshold of 0 changes no ratio; above any threshold the order of ratios is kept; and 0 is left of just those that
+/// are good enough.
+pub fn threshold_laws()
+    ensures none { (ratio : ℕ) → above 0 ratio ≡ ratio }
+    ensures order { (threshold less more : ℕ) → less ≤ more → above threshold less ≤ above threshold more }
+    ensures good { (threshold ratio : ℕ) → (above threshold ratio ≡ 0) ↔ (ratio ≤ threshold) }
 {}
 
 /// What each limit is, as a number. It does nothing.

@@ -1,6 +1,6 @@
 -- The least mesh: it is within the tolerance, and each conforming list within the tolerance refines it.
-use Rattle.std.proofs.Common.{◌≡◌, ℕ, ◌*◌, ◌/◌, ◌<◌, ◌≤◌, ◌⊎◌, ◌↔◌, inl, inr, Bool, false, eqb, ltb, IsTrue, max, List}
-use Rattle.std.proofs.Common.{[], ◌∷◌, ◌++◌, length, Contains, refl, sym, ◌∙◌, subst, arith, ⊎_elim, eq-eqb}
+use Rattle.std.proofs.Common.{◌≡◌, ℕ, zero, suc, ◌*◌, ◌/◌, ◌<◌, ◌≤◌, ◌⊎◌, ◌↔◌, inl, inr, Bool, false, eqb, ltb, IsTrue, max, List}
+use Rattle.std.proofs.Common.{[], ◌∷◌, ◌++◌, length, take, Option, Contains, refl, sym, ◌∙◌, subst, arith, ⊎_elim, eq-eqb}
 use Rattle.std.proofs.lemmas.Bool.{cases_lt, both_ways, false≢true, and_parts, and_from, leb-true, le-leb, ltb-true}
 use Rattle.std.proofs.lemmas.Bool.{lt-ltb, eqb-true}
 use Rattle.std.proofs.lemmas.List.Elements.{All-contains}
@@ -12,7 +12,7 @@ use Rattle.bintree_laws.proofs.LevelLemmas.{level_of-parent}
 use Rattle.mesh_laws.specs.Ancestors.{is_above, ancestors_of}
 use Rattle.mesh_laws.proofs.DescentLemmas.{IsAddress-splittable}
 use Rattle.mesh_laws.proofs.ConformityLemmas.{IsUnder, self, below, member_above, IsConforming-leaves_of}
-use Rattle.mesh_defs.proofs.ListLemmas.{IsIn, IsIn-contains, Contains-in, Any-in, count-some, some-count, length-counts}
+use Rattle.mesh_defs.proofs.ListLemmas.{IsIn, IsIn-among, IsIn-contains, Contains-in, Any-in, count-some, some-count, length-counts}
 use Rattle.mesh_laws.proofs.ConverseLemmas.{IsCovered, member_or_covered, above-under, under-above}
 use Rattle.mesh_laws.proofs.ConverseLemmas.{IsClosed-ancestors_of, AreLeaves-ancestors_of}
 use Rattle.mesh_defs.specs.Falling.{IsFalling}
@@ -22,6 +22,8 @@ use Rattle.mesh_laws.proofs.ClosureLemmas.{leaves_of-more, leaves_of-same, IsLea
 use Rattle.mesh_laws.proofs.ClosureLemmas.{IsOuter-leaves_of}
 use Rattle.mesh_laws.proofs.ExistenceLemmas.{least_closed_of}
 use Rattle.mesh_laws.specs.Least.{is_worse, IsLeastList, IsLyingIn, IsLeastMesh}
+use Rattle.bintree_addr.specs.declared.blocked.Blocked.{Blocked}
+use Rattle.mesh_laws.specs.Frame.{IsFrame}
 use Rattle.mesh_laws.proofs.RankLemmas.{priority-under, splittable-positive}
 
 -- the worst of a list
@@ -177,6 +179,34 @@ pub least_list-mesh : (n tolerance : ℕ) (priority : ℕ → ℕ) (xs : List �
 least_list-mesh n tolerance priority xs falling p =
     subst (λ (l : List ℕ). IsLeastMesh n tolerance priority l) (sym p.leaves)
     (least_mesh n tolerance priority p.has falling p.closure)
+
+-- a frame of worst 0
+
+-- what is in a prefix is in the list
+prefix-in : (k a : ℕ) (xs : List ℕ) → IsIn a (take k xs) → IsIn a xs
+prefix-in zero a xs h = absurd h
+prefix-in (suc k) a [] h = absurd h
+prefix-in (suc k) a (x ∷ xs) (inl e) = inl e
+prefix-in (suc k) a (x ∷ xs) (inr h) = inr (prefix-in k a xs h)
+
+-- split is what has a priority above 0, with what that forces, and no more
+pub least_closed-frame : (n budget : ℕ) (priority : ℕ → ℕ) (has : ℕ → Bool) (blocked : Option Blocked) →
+    IsFrame n budget priority has 0 blocked → IsFalling n priority → IsLeastClosed n (is_worse n 0 priority) has
+least_closed-frame n budget priority has blocked frame falling =
+    let closed = frame.closure.closure.closed in
+    record {
+      closed = closed;
+      holds = λ a h.
+          let w = (worse-iff n 0 priority a).0 h in
+          let some = w.1 in
+          let greatest = frame.greatest in
+          above_leaf-member n has closed a
+          (ancestor-worse n priority falling (leaves_of n has) (IsConforming-leaves_of n has closed) a
+          (IsAddress-splittable n a w.0) (omega arith));
+      least = λ other other_closed holds. frame.closure.closure.least other other_closed (λ a h.
+          let ranked = prefix-in frame.chosen a frame.ranking (IsIn-among a (take frame.chosen frame.ranking) h) in
+          holds a ((worse-iff n 0 priority a).1 ((frame.ranked.members a).0 (Contains-in a frame.ranking ranked))));
+    }
 
 -- asking from the top down
 

@@ -1,20 +1,22 @@
 //! Laws of the definitions, each a clause of a function with an empty body.
 
-ghost use Rattle.std.specs.Prelude.{◌≡◌, ℕ, ◌+◌, ◌*◌, ◌/◌, ◌^◌, ◌<◌, ◌≤◌, Bool, false, IsTrue, List, ◌↔◌};
+ghost use Rattle.std.specs.Prelude.{◌≡◌, ℕ, ◌+◌, ◌*◌, ◌/◌, ◌^◌, ◌<◌, ◌≤◌, Bool, false, IsTrue, List, Option, ◌↔◌};
+ghost use Rattle.bintree_addr.specs.declared.blocked.Blocked.{Blocked};
 ghost use Rattle.mesh_defs.specs.Triangle.{IsSplittable};
 ghost use Rattle.mesh_defs.specs.Tiling.{IsConforming};
 ghost use Rattle.mesh_defs.specs.ClosedSet.{IsSubset, IsLeastClosed, leaves_of};
 ghost use Rattle.mesh_defs.specs.Priority.{worst_of};
 ghost use Rattle.mesh_defs.specs.Falling.{IsFalling};
 ghost use Rattle.mesh_laws.specs.Ancestors.{ancestors_of};
+ghost use Rattle.mesh_laws.specs.Frame.{IsFrame};
 ghost use Rattle.mesh_laws.specs.Least.{is_worse, IsLeastList, IsLeastMesh};
 ghost use Rattle.mesh_laws.specs.Sweep.{IsSwept, IsMarked};
 
 /// The least mesh: there is one, it is within the tolerance, and every mesh within the tolerance refines it.
 ///
 /// `wanted` is what is worse than a tolerance, in words; `found` and `unique` say that there is one list for
-/// each tolerance, `mesh` that it is a least mesh, `inside` which set lies in every other, and `below` that
-/// nothing has to be asked below a triangle that is not worse.
+/// each tolerance, `mesh` that it is a least mesh, `inside` which set lies in every other, `below` that nothing has to
+/// be asked below a triangle that is not worse, and `frame` that a frame of worst 0 splits just what tolerance 0 wants.
 pub fn least_laws()
     ensures wanted { (n tolerance : ℕ) (priority : ℕ → ℕ) (a : ℕ) →
         IsTrue (is_worse n tolerance priority a) ↔ (IsSplittable n a × (tolerance < priority a)) }
@@ -29,6 +31,9 @@ pub fn least_laws()
         worst_of priority others ≤ tolerance → IsSubset has (ancestors_of others) }
     ensures below { (n tolerance : ℕ) (priority : ℕ → ℕ) (a : ℕ) → IsFalling n priority → 4 ≤ a →
         is_worse n tolerance priority (a / 2) ≡ false → is_worse n tolerance priority a ≡ false }
+    ensures frame { (n budget : ℕ) (priority : ℕ → ℕ) (has : ℕ → Bool) (blocked : Option Blocked) →
+        IsFrame n budget priority has 0 blocked → IsFalling n priority →
+        IsLeastClosed n (is_worse n 0 priority) has }
 {}
 
 /// The closure of any splittable triangles by one flag an address, visited once each from the last one down.

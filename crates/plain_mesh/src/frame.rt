@@ -78,6 +78,7 @@ pub fn plain_frame(
         camera,
         spacing,
         planes,
+        threshold: 0,
     };
     let ranking = ranking_of(alloc, &scene)?;
     let frame = refined(alloc, scene.n(), &ranking, budget)?;

@@ -15,12 +15,14 @@ use Rattle.mesh_defs.specs.ClosedSet.{among}
 use Rattle.view_priority.specs.Camera.{view_from}
 use Rattle.roam_bench.specs.Seen.{told_from, far_from, readings_from}
 use Rattle.mesh_defs.proofs.DistanceLemmas.{ratio_of-farther, move_length-back}
+use Rattle.mesh_defs.proofs.ThresholdLemmas.{above-none}
 
 -- without planes all is seen
 priority_of-seen : (n : ℕ) (heights : List ℕ) (camera : CameraAt) (a : ℕ) →
     priority_of n heights (view_from camera 30 []) a ≡ ratio_of (thickness_of n heights a) (far_from n heights camera a)
 unfolding priority_of mark_of
-priority_of-seen n heights camera a = refl
+priority_of-seen n heights camera a =
+    above-none (ratio_of (thickness_of n heights a) (far_from n heights camera a))
 
 -- what is at most an eighth farther or nearer lies between the bounds
 pub between-near : (n : ℕ) (heights : List ℕ) (from to : CameraAt) (odometer a : ℕ) →

@@ -37,6 +37,6 @@ pub use roam_embed::{Deviation, Fitted, Frame, Mosaic, PlaneNumbers, Required, S
 pub use shapes::{roam_compact, roam_deviation, roam_positions, roam_strip};
 pub use state::{
     roam_add_plane, roam_budget, roam_camera, roam_clear_planes, roam_look, roam_raise, roam_renew,
-    roam_set,
+    roam_set, roam_threshold,
 };
 pub use told::{roam_frame, roam_state};

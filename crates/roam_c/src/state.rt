@@ -2,7 +2,7 @@
 
 ghost use Rattle.std.specs.Prelude.{⊤};
 ghost use Rattle.roam_embed.specs.Calls.{IsCameraMoved, IsPlaneAdded, ArePlanesCleared, IsBudgetPut, IsHeightPut};
-ghost use Rattle.roam_embed.specs.Calls.{IsAreaRaised};
+ghost use Rattle.roam_embed.specs.Calls.{IsAreaRaised, IsThresholdPut};
 ghost use Rattle.roam_embed.specs.Looking.{ArePlanesPut};
 ghost use Rattle.roam_embed.specs.Renewal.{IsEngineRenewed};
 ghost use Rattle.roam_c.specs.Handle.{OnFull, OnEmpty};
@@ -10,7 +10,7 @@ ghost use Rattle.roam_c.specs.Handle.{OnFull, OnEmpty};
 use crate::handle::{Handle, on};
 use roam_embed::{
     PlaneNumbers, add_plane, clear_planes, move_camera, put_budget, put_height, put_planes,
-    raise_area, renew_engine,
+    put_threshold, raise_area, renew_engine,
 };
 use std::alloc::Global;
 
@@ -69,6 +69,16 @@ pub extern "C" fn roam_renew(alloc: Global, h: &mut Handle) -> i32
     ensures empty { OnEmpty h.old.value h.new.value result ⊤ }
 {
     on!(Engine, h, alloc, |engine| renew_engine(engine))
+}
+
+/// Puts another threshold in force.
+#[unsafe(no_mangle)]
+pub extern "C" fn roam_threshold(alloc: Global, h: &mut Handle, threshold: u64) -> i32
+    ensures full { OnFull h.old.value h.new.value result (λ was now answer.
+        IsThresholdPut was now threshold answer) }
+    ensures empty { OnEmpty h.old.value h.new.value result ⊤ }
+{
+    on!(Engine, h, alloc, |engine| put_threshold(engine, threshold))
 }
 
 /// Puts another budget in force.

@@ -94,6 +94,7 @@ pub fn certify_mesh(
         camera,
         spacing,
         planes: &planes,
+        threshold: 0,
     };
     let reasons = make_reasons(alloc, n, &mut named, &scene, worst, budget)?;
     Ok(Cert::new(*camera, leaves, reasons))

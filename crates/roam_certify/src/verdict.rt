@@ -53,6 +53,7 @@ pub fn check(
         camera: &camera,
         spacing,
         planes: &planes,
+        threshold: 0,
     };
     Ok(verdict(
         n,

@@ -2,14 +2,14 @@
 -- the answer is the one with the least number, and out of memory comes last; after an answer other than Done all is as
 -- before.
 -- All of it is this project's own.
--- Words: IsOpenAnswer, IsOpened, IsCameraMoved, IsPlaneAdded, ArePlanesCleared, IsBudgetPut, IsHeightPut, IsAreaRaised,
--- IsFrameMade, AreIndicesTold, AreLeavesTold.
+-- Words: IsOpenAnswer, IsOpened, IsCameraMoved, IsPlaneAdded, ArePlanesCleared, IsThresholdPut, IsBudgetPut,
+-- IsHeightPut, IsAreaRaised, IsFrameMade, AreIndicesTold, AreLeavesTold.
 use Rattle.std.specs.Prelude.{◌≡◌, ◌≢◌, ℕ, ◌+◌, ◌*◌, ◌<◌, ◌≤◌, ◌↔◌, ◌⊎◌, true, List, length, All}
 use Rattle.std.specs.Prelude.{Contains, None, ℤ, unsigned_abs, []}
 use Rattle.mesh_defs.specs.BoundingBox.{CameraAt, holds_point, point}
 use Rattle.mesh_defs.specs.View.{ViewPlane}
 use Rattle.mesh_defs.specs.State.{start_state, with_camera, with_plane, without_planes, with_budget, with_height}
-use Rattle.mesh_defs.specs.State.{with_raised, move_length, priority_in}
+use Rattle.mesh_defs.specs.State.{with_threshold, with_raised, move_length, priority_in}
 use Rattle.mesh_defs.specs.Triangle.{corners_of}
 use Rattle.mesh_defs.specs.BestMesh.{IsBestMesh}
 use Rattle.bintree_laws.specs.Areas.{overlaps}
@@ -80,6 +80,13 @@ pub record ArePlanesCleared (before after : EngineState) (answer : Answer) : Typ
   pub done : answer ≡ Done
   pub cleared : after ≡ record before { state = without_planes before.state; mesh = after.mesh }
   pub expired : IsExpired before.mesh after.mesh (λ a. true)
+
+-- the threshold is replaced, and all stamps are expired; nothing changes where it is in force
+pub record IsThresholdPut (before after : EngineState) (threshold : ℕ) (answer : Answer) : Type 0 where
+  pub done : answer ≡ Done
+  pub put : after ≡ record before { state = with_threshold threshold before.state; mesh = after.mesh }
+  pub same : threshold ≡ before.state.view.threshold → after ≡ before
+  pub expired : (threshold ≡ before.state.view.threshold → ⊥) → IsExpired before.mesh after.mesh (λ a. true)
 
 -- the budget is replaced
 pub record IsBudgetPut (before after : EngineState) (budget : ℕ) (answer : Answer) : Type 0 where

@@ -1,10 +1,10 @@
--- The certificate of an engine's heights at a camera: of the best mesh of the budget in force, without planes. It is
--- that of `roam certify make` for the same grid, camera, budget and spacing. This project's own.
+-- The certificate of an engine's heights at a camera: of the best mesh of the budget in force, without planes and at
+-- threshold 0. It is that of `roam certify make` for the same grid, camera, budget and spacing. This project's own.
 -- Words: unplaned_at, IsCertificateAt, IsCertificateTold.
 use Rattle.std.specs.Prelude.{◌≡◌, ℕ, ◌<◌, ◌≤◌, ◌↔◌, ◌⊎◌, List, ◌++◌, length, drop}
 use Rattle.mesh_defs.specs.BoundingBox.{CameraAt}
 use Rattle.mesh_defs.specs.BestMesh.{IsBestMesh}
-use Rattle.mesh_defs.specs.State.{State, with_camera, without_planes, priority_in}
+use Rattle.mesh_defs.specs.State.{State, with_camera, with_threshold, without_planes, priority_in}
 use Rattle.view_priority.specs.Camera.{IsCamera}
 use Rattle.certificate_laws.specs.Certificate.{IsSound}
 use Rattle.cert_text.specs.Certificate.{Certificate}
@@ -12,9 +12,9 @@ use Rattle.cert_text.specs.CertText.{cert_text}
 use Rattle.roam_embed.specs.declared.answer.Answer.{Answer}
 use Rattle.roam_embed.specs.declared.answer.Answer.TheVariants.{Done, NoMemory, BadCamera, NoRoom}
 
--- the state without planes, seen from a place
+-- the state without planes and at threshold 0, seen from a place
 abbrev pub unplaned_at : CameraAt → State → State
-unplaned_at place state = with_camera place (without_planes state)
+unplaned_at place state = with_camera place (with_threshold 0 (without_planes state))
 
 -- a sound certificate of the best mesh there, depth first
 pub record IsCertificateAt (state : State) (place : CameraAt) (cert : Certificate) : Type 0 where

@@ -47,4 +47,6 @@ pub use mosaic::{Mosaic, next_tile, open_mosaic, put_tile, tell_required};
 pub use notes::{Deviation, Fitted, Frame, PlaneNumbers, Required, Standing, Tile};
 pub use renewal::renew_engine;
 pub use shapes::{tell_compact, tell_deviation, tell_positions, tell_strip};
-pub use view::{LONGEST_WAY, MOST_PLANES, add_plane, clear_planes, move_camera, put_budget};
+pub use view::{
+    LONGEST_WAY, MOST_PLANES, add_plane, clear_planes, move_camera, put_budget, put_threshold,
+};

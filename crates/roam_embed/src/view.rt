@@ -1,6 +1,6 @@
-//! The camera, the planes and the budget.
+//! The camera, the planes, the threshold and the budget.
 
-ghost use Rattle.roam_embed.specs.Calls.{IsCameraMoved, IsPlaneAdded, ArePlanesCleared, IsBudgetPut};
+ghost use Rattle.roam_embed.specs.Calls.{IsCameraMoved, IsPlaneAdded, ArePlanesCleared, IsThresholdPut, IsBudgetPut};
 
 use crate::answer::Answer;
 use frame_loop::{Camera, Engine, Plane};
@@ -49,6 +49,14 @@ pub fn clear_planes(engine: &mut Engine) -> Answer
     ensures { ArePlanesCleared engine.old engine.new result }
 {
     engine.clear_planes();
+    Answer::Done
+}
+
+/// Puts another threshold in force: a triangle whose thickness over distance is no more has priority 0.
+pub fn put_threshold(engine: &mut Engine, threshold: u64) -> Answer
+    ensures { IsThresholdPut engine.old engine.new threshold result }
+{
+    engine.threshold(threshold);
     Answer::Done
 }
 

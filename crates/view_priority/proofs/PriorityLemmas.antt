@@ -10,7 +10,8 @@ use Rattle.mesh_defs.specs.Ranking.{RanksBefore}
 use Rattle.mesh_defs.specs.Thickness.{thickness_of}
 use Rattle.mesh_defs.specs.BoundingBox.{BoundingBox, CameraAt, IsRoot, root_of, distance_of, box_of}
 use Rattle.mesh_defs.specs.View.{View, mark_of}
-use Rattle.mesh_defs.specs.Priority.{seen_ratio, priority_of}
+use Rattle.mesh_defs.specs.Priority.{above, seen_ratio, priority_of}
+use Rattle.mesh_defs.proofs.ThresholdLemmas.{above-order}
 use Rattle.cull_marks.specs.Cuboid.{as_box, IsWithinReach}
 use Rattle.cull_marks.specs.Nesting.{IsInside, IsOrdered}
 use Rattle.bintree_addr.specs.declared.cuboid.Cuboid.{Cuboid}
@@ -29,8 +30,8 @@ pub priority_of-inside : ((s : ℕ) → IsRoot s (root_of s)) → (n : ℕ) (hei
     priority_of n heights view b ≤ priority_of n heights view a
 unfolding priority_of
 priority_of-inside roots n heights view a b inside stays thinner =
-    seen_ratio-inherited _ _ _ _ _ _ stays thinner
-    (distance_of-inside roots (box_of n heights view.spacing b) (box_of n heights view.spacing a) view.camera inside)
+    above-order view.threshold _ _ (seen_ratio-inherited _ _ _ _ _ _ stays thinner
+    (distance_of-inside roots (box_of n heights view.spacing b) (box_of n heights view.spacing a) view.camera inside))
 
 -- no thickness, no priority
 seen_ratio-none : (mark : Mark) (d : ℕ) → seen_ratio mark 0 d ≡ 0
@@ -38,10 +39,14 @@ seen_ratio-none Inside d = omega arith
 seen_ratio-none Cut d = omega arith
 seen_ratio-none Outside d = refl
 
+above-nothing : (t p : ℕ) → p ≡ 0 → above t p ≡ 0
+above-nothing t p none = grind arith
+
 pub priority_of-none : (n : ℕ) (heights : List ℕ) (view : View) (a : ℕ) → thickness_of n heights a ≡ 0 →
     priority_of n heights view a ≡ 0
 unfolding priority_of
-priority_of-none n heights view a none = rw none (seen_ratio-none _ _)
+priority_of-none n heights view a none =
+    rw none (above-nothing view.threshold _ (seen_ratio-none _ _))
 
 -- ---- children and parents
 
@@ -90,18 +95,20 @@ as_box-within_reach c b is ordered x_from y_from z_from x_small y_small z_small 
     }
 
 -- the priority from the parts that the code finds
-pub priority_seen-by_parts : (s : SceneState) (t p e d : ℕ) (mark : Mark) → p ≡ seen_ratio mark e d →
+pub priority_seen-by_parts : (s : SceneState) (t p e d : ℕ) (mark : Mark) →
+    p ≡ above s.view.threshold (seen_ratio mark e d) →
     mark ≡ mark_of s.view.planes (box_of s.grid.n s.grid.heights s.view.spacing t) →
     e ≡ thickness_of s.grid.n s.grid.heights t → d ≡ distance_seen s t → p ≡ priority_seen s t
 unfolding priority_of
 priority_seen-by_parts s t p e d mark p_is mark_is e_is d_is = p_is ∙ rw (mark_is, e_is, d_is) refl
 
 -- likewise at a distance of one's own
-pub priority_at-by_parts : (s : SceneState) (t p e d k : ℕ) (mark : Mark) → p ≡ seen_ratio mark e d →
+pub priority_at-by_parts : (s : SceneState) (t p e d k h : ℕ) (mark : Mark) → p ≡ above h (seen_ratio mark e d) →
+    h ≡ s.view.threshold →
     mark ≡ mark_of s.view.planes (box_of s.grid.n s.grid.heights s.view.spacing t) →
     e ≡ thickness_of s.grid.n s.grid.heights t → d ≡ k → p ≡ priority_at s.grid.n s.grid.heights s.view t k
 unfolding priority_at
-priority_at-by_parts s t p e d k mark p_is mark_is e_is d_is = p_is ∙ rw (mark_is, e_is, d_is) refl
+priority_at-by_parts s t p e d k h mark p_is h_is mark_is e_is d_is = p_is ∙ rw (h_is, mark_is, e_is, d_is) refl
 
 -- ---- another camera
 
@@ -123,8 +130,9 @@ module _ (s : SceneState) (to : CameraAt) (t slack : ℕ)
   priority_seen-below_hi within =
       let back = farther (box_of s.grid.n s.grid.heights s.view.spacing t) to s.view.camera ordered in
       let same = move_length-swapped s.view.camera to in
-      seen_ratio-order (mark_of s.view.planes (box_of s.grid.n s.grid.heights s.view.spacing t)) _ _ _ _
-      (omega arith) (omega arith)
+      above-order s.view.threshold _ _
+      (seen_ratio-order (mark_of s.view.planes (box_of s.grid.n s.grid.heights s.view.spacing t)) _ _ _ _
+      (omega arith) (omega arith))
 
   -- and at least that at the distance and the slack
   pub priority_seen-above_lo : move_length s.view.camera to ≤ slack →
@@ -132,5 +140,6 @@ module _ (s : SceneState) (to : CameraAt) (t slack : ℕ)
   unfolding priority_of priority_at
   priority_seen-above_lo within =
       let there = farther (box_of s.grid.n s.grid.heights s.view.spacing t) s.view.camera to ordered in
-      seen_ratio-order (mark_of s.view.planes (box_of s.grid.n s.grid.heights s.view.spacing t)) _ _ _ _
-      (omega arith) (omega arith)
+      above-order s.view.threshold _ _
+      (seen_ratio-order (mark_of s.view.planes (box_of s.grid.n s.grid.heights s.view.spacing t)) _ _ _ _
+      (omega arith) (omega arith))

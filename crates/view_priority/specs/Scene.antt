@@ -1,5 +1,5 @@
--- Distances in a scene, and a scene from another place or within other planes.
--- Words: distance_seen, seen_from, seen_within.
+-- Distances in a scene, and a scene from another place, within other planes or with another threshold.
+-- Words: distance_seen, seen_from, seen_within, seen_above.
 use Rattle.std.specs.Prelude.{ℕ, List}
 use Rattle.mesh_defs.specs.BoundingBox.{CameraAt, box_of, distance_of}
 use Rattle.mesh_defs.specs.View.{ViewPlane}
@@ -16,3 +16,7 @@ seen_from to s = record s { view = record s.view { camera = to } }
 -- the scene with these planes in force, and no others
 abbrev pub seen_within : List ViewPlane → SceneState → SceneState
 seen_within planes s = record s { view = record s.view { planes = planes } }
+
+-- the scene with this threshold in force
+abbrev pub seen_above : ℕ → SceneState → SceneState
+seen_above t s = record s { view = record s.view { threshold = t } }

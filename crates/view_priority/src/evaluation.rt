@@ -39,6 +39,7 @@ pub fn rank(
         camera,
         spacing,
         planes,
+        threshold: 0,
     };
     scene.rank(t, meter)
 }
@@ -79,6 +80,7 @@ pub fn bounds(
         camera,
         spacing,
         planes,
+        threshold: 0,
     };
     scene.bounds(t, slack, meter)
 }
@@ -114,6 +116,7 @@ pub fn bounds_by_part(
         camera,
         spacing,
         planes,
+        threshold: 0,
     };
     scene.bounds_by_part(t, part, meter)
 }

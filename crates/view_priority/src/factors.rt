@@ -1,7 +1,7 @@
 //! What decides a triangle's priority.
 
 ghost use Rattle.std.specs.Prelude.{◌≡◌, ◌+◌, ◌-◌, ◌<◌, ◌≤◌, ◌^◌};
-ghost use Rattle.mesh_defs.specs.Priority.{seen_ratio};
+ghost use Rattle.mesh_defs.specs.Priority.{above, seen_ratio};
 
 use crate::Bounds;
 use crate::ratio::seen_priority;
@@ -17,6 +17,8 @@ pub(crate) struct Factors {
     pub(crate) thickness: u32,
     /// How far its box is from the camera, in world units.
     pub(crate) distance: u64,
+    /// The greatest ratio of both that is good enough.
+    pub(crate) threshold: u64,
 }
 
 /// The ranks at the distance less the slack, at least 0, and at the distance plus the slack.
@@ -25,18 +27,20 @@ pub(crate) fn bounds_within(factors: &Factors, t: Tri, slack: u64) -> Bounds
     requires slack { slack ≤ 2 ^ 32 }
     ensures hi_tri { result.hi.tri ≡ t }
     ensures lo_tri { result.lo.tri ≡ t }
-    ensures hi { result.hi.p ≡ seen_ratio factors.now.mark factors.now.thickness (factors.now.distance - slack) }
-    ensures lo { result.lo.p ≡ seen_ratio factors.now.mark factors.now.thickness (factors.now.distance + slack) }
+    ensures hi { result.hi.p ≡ above factors.now.threshold
+        (seen_ratio factors.now.mark factors.now.thickness (factors.now.distance - slack)) }
+    ensures lo { result.lo.p ≡ above factors.now.threshold
+        (seen_ratio factors.now.mark factors.now.thickness (factors.now.distance + slack)) }
 {
     let near = factors.distance.saturating_sub(slack);
     let far = factors.distance + slack;
     Bounds {
         hi: Rank {
-            p: seen_priority(factors.mark, factors.thickness, near),
+            p: seen_priority(factors.threshold, factors.mark, factors.thickness, near),
             tri: t,
         },
         lo: Rank {
-            p: seen_priority(factors.mark, factors.thickness, far),
+            p: seen_priority(factors.threshold, factors.mark, factors.thickness, far),
             tri: t,
         },
     }

@@ -5,7 +5,7 @@ ghost use Rattle.mesh_defs.specs.View.{start_view};
 ghost use Rattle.mesh_defs.specs.State.{move_length};
 ghost use Rattle.cull_marks.specs.declared.planes.TheConstants.{MOST_PLANES};
 ghost use Rattle.wedgie_tree.specs.declared.wedges.TheConstants.{GREATEST_SPACING};
-ghost use Rattle.view_priority.specs.Scene.{seen_from, seen_within};
+ghost use Rattle.view_priority.specs.Scene.{seen_from, seen_within, seen_above};
 
 use crate::{Camera, Scene};
 use cull_marks::{Plane, Planes};
@@ -23,23 +23,25 @@ pub struct Outlook {
     pub spacing: u32,
     /// The view planes in force.
     pub planes: Planes,
+    /// The greatest ratio of thickness and distance that is good enough.
+    pub threshold: u64,
 }
 
 impl Model for Outlook {
     ghost use Rattle.std.specs.Prelude.{◌≤◌};
     ghost use Rattle.mesh_defs.specs.State.{SceneState};
     ghost use Rattle.wedgie_tree.specs.declared.wedges.TheConstants.{GREATEST_SPACING};
-    ghost use Rattle.view_priority.specs.Camera.{view_from};
+    ghost use Rattle.view_priority.specs.Camera.{view_above};
 
     ghost Value = { SceneState };
 
-    ghost view = { λ o. record { grid = o.wedges; view = view_from o.camera o.spacing o.planes } };
+    ghost view = { λ o. record { grid = o.wedges; view = view_above o.threshold o.camera o.spacing o.planes } };
 
     ghost invariant = { λ o. (1 ≤ o.spacing) × (o.spacing ≤ GREATEST_SPACING) };
 }
 
 impl Outlook {
-    /// What is seen of the wedges from (0, 0, 0), without a plane.
+    /// What is seen of the wedges from (0, 0, 0), without a plane, at threshold 0.
     pub fn start(wedges: Wedges, spacing: u32) -> Outlook
         requires spacing_low { 1 ≤ spacing }
         requires spacing_high { spacing ≤ GREATEST_SPACING }
@@ -50,6 +52,7 @@ impl Outlook {
             camera: Camera::new(0, 0, 0).unwrap(),
             spacing,
             planes: Planes::none(),
+            threshold: 0,
         }
     }
 
@@ -62,6 +65,7 @@ impl Outlook {
             camera: &self.camera,
             spacing: self.spacing,
             planes: &self.planes,
+            threshold: self.threshold,
         }
     }
 
@@ -107,6 +111,13 @@ impl Outlook {
         ensures { self.new ≡ seen_within [] self.old }
     {
         self.planes.clear();
+    }
+
+    /// Puts another threshold in force.
+    pub fn put_threshold(&mut self, threshold: u64)
+        ensures { self.new ≡ seen_above threshold self.old }
+    {
+        self.threshold = threshold;
     }
 }
 

@@ -1,7 +1,7 @@
 //! Thickness over distance.
 
 ghost use Rattle.std.specs.Prelude.{◌≡◌, ◌*◌, ◌≤◌, ◌^◌};
-ghost use Rattle.mesh_defs.specs.Priority.{ratio_of, seen_ratio};
+ghost use Rattle.mesh_defs.specs.Priority.{above, ratio_of, seen_ratio};
 
 use mesh_defs::Mark;
 
@@ -17,8 +17,17 @@ pub fn priority(thickness: u32, d: u64) -> u64
     65536 * u64::from(thickness) / (d + 1)
 }
 
-/// The priority of what has this mark: 0 for what is Outside.
-pub(crate) fn seen_priority(mark: Mark, thickness: u32, d: u64) -> u64
+/// The priority of what has this mark: 0 for what is Outside, and for what is no more than the threshold.
+pub(crate) fn seen_priority(threshold: u64, mark: Mark, thickness: u32, d: u64) -> u64
+    requires { d ≤ 2 ^ 33 }
+    ensures { result ≡ above threshold (seen_ratio mark thickness d) }
+{
+    let ratio = seen_by(mark, thickness, d);
+    if threshold < ratio { ratio } else { 0 }
+}
+
+/// The ratio of what has this mark: 0 for what is Outside.
+fn seen_by(mark: Mark, thickness: u32, d: u64) -> u64
     requires { d ≤ 2 ^ 33 }
     ensures { result ≡ seen_ratio mark thickness d }
 {

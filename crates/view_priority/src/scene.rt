@@ -30,17 +30,22 @@ pub struct Scene<'a> {
     pub spacing: u32,
     /// The view planes in force.
     pub planes: &'a Planes,
+    /// The greatest ratio of thickness and distance that is good enough: such a triangle has priority 0.
+    pub threshold: u64,
 }
 
 impl<'a> Model for Scene<'a> {
     ghost use Rattle.std.specs.Prelude.{◌≤◌};
     ghost use Rattle.mesh_defs.specs.State.{SceneState};
     ghost use Rattle.wedgie_tree.specs.declared.wedges.TheConstants.{GREATEST_SPACING};
-    ghost use Rattle.view_priority.specs.Camera.{view_from};
+    ghost use Rattle.view_priority.specs.Camera.{view_above};
 
     ghost Value = { SceneState };
 
-    ghost view = { λ s. record { grid = s.wedges.now; view = view_from s.camera.now s.spacing s.planes.now } };
+    ghost view = { λ s. record {
+      grid = s.wedges.now;
+      view = view_above s.threshold s.camera.now s.spacing s.planes.now;
+    } };
 
     ghost invariant = { λ s. (1 ≤ s.spacing) × (s.spacing ≤ GREATEST_SPACING) };
 }
@@ -79,6 +84,7 @@ impl<'a> Scene<'a> {
         }
         Rank {
             p: seen_priority(
+                self.threshold,
                 self.planes.mark(&cuboid),
                 thickness,
                 distance(&cuboid, self.camera),
@@ -96,7 +102,7 @@ impl<'a> Scene<'a> {
     }
 
     /// Bounds on a triangle's rank while the camera moves by at most the slack (the sum of its moves along the three
-    /// axes) and heights, spacing and planes do not change. The meter counts one more.
+    /// axes) and heights, spacing, planes and threshold do not change. The meter counts one more.
     pub fn bounds(&self, t: Tri, slack: u64, meter: &mut Meter) -> Bounds
         requires level { level_of t ≤ 2 * self.now.grid.n }
         requires slack { slack ≤ 2 ^ 32 }
@@ -150,12 +156,14 @@ impl<'a> Scene<'a> {
         ensures thickness { result.thickness ≡ thickness_of self.now.grid.n self.now.grid.heights t }
         ensures distance { result.distance ≡ distance_seen self.now t }
         ensures bounded { result.distance < 2 ^ 31 }
+        ensures threshold { result.threshold ≡ self.now.view.threshold }
     {
         let (thickness, cuboid) = self.wedges.thickness_and_cuboid(t, self.spacing);
         Factors {
             mark: self.planes.mark(&cuboid),
             thickness,
             distance: distance(&cuboid, self.camera),
+            threshold: self.threshold,
         }
     }
 }

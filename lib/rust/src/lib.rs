@@ -40,6 +40,7 @@ mod c {
         pub fn roam_camera(h: *mut Handle, x: i64, y: i64, z: i64) -> i32;
         pub fn roam_look(h: *mut Handle, planes: *const super::Plane, count: usize) -> i32;
         pub fn roam_renew(h: *mut Handle) -> i32;
+        pub fn roam_threshold(h: *mut Handle, threshold: u64) -> i32;
         pub fn roam_budget(h: *mut Handle, triangles: u32) -> i32;
         pub fn roam_set(h: *mut Handle, x: u32, y: u32, height: u16) -> i32;
         pub fn roam_raise(h: *mut Handle, x0: u32, y0: u32, x1: u32, y1: u32, dz: i32) -> i32;
@@ -249,6 +250,12 @@ impl Engine {
     /// has gone its way.
     pub fn renew(&mut self) -> Result<(), Error> {
         told(unsafe { c::roam_renew(&mut self.handle) })
+    }
+
+    /// Puts a threshold in force: a triangle whose thickness over distance is no more has priority 0. 262,144 p tan(f / 2) / rows
+    /// is that of an error of p pixels, f the field of view from bottom to top, rows those of the screen.
+    pub fn threshold(&mut self, ratio: u64) -> Result<(), Error> {
+        told(unsafe { c::roam_threshold(&mut self.handle, ratio) })
     }
 
     /// Puts a budget in force, from 2 to the one at opening.

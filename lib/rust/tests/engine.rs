@@ -35,6 +35,18 @@ fn a_fit_is_within_its_tolerance_and_tells_a_budget_that_binds() {
 }
 
 #[test]
+fn a_threshold_keeps_what_is_good_enough_whole() {
+    let mut engine = Engine::open(&HILL, 8, 10).unwrap();
+    engine.camera(10, 10, 150).unwrap();
+    // Thickness 200 half units at distance 50: 65536 * 200 / 51 = 257003.
+    for (ratio, triangles) in [(257_003, 2), (257_002, 4), (0, 4)] {
+        engine.threshold(ratio).unwrap();
+        let note = engine.frame().unwrap();
+        assert_eq!((note.triangles, note.worst, note.blocking), (triangles, 0, 0));
+    }
+}
+
+#[test]
 fn refusals_have_names_and_change_nothing() {
     assert_eq!(Engine::open(&[0; 8], 2, 1).err(), Some(Error::BadGrid));
     assert_eq!(Engine::open(&HILL, 1, 1).err(), Some(Error::BadBudget));

@@ -12,7 +12,7 @@ from ._version import __version__
 from .engine import SIDES, Changes, Engine, Fit, Note, State, Worn, changes
 from .fitter import ANY, Fitter, Mosaic, Required, fit_with
 from .mesh import Mesh, fit, surface, view
-from .planes import frustum
+from .planes import frustum, pixel_threshold
 
 __all__ = ["ANY", "SIDES", "Changes", "Engine", "Fit", "Fitter", "Mesh", "Mosaic", "Note", "Required", "State", "Worn",
-           "__version__", "changes", "fit", "fit_with", "frustum", "surface", "view"]
+           "__version__", "changes", "fit", "fit_with", "frustum", "pixel_threshold", "surface", "view"]

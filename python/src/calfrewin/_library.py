@@ -62,6 +62,7 @@ CALLS = {
     "clear_planes": [_HANDLE],
     "look": [_HANDLE, POINTER(Plane), c_size_t],
     "renew": [_HANDLE],
+    "threshold": [_HANDLE, c_uint64],
     "budget": [_HANDLE, c_uint32],
     "set": [_HANDLE, c_uint32, c_uint32, c_uint16],
     "raise": [_HANDLE, c_uint32, c_uint32, c_uint32, c_uint32, c_int32],

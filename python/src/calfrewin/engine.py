@@ -226,6 +226,21 @@ class Engine(Owner):
         """
         self._call("renew")
 
+    def threshold(self, ratio: Whole) -> None:
+        """Puts a threshold in force: what is good enough, as `pixel_threshold` tells of an error in pixels.
+
+        A triangle whose thickness over distance, as in `worst`, is no more has priority 0. Where a frame's `worst` is 0 its
+        mesh has the fewest triangles of all that are good enough; else the budget is not enough for that.
+
+        >>> engine = Engine([[0, 0, 0], [0, 100, 0], [0, 0, 0]], 8, spacing=10)
+        >>> engine.camera(10, 10, 150)
+        >>> engine.threshold(257_003); engine.frame().triangles
+        2
+        >>> engine.threshold(257_002); engine.frame().triangles
+        4
+        """
+        self._call("threshold", whole("ratio", ratio, 0, 2 ** 64 - 1))
+
     def budget(self, triangles: Whole) -> None:
         """Puts another budget in force, from 2 to the one at opening.
 

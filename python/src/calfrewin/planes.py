@@ -7,7 +7,7 @@ from __future__ import annotations
 import math
 from typing import Sequence
 
-__all__ = ["frustum"]
+__all__ = ["frustum", "pixel_threshold"]
 
 Plane = tuple[int, int, int, int]
 
@@ -52,3 +52,26 @@ def frustum(eye: Sequence[int], direction: Sequence[float], degrees: float, widt
             a, b, c = a // common, b // common, c // common
             planes.append((a, b, c, -(a * x + b * y + c * z)))
     return planes
+
+
+def pixel_threshold(pixels: float, degrees: float, rows: float) -> int:
+    """The threshold of an error of so many pixels, for `Engine.threshold`.
+
+    The picture of a height error is so high where it is in the middle of the picture, and seen from the side.
+
+    Args:
+        pixels: the error, above 0.
+        degrees: the field of view from bottom to top, up to 170.
+        rows: the height of the screen, in pixels.
+
+    Raises:
+        ValueError: names what is out of range.
+
+    >>> pixel_threshold(1, 60, 1080)
+    140
+    """
+    if not 0 < degrees <= 170:
+        raise ValueError(f"degrees is {degrees:g}: a number above 0 and up to 170 is wanted")
+    if not (0 < pixels < math.inf and 0 < rows < math.inf):
+        raise ValueError(f"pixels and rows are {pixels:g} and {rows:g}: both are to be above 0")
+    return min(int(262144 * pixels * math.tan(math.radians(degrees / 2)) / rows), 10 ** 15)

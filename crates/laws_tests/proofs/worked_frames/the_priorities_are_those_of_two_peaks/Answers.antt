@@ -18,4 +18,4 @@ unfolding camera level_of corners_of thickness_of points_of low_of high_of box_o
     distance_of mark_of priority_of
 returns c =
     same_at_each (told_by FROM_UPPER_RIGHT)
-    (priority_of 2 TWO_PEAKS record { camera = camera; spacing = 1; planes = [] }) SPLITTABLE refl
+    (priority_of 2 TWO_PEAKS record { camera = camera; spacing = 1; planes = []; threshold = 0 }) SPLITTABLE refl

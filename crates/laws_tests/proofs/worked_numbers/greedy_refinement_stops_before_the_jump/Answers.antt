@@ -20,7 +20,7 @@ use Rattle.laws_tests.proofs.worked_numbers.greedy_refinement_stops_before_the_j
 -- the priorities of the example
 abbrev corner : ℕ → ℕ
 corner a =
-    priority_of 2 CORNER (record { camera = record { x = pos 0; y = pos 0; z = pos 0 }; spacing = 1; planes = [] }) a
+    priority_of 2 CORNER (record { camera = record { x = pos 0; y = pos 0; z = pos 0 }; spacing = 1; planes = []; threshold = 0 }) a
 
 -- of a leaf that is not f: if it has positive priority, f ranks before it
 abbrev Follows : ℕ → ℕ → Type 0

@@ -1,6 +1,6 @@
 -- Each clause is a lemma.
 use Rattle.mesh_laws.proofs.LeastLemmas.{worse-iff, least_found, least_unique, least_list-mesh, least_inside}
-use Rattle.mesh_laws.proofs.LeastLemmas.{worse-parent}
+use Rattle.mesh_laws.proofs.LeastLemmas.{worse-parent, least_closed-frame}
 use Rattle.mesh_laws.proofs.least.least_laws.Goals as goal
 
 pub returns-clause-wanted : goal.returns-clause-wanted
@@ -20,3 +20,6 @@ returns-clause-inside c = least_inside
 
 pub returns-clause-below : goal.returns-clause-below
 returns-clause-below c = worse-parent
+
+pub returns-clause-frame : goal.returns-clause-frame
+returns-clause-frame c = least_closed-frame

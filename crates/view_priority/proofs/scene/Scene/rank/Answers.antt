@@ -4,7 +4,7 @@ use Rattle.mesh_defs.specs.BoundingBox.{box_of, distance_of}
 use Rattle.mesh_defs.specs.View.{View, mark_of}
 use Rattle.mesh_defs.specs.State.{SceneState, priority_seen}
 use Rattle.cull_marks.specs.Cuboid.{as_box}
-use Rattle.view_priority.specs.Camera.{view_from}
+use Rattle.view_priority.specs.Camera.{view_above}
 use Rattle.view_priority.proofs.PriorityLemmas.{priority_seen-by_parts, priority_of-none, as_box-is}
 use Rattle.view_priority.proofs.PriorityLemmas.{as_box-within_reach}
 use Rattle.view_priority.proofs.NestLemmas.{box_of-ordered}
@@ -13,7 +13,7 @@ use Rattle.view_priority.proofs.scene.Scene.rank.Goals as goal
 pub returns-then-level-n-clause-value : goal.returns-then-level-n-clause-value
 returns-then-level-n-clause-value c =
     let i = c.self.inside in
-    let view : View = view_from i.camera.now i.spacing i.planes.now in
+    let view : View = view_above i.threshold i.camera.now i.spacing i.planes.now in
     subst (λ (s : SceneState). 0 ≡ priority_seen s c.args.t) c.self.view_is
     (sym (priority_of-none i.wedges.now.n i.wedges.now.heights view c.args.t
     (c.wedge_laws.ensures.finest_thickness i.wedges.now.n i.wedges.now.heights c.args.t
@@ -22,7 +22,7 @@ returns-then-level-n-clause-value c =
 pub returns-then-thickness-eq0-clause-value : goal.returns-then-thickness-eq0-clause-value
 returns-then-thickness-eq0-clause-value c =
     let i = c.self.inside in
-    let view : View = view_from i.camera.now i.spacing i.planes.now in
+    let view : View = view_above i.threshold i.camera.now i.spacing i.planes.now in
     subst (λ (s : SceneState). 0 ≡ priority_seen s c.args.t) c.self.view_is
     (sym (priority_of-none i.wedges.now.n i.wedges.now.heights view c.args.t
     (sym c.thickness_and_cuboid-thickness.ensures.thickness ∙ c.if-thickness-eq0.true)))
@@ -42,7 +42,10 @@ distance-requires c =
 pub returns-clause-value : goal.returns-clause-value
 returns-clause-value c =
     let i = c.self.inside in
-    let scene : SceneState = record { grid = i.wedges.now; view = view_from i.camera.now i.spacing i.planes.now } in
+    let scene : SceneState = record {
+      grid = i.wedges.now;
+      view = view_above i.threshold i.camera.now i.spacing i.planes.now;
+    } in
     let look = c.thickness_and_cuboid-thickness in
     let box : as_box look.result.1 ≡ box_of i.wedges.now.n i.wedges.now.heights i.spacing c.args.t =
     as_box-is look.result.1 _ look.ensures.x0 look.ensures.x1 look.ensures.y0 look.ensures.y1
