@@ -87,7 +87,7 @@ fn sweep(
     Ok(either(below, above))
 }
 
-/// Splits each of them that is the triangle or lies in it, where its parent is split.
+/// Splits each of these leaves that is the triangle or lies in it. The triangle's parent is split.
 fn sweep_under(
     grid: &Grid,
     tolerance: u32,
@@ -134,7 +134,7 @@ fn either(one: bool, other: bool) -> bool
     one || other
 }
 
-/// Splits the triangle, whose parent is split, if it is such a leaf. Answers whether it is.
+/// Splits the triangle, if it is such a leaf. Its parent is split. Answers whether it is one.
 fn split_leaf(
     grid: &Grid,
     tolerance: u32,
