@@ -20,8 +20,8 @@ pub use failures::{Failed, NoMemory};
 pub use laws::{limit_laws, roots, threshold_laws};
 pub use level::GREATEST_LEVEL;
 pub use limits::{
-    CAMERA_REACH, GREATEST_ERROR, GREATEST_HEIGHT, GREATEST_NUMBER, GREATEST_OFFSET, GREATEST_SLOPE,
-    LEAST_TRIANGLES, MOST_PLANES, MOST_TRIANGLES,
+    CAMERA_REACH, GREATEST_ERROR, GREATEST_HEIGHT, GREATEST_NUMBER, GREATEST_OFFSET,
+    GREATEST_SLOPE, LEAST_TRIANGLES, MOST_PLANES, MOST_TRIANGLES,
 };
 pub use mark::Mark;
 pub use point::{Corners, Point};
