@@ -8,7 +8,7 @@ ghost use Rattle.fit_mesh.specs.Limit.{tolerance_of, error_within, IsComplete};
 
 use crate::error::{worst_error, worst_within};
 use bintree_addr::{Corners, Tri};
-use mesh_measure::{exceeds_at, exceeds_own};
+use mesh_measure::{exceeds_at, exceeds_own_at};
 use pgm_grid::Grid;
 
 /// By how much a mesh may be off at a grid point, in units of height, times 2^n.
@@ -34,7 +34,7 @@ pub(crate) fn is_over(grid: &Grid, t: Tri, corners: Corners, limit: Limit) -> bo
     }
     match limit {
         Limit::Common(tolerance) => exceeds_at(grid, t, corners, tolerance),
-        Limit::Own(tolerances) => exceeds_own(grid, t, tolerances),
+        Limit::Own(tolerances) => exceeds_own_at(grid, t, corners, tolerances),
     }
 }
 

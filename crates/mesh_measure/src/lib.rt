@@ -21,5 +21,5 @@ mod slope;
 pub use at_point::{off_point, point_above};
 pub use facet::{corners_in, plane_height};
 pub use mesh::{deviation, thickest};
-pub use own::exceeds_own;
+pub use own::{exceeds_own, exceeds_own_at};
 pub use points::{exceeds, exceeds_at, off_triangle, off_triangle_at};

@@ -1,7 +1,7 @@
 //! Whether the surface is farther from a triangle's plane than the tolerances of its grid points.
 
 ghost use Rattle.std.specs.Prelude.{◌≡◌, ◌+◌, ◌-◌, ◌*◌, ◌^◌, ◌<◌, ◌≤◌, ◌↔◌, ℕ, IsTrue, length, slice_index};
-ghost use Rattle.mesh_defs.specs.Triangle.{level_of};
+ghost use Rattle.mesh_defs.specs.Triangle.{level_of, corners_of};
 ghost use Rattle.mesh_defs.specs.HeightField.{height_at, side_of};
 ghost use Rattle.mesh_defs.specs.Thickness.{height_of};
 ghost use Rattle.mesh_defs.specs.BoundingBox.{greatest};
@@ -11,11 +11,11 @@ ghost use Rattle.mesh_measure.specs.Line.{IsPlaneOf};
 ghost use Rattle.mesh_measure.specs.Most.{gap_beyond, IsMost, IsMostUntil, IsInRow, IsInBounds};
 
 use crate::columns::Columns;
-use crate::facet::{bounds_of, facet_of, side};
+use crate::facet::{bounds_of, corners_in, facet_at, side};
 use crate::line::{Plane, greater, greatest_excess, plane_of};
 use crate::points::{held_row, row_of};
 use crate::shape::{Bounds, Facet};
-use bintree_addr::Tri;
+use bintree_addr::{Corners, Tri};
 use pgm_grid::Grid;
 
 /// The tolerances of these columns of a row.
@@ -98,7 +98,18 @@ pub fn exceeds_own(grid: &Grid, t: Tri, tolerances: &[u32]) -> bool
     ensures { IsTrue result
         ↔ (0 < greatest (excesses_in grid.now.n grid.now.heights tolerances.now t)) }
 {
+    exceeds_own_at(grid, t, corners_in(grid, t), tolerances)
+}
+
+/// The same, where its corners are known.
+pub fn exceeds_own_at(grid: &Grid, t: Tri, corners: Corners, tolerances: &[u32]) -> bool
+    requires level { level_of t ≤ 2 * grid.now.n }
+    requires corners { corners ≡ corners_of grid.now.n t }
+    requires complete { length tolerances.now ≡ side_of grid.now.n * side_of grid.now.n }
+    ensures { IsTrue result
+        ↔ (0 < greatest (excesses_in grid.now.n grid.now.heights tolerances.now t)) }
+{
     let _address = t.number();
-    let facet = facet_of(grid, t);
+    let facet = facet_at(grid, t, corners);
     excess_until(grid, tolerances, facet, bounds_of(facet.corners)) > 0
 }

@@ -1,6 +1,6 @@
 //! How far the surface is from a triangle's plane, over all grid points of the triangle.
 
-ghost use Rattle.std.specs.Prelude.{◌≡◌, ◌+◌, ◌-◌, ◌*◌, ◌/◌, ◌%◌, ◌^◌, ◌<◌, ◌≤◌, ◌⊎◌, ◌↔◌, ℕ, IsTrue, IfSome, IfNone, true};
+ghost use Rattle.std.specs.Prelude.{◌≡◌, ◌+◌, ◌-◌, ◌*◌, ◌/◌, ◌^◌, ◌<◌, ◌≤◌, ◌⊎◌, ◌↔◌, ℕ, IsTrue, IfSome, IfNone, true};
 ghost use Rattle.std.specs.Prelude.{length, slice_index};
 ghost use Rattle.mesh_defs.specs.declared.point.Point.{Point};
 ghost use Rattle.mesh_defs.specs.Triangle.{level_of, corners_of};
@@ -14,7 +14,6 @@ ghost use Rattle.mesh_measure.specs.Most.{gap_of, IsMost, IsMostUntil, IsInRow, 
 ghost use Rattle.mesh_measure.specs.Line.{IsPlaneOf};
 ghost use Rattle.mesh_measure.specs.Row.{IsHeldRow};
 ghost use Rattle.mesh_measure.specs.Slope.{AreSlopesOf};
-ghost use Rattle.mesh_defs.specs.declared.level.TheConstants.{GREATEST_LEVEL};
 
 use crate::areas::Areas;
 use crate::columns::Columns;

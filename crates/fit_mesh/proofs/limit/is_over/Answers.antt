@@ -33,7 +33,7 @@ pub returns-in-Own : goal.returns-in-Own
 returns-in-Own c =
     let n : ℕ = c.args.grid.now.n in
     let heights : List ℕ = c.args.grid.now.heights in
-    subst (λ (l : Limit). IsTrue c.exceeds_own.result ↔ (tolerance_of l < error_within n heights l c.args.t))
+    subst (λ (l : Limit). IsTrue c.exceeds_own_at.result ↔ (tolerance_of l < error_within n heights l c.args.t))
     (sym c.in-Own.is)
-    (subst (λ k. IsTrue c.exceeds_own.result ↔ (0 < k))
-    (excess-greatest n heights c.in-Own.tolerances.now c.args.t) c.exceeds_own.ensures)
+    (subst (λ k. IsTrue c.exceeds_own_at.result ↔ (0 < k))
+    (excess-greatest n heights c.in-Own.tolerances.now c.args.t) c.exceeds_own_at.ensures)
