@@ -4,8 +4,8 @@ is killed; prints rows for results.md. All have to write the same bytes. Nothing
 python3-distributed for Dask.
 
 usage: bench/scale.py [ERROR..]     after `lib/build`; SIDE=20000 TILE=513 ROOM=a folder with room, which is left; RUNS=one,pool,..;
-                                    CHECK=1 checks the tiles of each run, too, by so many processes; PLANT=1 those of
-                                    the last one with three faults"""
+                                    CHECK=1 checks the tiles of the last run, too, by so many processes: those of the
+                                    others are the same; PLANT=1 checks them with three faults"""
 import contextlib
 import hashlib
 import json
@@ -373,14 +373,15 @@ def main():
             same = digest(out)[:16]
             row(error, {"one": "one process", "pool": "two processes", "cluster": "Dask, two workers",
                         "hand": "Dask, three workers, one killed"}[run], told, memory, same)
-            if os.environ.get("CHECK"):
-                checked(path, out, error)
             first = first or same
             if same != first:
                 sys.exit(f"bench/scale.py: {run} wrote other bytes")
-            if os.environ.get("PLANT") and run == RUNS[-1]:
+            is_last = run == RUNS[-1]
+            if os.environ.get("CHECK") and is_last:
+                checked(path, out, error)
+            if os.environ.get("PLANT") and is_last:
                 planted(path, out, error)
-            if run != RUNS[-1] or not os.environ.get("KEEP"):
+            if not is_last or not os.environ.get("KEEP"):
                 shutil.rmtree(out, ignore_errors=True)
 
 
