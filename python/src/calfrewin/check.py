@@ -8,6 +8,7 @@ shared with what fits and writes tiles.
 """
 from __future__ import annotations
 
+import functools
 import json
 import os
 import struct
@@ -27,6 +28,7 @@ LATTICE, DEGREE = 17, 5  # points a side at which PROJ is asked how the earth be
 HIGH = 1000.0  # metres
 MOST_TOLD = 20  # of a kind
 SLACK = 2.0 ** -21  # of a tile's extent: floats of 32 bits
+KINDS = 128  # shapes of triangles whose points are kept, in some 20 MB: tiles have the same
 Lines = dict[tuple[str, int], Any]
 
 
@@ -283,32 +285,42 @@ def _covered_once(x: Floats, y: Floats, triangles: Whole, box: tuple[int, int, i
 def _surface(x: Floats, y: Floats, z: Floats, triangles: Whole, shape: tuple[int, ...], step: int) -> Floats:
     """The height of triangles at each `step`-th column and row, NaN where there is none; all of one shape at a time."""
     found = np.full(shape, np.nan)
-    px, py = x[triangles], y[triangles]
-    left, top = (np.ceil(it.min(1) / step).astype(np.int64) for it in (px, py))
-    key = np.column_stack((px - (left * step)[:, None], py - (top * step)[:, None]))
-    kinds, first, back = np.unique(key, axis=0, return_index=True, return_inverse=True)
+    px, py = x[triangles] / step, y[triangles] / step
+    left, top = (np.ceil(it.min(1)).astype(np.int64) for it in (px, py))
+    key = np.column_stack((px - left[:, None], py - top[:, None]))
+    kinds, back = np.unique(key, axis=0, return_inverse=True)
     order = np.argsort(back, kind="stable")
     ends = np.searchsorted(back[order], np.arange(len(kinds) + 1))
     flat = found.reshape(-1)
-    for kind, begin, end in zip(kinds, ends[:-1], ends[1:]):
-        kx, ky = kind[:3], kind[3:]
-        across, down = (np.arange(0, int(it.max() // step) + 1) * step for it in (kx, ky))
-        u, v = (it.reshape(-1) for it in np.meshgrid(across, down))
-        area = (kx[1] - kx[0]) * (ky[2] - ky[0]) - (ky[1] - ky[0]) * (kx[2] - kx[0])
-        if area == 0 or not len(u):
+    for kind, begin, end in zip(kinds.tolist(), ends[:-1], ends[1:]):
+        columns, rows, weights = _within(*kind)
+        if not len(columns):
             continue
-        weights = np.column_stack([((kx[j] - u) * (ky[k] - v) - (ky[j] - v) * (kx[k] - u)) / area
-                                   for j, k in ((1, 2), (2, 0), (0, 1))])
-        is_in = (weights >= -1e-12).all(1)
-        if not is_in.any():
-            continue
-        steps = (v[is_in] // step * shape[1] + u[is_in] // step).astype(np.int64)
+        steps = rows * shape[1] + columns
         at_once = max(1, (1 << 22) // len(steps))
         for at in range(begin, end, at_once):
             which = order[at:min(at + at_once, end)]
             places = (top[which] * shape[1] + left[which])[:, None] + steps
-            flat[places] = z[triangles[which]] @ weights[is_in].T
+            flat[places] = z[triangles[which]] @ weights
     return found
+
+
+@functools.lru_cache(maxsize=KINDS)
+def _within(*corners: float) -> tuple[Whole, Whole, Floats]:
+    """The points with whole coordinates, from 0 on, in a triangle: columns, rows, and the weights of its three corners there.
+
+    Args:
+        corners: three times x, three times y.
+
+    >>> [it.tolist() for it in _within(0, 2, 0, 0, 0, 1)]
+    [[0, 1, 2, 0], [0, 0, 0, 1], [[1.0, 0.5, 0.0, 0.0], [0.0, 0.5, 1.0, 0.0], [0.0, 0.0, 0.0, 1.0]]]
+    """
+    x, y = corners[:3], corners[3:]
+    u, v = (it.reshape(-1) for it in np.meshgrid(*(np.arange(int(max(it)) + 1) for it in (x, y))))
+    area = (x[1] - x[0]) * (y[2] - y[0]) - (y[1] - y[0]) * (x[2] - x[0])
+    weights = np.stack([(x[j] - u) * (y[k] - v) - (y[j] - v) * (x[k] - u) for j, k in ((1, 2), (2, 0), (0, 1))]) / (area or 1)
+    is_in = (weights >= -1e-12).all(0) & (area != 0)
+    return u[is_in], v[is_in], weights[:, is_in]
 
 
 def _lines(raster: Raster, x: Floats, y: Floats, triangles: Whole, box: tuple[int, int, int, int],
