@@ -314,9 +314,11 @@ def row(error, what, told, memory, same):
 def checked(path, out, error):
     words = (sys.executable, "-m", "calfrewin", "check", str(out), "--raster", str(path), "--error", str(error), "--quiet", "--json",
              "--workers", os.environ.get("CHECK", "1"))
+    before = resource.getrusage(resource.RUSAGE_CHILDREN)
     told = subprocess.run(words, stdout=subprocess.PIPE, text=True, env=os.environ | {"PYTHONPATH": str(TOP / "python/src")})
-    found = json.loads(told.stdout)
-    print(f"# check: {json.dumps(found | {'wrong': len(found['wrong'])})}", flush=True)
+    after, found = resource.getrusage(resource.RUSAGE_CHILDREN), json.loads(told.stdout)
+    processor = after.ru_utime + after.ru_stime - before.ru_utime - before.ru_stime
+    print(f"# check: {json.dumps(found | {'wrong': len(found['wrong']), 'processor': round(processor, 1)})}", flush=True)
     return found["wrong"]
 
 
