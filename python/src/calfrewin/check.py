@@ -364,8 +364,8 @@ def _within(*corners: float) -> tuple[Whole, Whole, Floats]:
 
 def _lines(raster: Raster, x: Floats, y: Floats, triangles: Whole, box: Box,
            earth: Floats) -> tuple[Lines, Lines]:
-    """The vertices on the lines between tiles, where they are on the earth, and the edges there; not on the raster's border,
-    where nothing is to meet."""
+    """The vertices on the borders of tiles, where they are on the earth, and the edges there; not on the raster's last row and
+    column, where each level is cut."""
     top, left, bottom, right = box
     vertices: Lines = {}
     edges: Lines = {}
@@ -375,7 +375,7 @@ def _lines(raster: Raster, x: Floats, y: Floats, triangles: Whole, box: Box,
         for line in ends:
             is_on = own == line
             which = np.flatnonzero(is_on)
-            if len(which) and 0 < line < points - 1:
+            if len(which) and line < points - 1:
                 vertices[kind, line] = along[which], earth[which]
                 pairs = sides[is_on[sides].all(1)]
                 edges[kind, line] = np.sort(along[pairs], axis=1)
