@@ -4,8 +4,8 @@ is killed; prints rows for results.md. All have to write the same bytes. Nothing
 python3-distributed for Dask.
 
 usage: bench/scale.py [ERROR..]     after `lib/build`; SIDE=20000 TILE=513 ROOM=a folder with room, which is left; RUNS=one,pool,..;
-                                    CHECK=1 checks the tiles of each run, too, by so many processes; PLANT=1 those of
-                                    the last one with three faults"""
+                                    CHECK=1 checks the tiles of the last run, too, by so many processes: those of the
+                                    others are the same; PLANT=1 checks them with three faults"""
 import contextlib
 import hashlib
 import json
@@ -187,12 +187,11 @@ def sums(path, error, what, client=None, workers=1):
 
 def all_sums(path, error):
     """Dask's overhead a task, which a run in one process has not; and two workers beside one, by processor time."""
-    from distributed import Client, LocalCluster
+    from distributed import Client
     here, one = sums(path, error, "one process")
     _, two = sums(path, error, "two processes", workers=2)
     for workers in (1, 2):
-        with LocalCluster(n_workers=workers, threads_per_worker=1, host="127.0.0.1", dashboard_address=None,
-                          local_directory=str(ROOM / "dask")) as cluster, Client(cluster) as client:
+        with local_cluster(workers) as cluster, Client(cluster) as client:
             client.wait_for_workers(workers)
             client.run(__import__, "calfrewin.tiles")  # which takes as long as a hundred tasks' ways
             over, longest = sums(path, error, f"Dask, {workers} workers", client=client)
@@ -201,6 +200,12 @@ def all_sums(path, error):
                       f"{1000 * here:.1f} ms", flush=True)
     print(f"# {error:g}: by processor time two are {one / two:.2f} times as fast as one in a pool, {one / longest:.2f} times by Dask",
           flush=True)
+
+
+def local_cluster(workers):
+    from distributed import LocalCluster
+    return LocalCluster(n_workers=workers, threads_per_worker=1, host="127.0.0.1", dashboard_address=None,
+                        local_directory=str(ROOM / "dask"))
 
 
 def digest(folder):
@@ -252,6 +257,15 @@ def started(name, *words):
                             env=os.environ | {"PYTHONPATH": str(TOP / "python/src")})
 
 
+def by_cluster(path, out, error, workers):
+    """A LocalCluster, whose scheduler is in this process."""
+    with local_cluster(workers) as cluster:
+        before = spent(os.getpid())
+        told, _ = program(path, out, error, "--dask", cluster.scheduler_address)
+        told["processor"] += spent(os.getpid()) - before
+        return told, max(resident(it) for it in family(os.getpid())[1:])
+
+
 def by_hand(path, out, error, workers, kill_after):
     """A scheduler and workers as they are started on a cluster; one is killed, and does not come back."""
     (ROOM / "scheduler.json").unlink(missing_ok=True)
@@ -260,21 +274,17 @@ def by_hand(path, out, error, workers, kill_after):
     try:
         while not (ROOM / "scheduler.json").exists():
             time.sleep(0.1)
-        processes += [started("dask_worker", *file, "--host", "127.0.0.1", "--no-dashboard", "--nthreads", "1",
-                              *(("--no-nanny",) if kill_after else ()), "--local-directory", str(ROOM / f"worker{k}"))
-                      for k in range(workers)]
+        processes += [started("dask_worker", *file, "--host", "127.0.0.1", "--no-dashboard", "--nthreads", "1", "--no-nanny",
+                              "--local-directory", str(ROOM / f"worker{k}")) for k in range(workers)]
         address = json.loads((ROOM / "scheduler.json").read_text())["address"]
         time.sleep(10)
-        killer = None
-        if kill_after:
-            killer = subprocess.Popen(["sh", "-c", f"sleep {kill_after}; kill -KILL {processes[1].pid}"])
+        killer = subprocess.Popen(["sh", "-c", f"sleep {kill_after}; kill -KILL {processes[1].pid}"])
         before = sum(spent(it.pid) for it in processes)
         told, _ = program(path, out, error, "--dask", address)
         most = max(resident(child) for it in processes[1:] for child in family(it.pid))
         told["processor"] += sum(spent(it.pid) for it in processes) - before
-        if killer:
-            killer.wait()
-            print(f"# worker 1 ended with {processes[1].wait()} after {kill_after} s", flush=True)
+        killer.wait()
+        print(f"# worker 1 ended with {processes[1].wait()} after {kill_after} s", flush=True)
         return told, most
     finally:
         for process in processes:
@@ -304,9 +314,11 @@ def row(error, what, told, memory, same):
 def checked(path, out, error):
     words = (sys.executable, "-m", "calfrewin", "check", str(out), "--raster", str(path), "--error", str(error), "--quiet", "--json",
              "--workers", os.environ.get("CHECK", "1"))
+    before = resource.getrusage(resource.RUSAGE_CHILDREN)
     told = subprocess.run(words, stdout=subprocess.PIPE, text=True, env=os.environ | {"PYTHONPATH": str(TOP / "python/src")})
-    found = json.loads(told.stdout)
-    print(f"# check: {json.dumps(found | {'wrong': len(found['wrong'])})}", flush=True)
+    after, found = resource.getrusage(resource.RUSAGE_CHILDREN), json.loads(told.stdout)
+    processor = after.ru_utime + after.ru_stime - before.ru_utime - before.ru_stime
+    print(f"# check: {json.dumps(found | {'wrong': len(found['wrong']), 'processor': round(processor, 1)})}", flush=True)
     return found["wrong"]
 
 
@@ -365,22 +377,23 @@ def main():
             elif run == "pool":
                 told, memory = program(path, out, error, "--workers", "2")
             elif run == "cluster":
-                told, memory = by_hand(path, out, error, 2, 0)
+                told, memory = by_cluster(path, out, error, 2)
             elif run == "hand":
                 told, memory = by_hand(path, out, error, 3, 20)
             else:
                 continue
             same = digest(out)[:16]
-            row(error, {"one": "one process", "pool": "two processes", "cluster": "Dask, two workers",
-                        "hand": "Dask, three workers, one killed"}[run], told, memory, same)
-            if os.environ.get("CHECK"):
-                checked(path, out, error)
+            row(error, {"one": "one process", "pool": "two processes", "cluster": "Dask's LocalCluster, two workers",
+                        "hand": "Dask, three workers started by hand, one killed"}[run], told, memory, same)
             first = first or same
             if same != first:
                 sys.exit(f"bench/scale.py: {run} wrote other bytes")
-            if os.environ.get("PLANT") and run == RUNS[-1]:
+            is_last = run == RUNS[-1]
+            if os.environ.get("CHECK") and is_last:
+                checked(path, out, error)
+            if os.environ.get("PLANT") and is_last:
                 planted(path, out, error)
-            if run != RUNS[-1] or not os.environ.get("KEEP"):
+            if not is_last or not os.environ.get("KEEP"):
                 shutil.rmtree(out, ignore_errors=True)
 
 

@@ -143,6 +143,12 @@ def test_the_check_finds_what_is_planted(tmp_path, terrain):
     def raised(points):
         points[len(points) // 2, 1] += 9
 
+    def lifted(points):
+        points[0, 1] += 300
+
+    def between(points):  # two of its level's points, in the first row, where other levels have a vertex
+        points[len(points) // 2, 1] += 300
+
     def moved(points):
         points[len(points) // 2, 0] += 31
 
@@ -159,6 +165,8 @@ def test_the_check_finds_what_is_planted(tmp_path, terrain):
         "shift": (lambda it: vertex_moved(f"{it}/{inner}", shifted), "lie at no point"),
         "cut": (lambda it: open(f"{it}/{inner}", "r+b").truncate(500), "cut off|buffer|is no GLB"),
         "coarse": (lambda it: shutil.copy(f"{tmp_path}/other/2/1/1.glb", f"{it}/2/1/1.glb"), "a crack"),
+        "top": (lambda it: vertex_moved(f"{it}/0/0/0.glb", lifted), "0/0/0.glb is off by"),
+        "fan": (lambda it: vertex_moved(f"{it}/0/0/0.glb", between), "row 0: the vertices of two tiles at 28 are 3.* m apart"),
     }
     for name, (plant, text) in plants.items():
         shutil.copytree(tmp_path / "t", tmp_path / name)

@@ -8,6 +8,7 @@ shared with what fits and writes tiles.
 """
 from __future__ import annotations
 
+import functools
 import json
 import os
 import struct
@@ -26,8 +27,12 @@ NEAR = 0.02  # of a cell: so near to a point of the raster a vertex has to be
 LATTICE, DEGREE = 17, 5  # points a side at which PROJ is asked how the earth bends, and the polynomial between
 HIGH = 1000.0  # metres
 MOST_TOLD = 20  # of a kind
+AT_ONCE = 3  # levels whose tiles a task checks, since the raster is read anew for each task
 SLACK = 2.0 ** -21  # of a tile's extent: floats of 32 bits
+KINDS = 128  # shapes of triangles whose points are kept, since all tiles have the same ones
 Lines = dict[tuple[str, int], Any]
+At = tuple[int, int, int]  # level, row and column of a tile
+Box = tuple[int, int, int, int]  # its first row and column of the raster's points, and its last ones
 
 
 class Said(NamedTuple):
@@ -75,40 +80,66 @@ def check(folder: str, raster: Raster, *, client: Any = None, workers: int = 1, 
     wrong: list[str] = []
     errors = dict(_nodes(tree["root"], said, wrong))
     tasks: dict[Any, Any] = {}
-    for level in range(said.levels + 1):
-        rows, columns = (max(1, -(-(points - 1) // (said.steps << level))) for points in raster.shape)
-        for at in ((level, row, column) for row in range(rows) for column in range(columns)):
-            most = errors.pop(at, None)
-            tasks[at] = check_tile, (said, raster, at, most if error is None or most is None or level else min(most, error))
+    for low in range(0, said.levels + 1, AT_ONCE):
+        level = min(low + AT_ONCE - 1, said.levels)
+        for row, column in np.ndindex(*_count(said, raster, level)):
+            own = {at: errors.pop(at, None) for at in _down_to(said, raster, low, (level, row, column))}
+            tasks[level, row, column] = check_tiles, (said, raster, low, {
+                at: most if error is None or most is None or at[0] else min(most, error) for at, most in own.items()})
     wrong += [f"{_name(said, at)} lies beyond the raster" for at in sorted(errors)]
     vertices: dict[Any, list[Any]] = {}
     edges: dict[Any, list[Any]] = {}
     told_all = {"tiles": 0, "triangles": 0, "points": 0}
     part, off = 0.0, 0.0
     with workers_of(client, workers) as hands:
-        for done, (at, it) in enumerate(hands.do(tasks), 1):
-            wrong += it.wrong
-            told_all["tiles"] += it.triangles > 0
-            told_all["triangles"] += it.triangles if at[0] == 0 else 0
-            told_all["points"] += it.points
-            part = max(part, it.part)
-            off = max(off, it.off) if at[0] == 0 else off
-            for all_, own in ((vertices, it.vertices), (edges, it.edges)):
-                for line, values in own.items():
-                    all_.setdefault(line, []).append((_name(said, at), values))
+        for done, (_, found) in enumerate(hands.do(tasks), 1):
+            for at, it in found.items():
+                wrong += it.wrong
+                told_all["tiles"] += it.triangles > 0
+                told_all["triangles"] += it.triangles if at[0] == 0 else 0
+                told_all["points"] += it.points
+                part = max(part, it.part)
+                off = max(off, it.off) if at[0] == 0 else off
+                for lines, own in ((vertices, it.vertices), (edges, it.edges)):
+                    for line, values in own.items():
+                        lines.setdefault(line, []).append((_name(said, at), values))
             if progress:
                 progress(done, len(tasks), f"{told_all['triangles']:,} triangles")
     wrong += _between(vertices, edges)
     return {"wrong": wrong, **told_all, "off": off, "part": part, "seconds": round(time.perf_counter() - began, 2)}
 
 
-def _name(said: Said, at: tuple[int, int, int]) -> str:
+def _count(said: Said, raster: Raster, level: int) -> tuple[int, int]:
+    """Rows and columns of tiles of a level."""
+    rows, columns = (max(1, -(-(points - 1) // (said.steps << level))) for points in raster.shape)
+    return rows, columns
+
+
+def _down_to(said: Said, raster: Raster, low: int, at: At) -> Iterator[At]:
+    """A tile, and before it those below it that the raster has, down to a level."""
+    level, row, column = at
+    if level > low:
+        rows, columns = _count(said, raster, level - 1)
+        for i, j in ((2 * row + place // 2, 2 * column + place % 2) for place in range(4)):
+            if i < rows and j < columns:
+                yield from _down_to(said, raster, low, (level - 1, i, j))
+    yield at
+
+
+def _box(said: Said, raster: Raster, at: At) -> Box:
+    span = said.steps << at[0]
+    top, left = at[1] * span, at[2] * span
+    bottom, right = (min(begin + span, points - 1) for begin, points in zip((top, left), raster.shape))
+    return top, left, bottom, right
+
+
+def _name(said: Said, at: At) -> str:
     level, row, column = at
     return f"{said.levels - level}/{column}/{row}.glb"
 
 
 def _nodes(node: dict[str, Any], said: Said, wrong: list[str], above: float = np.inf,
-           over: Any = None) -> Iterator[tuple[tuple[int, int, int], float]]:
+           over: Any = None) -> Iterator[tuple[At, float]]:
     """Level, row, column and error of all tiles; a child is a quarter of what is over it, and has no greater error."""
     depth, column, row = (int(word) for word in node["content"]["uri"].split(".")[0].split("/"))
     at = said.levels - depth, row, column
@@ -143,13 +174,23 @@ def read_glb(path: str) -> tuple[Floats, Whole, Floats]:
     return np.column_stack((x, -minus_y, up)), array(primitive["indices"], 1).reshape(-1, 3).astype(np.int64), matrix
 
 
-def check_tile(said: Said, raster: Raster, at: tuple[int, int, int], most: Optional[float]) -> Found:
-    """Checks one tile; `most` is the error that it tells, None where there is no such tile."""
-    level, row, column = at
-    span, name = said.steps << level, _name(said, at)
-    top, left = row * span, column * span
-    bottom, right = (min(begin + span, points - 1) for begin, points in zip((top, left), raster.shape))
-    heights = raster.points(Window(top, left, bottom - top + 1, right - left + 1), 1 << level).astype(np.float64)
+def check_tiles(said: Said, raster: Raster, low: int, errors: dict[At, Optional[float]]) -> dict[At, Found]:
+    """Checks the tiles within one of them, the last, down to the level `low`; `errors` has what each tells."""
+    top, left, bottom, right = _box(said, raster, next(reversed(errors)))
+    heights = raster.points(Window(top, left, bottom - top + 1, right - left + 1), 1 << low)
+    found = {}
+    for at, most in errors.items():
+        own, step = _box(said, raster, at), 1 << at[0] - low
+        rows, columns = (slice(begin - first >> low, (end - first >> low) + 1, step)
+                         for begin, first, end in ((own[0], top, own[2]), (own[1], left, own[3])))
+        found[at] = check_tile(said, raster, at, most, heights[rows, columns].astype(np.float64))
+    return found
+
+
+def check_tile(said: Said, raster: Raster, at: At, most: Optional[float], heights: Floats) -> Found:
+    """Checks one tile, of these heights; `most` is the error that it tells, None where there is no such tile."""
+    level, name = at[0], _name(said, at)
+    top, left, bottom, right = _box(said, raster, at)
     if most is None:
         count = int((~np.isnan(heights)).sum())
         wrong = [f"{name} is not there, and {count} points of the raster are"] if count and not level else []
@@ -193,7 +234,7 @@ def grid_places(earth: Floats, transform: Transform, crs: Optional[str]) -> Any:
     return columns, rows
 
 
-def _whole(columns: Floats, rows: Floats, box: tuple[int, int, int, int], shape: tuple[int, int],
+def _whole(columns: Floats, rows: Floats, box: Box, shape: tuple[int, int],
            name: str) -> tuple[Floats, Floats, list[str]]:
     """The points of the raster at which vertices lie; along its last column and row, where meshes are cut, some may lie between
     two."""
@@ -211,7 +252,7 @@ def _whole(columns: Floats, rows: Floats, box: tuple[int, int, int, int], shape:
                   f"{rows[k]:.3f}"]
 
 
-def _down(said: Said, raster: Raster, frame: Floats, box: tuple[int, int, int, int], step: int) -> Callable[[Floats], Floats]:
+def _down(said: Said, raster: Raster, frame: Floats, box: Box, step: int) -> Callable[[Floats], Floats]:
     """What makes the third coordinate in a tile's frame of heights at its points, on the round earth."""
     if said.crs is None:
         return lambda heights: np.asarray(heights - frame[2, 3])
@@ -239,7 +280,7 @@ def _down(said: Said, raster: Raster, frame: Floats, box: tuple[int, int, int, i
     return down
 
 
-def _covered_once(x: Floats, y: Floats, triangles: Whole, box: tuple[int, int, int, int], name: str,
+def _covered_once(x: Floats, y: Floats, triangles: Whole, box: Box, name: str,
                   heights: Floats) -> list[str]:
     """What is wrong with how triangles lie: their turn, their edges, and the sum of their areas."""
     wrong = []
@@ -283,38 +324,48 @@ def _covered_once(x: Floats, y: Floats, triangles: Whole, box: tuple[int, int, i
 def _surface(x: Floats, y: Floats, z: Floats, triangles: Whole, shape: tuple[int, ...], step: int) -> Floats:
     """The height of triangles at each `step`-th column and row, NaN where there is none; all of one shape at a time."""
     found = np.full(shape, np.nan)
-    px, py = x[triangles], y[triangles]
-    left, top = (np.ceil(it.min(1) / step).astype(np.int64) for it in (px, py))
-    key = np.column_stack((px - (left * step)[:, None], py - (top * step)[:, None]))
-    kinds, first, back = np.unique(key, axis=0, return_index=True, return_inverse=True)
+    px, py = x[triangles] / step, y[triangles] / step
+    left, top = (np.ceil(it.min(1)).astype(np.int64) for it in (px, py))
+    key = np.column_stack((px - left[:, None], py - top[:, None]))
+    kinds, back = np.unique(key, axis=0, return_inverse=True)
     order = np.argsort(back, kind="stable")
     ends = np.searchsorted(back[order], np.arange(len(kinds) + 1))
     flat = found.reshape(-1)
-    for kind, begin, end in zip(kinds, ends[:-1], ends[1:]):
-        kx, ky = kind[:3], kind[3:]
-        across, down = (np.arange(0, int(it.max() // step) + 1) * step for it in (kx, ky))
-        u, v = (it.reshape(-1) for it in np.meshgrid(across, down))
-        area = (kx[1] - kx[0]) * (ky[2] - ky[0]) - (ky[1] - ky[0]) * (kx[2] - kx[0])
-        if area == 0 or not len(u):
+    for kind, begin, end in zip(kinds.tolist(), ends[:-1], ends[1:]):
+        columns, rows, weights = _within(*kind)
+        if not len(columns):
             continue
-        weights = np.column_stack([((kx[j] - u) * (ky[k] - v) - (ky[j] - v) * (kx[k] - u)) / area
-                                   for j, k in ((1, 2), (2, 0), (0, 1))])
-        is_in = (weights >= -1e-12).all(1)
-        if not is_in.any():
-            continue
-        steps = (v[is_in] // step * shape[1] + u[is_in] // step).astype(np.int64)
+        steps = rows * shape[1] + columns
         at_once = max(1, (1 << 22) // len(steps))
         for at in range(begin, end, at_once):
             which = order[at:min(at + at_once, end)]
             places = (top[which] * shape[1] + left[which])[:, None] + steps
-            flat[places] = z[triangles[which]] @ weights[is_in].T
+            flat[places] = z[triangles[which]] @ weights
     return found
 
 
-def _lines(raster: Raster, x: Floats, y: Floats, triangles: Whole, box: tuple[int, int, int, int],
+@functools.lru_cache(maxsize=KINDS)
+def _within(*corners: float) -> tuple[Whole, Whole, Floats]:
+    """The points with whole coordinates, from 0 on, in a triangle: columns, rows, and the weights of its three corners there.
+
+    Args:
+        corners: three times x, three times y.
+
+    >>> [it.tolist() for it in _within(0, 2, 0, 0, 0, 1)]
+    [[0, 1, 2, 0], [0, 0, 0, 1], [[1.0, 0.5, 0.0, 0.0], [0.0, 0.5, 1.0, 0.0], [0.0, 0.0, 0.0, 1.0]]]
+    """
+    x, y = corners[:3], corners[3:]
+    u, v = (it.reshape(-1) for it in np.meshgrid(*(np.arange(int(max(it)) + 1) for it in (x, y))))
+    area = (x[1] - x[0]) * (y[2] - y[0]) - (y[1] - y[0]) * (x[2] - x[0])
+    weights = np.stack([(x[j] - u) * (y[k] - v) - (y[j] - v) * (x[k] - u) for j, k in ((1, 2), (2, 0), (0, 1))]) / (area or 1)
+    is_in = (weights >= -1e-12).all(0) & (area != 0)
+    return u[is_in], v[is_in], weights[:, is_in]
+
+
+def _lines(raster: Raster, x: Floats, y: Floats, triangles: Whole, box: Box,
            earth: Floats) -> tuple[Lines, Lines]:
-    """The vertices on the lines between tiles, where they are on the earth, and the edges there; not on the raster's border,
-    where nothing is to meet."""
+    """The vertices on the borders of tiles, where they are on the earth, and the edges there; not on the raster's last row and
+    column, where each level is cut."""
     top, left, bottom, right = box
     vertices: Lines = {}
     edges: Lines = {}
@@ -324,7 +375,7 @@ def _lines(raster: Raster, x: Floats, y: Floats, triangles: Whole, box: tuple[in
         for line in ends:
             is_on = own == line
             which = np.flatnonzero(is_on)
-            if len(which) and 0 < line < points - 1:
+            if len(which) and line < points - 1:
                 vertices[kind, line] = along[which], earth[which]
                 pairs = sides[is_on[sides].all(1)]
                 edges[kind, line] = np.sort(along[pairs], axis=1)
