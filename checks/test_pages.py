@@ -203,21 +203,6 @@ Last.
 """
 
 
-def test_a_law_crate_has_its_lemmas_too(small: Path) -> None:
-    assert made(small, "crates/tri_laws/README.md") == """# tri_laws
-
-Laws of triangles.
-
-<!-- generated: proved -->
-|item|meaning|promises|needs|
-|-|-|-|-|
-|`mate_laws`|A mate is of the same level.|`same`||
-
-Lemmas in `proofs/`: `Mate`.
-<!-- end -->
-"""
-
-
 def test_a_crate_of_tests_has_its_files(small: Path) -> None:
     assert "\n|`first.rt`|A first one, worked by hand.|\n" in made(small, "crates/high_tests/README.md")
     assert "lib.rt" not in made(small, "crates/high_tests/README.md")

@@ -90,17 +90,7 @@ def proved(made_of: Sources, crate: str) -> str:
     limits = [f"`{item.name}`" for item in items if item.kind == "const"]
     if limits:
         parts.append(f"Limits: {', '.join(limits)}.")
-    lemmas = lemma_files(made_of.top / "crates" / crate) if crate in made_of.laws else []
-    if lemmas:
-        parts.append("Lemmas in `proofs/`: " + ", ".join(f"`{name}`" for name in lemmas) + ".")
     return "\n\n".join(parts)
-
-
-def lemma_files(crate: Path) -> list[str]:
-    """The files of proofs/ that offer lemmas, as Lib.antt lists them."""
-    lib = crate / "proofs" / "Lib.antt"
-    names = re.findall(r"^pub mod (\w+)", lib.read_text(encoding="utf-8"), re.M) if lib.is_file() else []
-    return [name.removesuffix("Lemmas") for name in names if (crate / "proofs" / f"{name}.antt").is_file()]
 
 
 def storeys_of(made_of: Sources) -> list[tuple[str, list[Crate]]]:
