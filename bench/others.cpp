@@ -162,25 +162,28 @@ class Rtin {
     }
 
 public:
-    // From the finest triangles up: those of number k of a level are the halves of number k / 2 of the level above.
+    // From the finest edges up, each midpoint once: of edges of 2 s along an axis, then of the diagonals of squares of that side.
     Rtin() : errors(heights.size()) {
-        int64_t last = side - 1, all = 2 * last * last - 2, finest = last * last;
-        for (int64_t k = all - 1; k >= 0; k--) {
-            int64_t number = k + 2;
-            Point a{0, 0}, b{0, 0}, c{0, 0};
-            if (number & 1) b = {last, last}, c = {last, 0};
-            else a = {last, last}, c = {0, last};
-            while ((number >>= 1) > 1) {
-                Point m{(a.x + b.x) / 2, (a.y + b.y) / 2};
-                if (number & 1) b = a, a = c;
-                else a = b, b = c;
-                c = m;
-            }
-            Point m = at(middle(a, b));
-            float own = std::fabs((heights[size_t(a.y * side + a.x)] + heights[size_t(b.y * side + b.x)]) / 2.0f - heights[size_t(m.y * side + m.x)]);
-            float &error = errors[size_t(m.y * side + m.x)];
-            error = std::max(error, own);
-            if (k < all - finest) error = std::max({error, errors[size_t(middle(a, c))], errors[size_t(middle(b, c))]});
+        int last = side - 1;
+        auto put = [&](int x, int y, int dx, int dy, int ex, int ey, int fx, int fy) {
+            size_t k = size_t(y) * side + x, d = size_t(dy) * side + dx;
+            float worst = std::fabs((heights[k - d] + heights[k + d]) / 2.0f - heights[k]);
+            for (auto [u, v] : {Point{x + ex, y + ey}, Point{x - ex, y - ey}, Point{x + fx, y + fy}, Point{x - fx, y - fy}})
+                if (u >= 0 && v >= 0 && u <= last && v <= last) worst = std::max(worst, errors[size_t(v * side + u)]);
+            errors[k] = worst;
+        };
+        for (int s = 1; s < last; s *= 2) {
+            for (int y = 0; y <= last; y += s)
+                for (int x = y / s % 2 ? 0 : s; x <= last; x += 2 * s) {
+                    int half = s / 2;
+                    if (y / s % 2) put(x, y, 0, s, half, half, half, -half);
+                    else put(x, y, s, 0, half, half, half, -half);
+                }
+            for (int y = s; y < last; y += 2 * s)
+                for (int x = s; x < last; x += 2 * s) {
+                    bool rising = (x / (2 * s) + last / (2 * s) - 1 - y / (2 * s)) % 2 == 0 && 2 * s < last;
+                    put(x, y, rising ? -s : s, s, s, 0, 0, s);
+                }
         }
     }
 
