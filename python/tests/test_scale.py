@@ -13,7 +13,7 @@ import time
 
 import numpy as np
 import pytest
-from hypothesis import given, settings, strategies as st
+from hypothesis import example, given, settings, strategies as st
 
 from calfrewin import ANY, blocks, join, run, tiles
 from calfrewin.check import check
@@ -63,6 +63,7 @@ def test_tiles_pass_the_check_in_any_system(tmp_path, crs, cell, x, y):
 @settings(max_examples=12)
 @given(st.integers(2, 150), st.integers(2, 150), st.integers(0, 10 ** 6), st.sampled_from([9, 17]), st.integers(0, 2),
        st.sampled_from([0.5, 5.0, 60.0]), st.sampled_from(["none", "some", "half", "islands"]))
+@example(127, 16, 0, 9, 0, 0.5, "none")  # a mesh is cut at a point of the last row and 0.02 of a cell beside it
 def test_any_shape_and_any_holes_pass_the_check(tmp_path_factory, rows, columns, seed, tile, depth, error, holes):
     folder = tmp_path_factory.mktemp("shape")
     rng = np.random.default_rng(seed)

@@ -237,12 +237,19 @@ def grid_places(earth: Floats, transform: Transform, crs: Optional[str]) -> Any:
 def _whole(columns: Floats, rows: Floats, box: Box, shape: tuple[int, int],
            name: str) -> tuple[Floats, Floats, list[str]]:
     """The points of the raster at which vertices lie; along its last column and row, where meshes are cut, some may lie between
-    two."""
+    two, also near to one at which another lies."""
     top, left, bottom, right = box
     x, y = np.rint(columns), np.rint(rows)
     is_off = (np.abs(columns - x) > NEAR) | (np.abs(rows - y) > NEAR)
     on_end = ((y == shape[0] - 1) & (np.abs(rows - y) <= NEAR)) | ((x == shape[1] - 1) & (np.abs(columns - x) <= NEAR))
-    x, y = (np.where(is_off & on_end & (np.abs(at - whole) > NEAR), at, whole) for at, whole in ((columns, x), (rows, y)))
+    aside, above = np.abs(columns - x), np.abs(rows - y)
+    gap = np.maximum(aside, above)
+    order = np.lexsort((gap, y, x))
+    beside = np.zeros(len(x), bool)
+    beside[order[1:]] = (np.diff(x[order]) == 0) & (np.diff(y[order]) == 0)
+    beside &= on_end & (gap > NEAR / 100)
+    x, y = (np.where((is_off & on_end & (own > NEAR)) | (beside & (own >= other)), at, whole)
+            for own, other, at, whole in ((aside, above, columns, x), (above, aside, rows, y)))
     is_off &= ~on_end
     is_off |= (x < left) | (x > right) | (y < top) | (y > bottom)
     if not is_off.any():
