@@ -12,7 +12,7 @@ pub fn end(n: u32) -> u32
     requires in_grid { (1 ≤ n) × (n ≤ GREATEST_LEVEL) }
     ensures value { result ≡ 2 ^ (2 * n + 1) }
     ensures low { 2 ≤ result }
-    ensures high { result ≤ 2 ^ 23 }
+    ensures high { result ≤ 2 ^ 29 }
 {
     1 << (2 * n + 1)
 }

@@ -31,7 +31,7 @@ pub fn list_leaves(flags: &[bool], n: u32, list: &mut [Tri]) -> usize
 ///
 /// The answer is how many there are now.
 fn put_leaves(flags: &[bool], levels: u32, t: Tri, list: &mut [Tri], count: usize) -> usize
-    requires deep { levels + level_of t ≤ 22 }
+    requires deep { levels + level_of t ≤ 28 }
     requires room { count + length (leaves_under levels (is_flagged flags.now) t) ≤ length list.old }
     ensures listed { take result list.new
         ≡ take count list.old ++ leaves_under levels (is_flagged flags.now) t }

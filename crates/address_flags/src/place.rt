@@ -24,8 +24,8 @@ impl Place {
 
     /// The child that holds the point, where the point is not the midpoint of the base: of two, the left one.
     pub(crate) fn child(self) -> Self
-        requires coarse { level_of self.triangle < 22 }
-        requires small { self.weights.v0 + self.weights.v1 ≤ 2048 }
+        requires coarse { level_of self.triangle < 28 }
+        requires small { self.weights.v0 + self.weights.v1 ≤ 16384 }
         ensures level { level_of result.triangle ≡ level_of self.triangle + 1 }
         ensures weighted { (n side : ℕ) (r : Point) → IsWeighted n side r self → ¬ (IsCentred self) →
             IsWeighted n side r result }
@@ -53,7 +53,7 @@ pub(crate) fn is_square_corner(side: u32, point: Point) -> bool
 
 /// The half of the square that holds the point.
 pub(crate) fn half_around(side: u32, point: Point) -> Place
-    requires small { side ≤ 2048 }
+    requires small { side ≤ 16384 }
     requires point_in_grid { IsInSquare side point }
     ensures { (n : ℕ) → side ≡ 2 ^ n → ¬ (IsSquareCorner side point) → IsWeighted n side point result }
 {

@@ -7,9 +7,9 @@ ghost use Rattle.bintree_laws.specs.Pair.{IsPair};
 /// The other address of the level whose triangle has the same base.
 pub fn address_across(number: u32) -> Option<u32>
     requires low { 2 ≤ number }
-    requires high { number < 2 ^ 24 }
+    requires high { number < 2 ^ 30 }
     ensures pair { (c : ℕ) → ((result ≡ Some c) ↔ IsPair (level_of number) number c) }
-    ensures range { IfSome result (λ c. (2 ≤ c) × (c < 2 ^ 24)) }
+    ensures range { IfSome result (λ c. (2 ≤ c) × (c < 2 ^ 30)) }
 {
     match number {
         0..4 => Some(5 - number),

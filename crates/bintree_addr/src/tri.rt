@@ -14,7 +14,7 @@ use std::marker::Model;
 /// The address of a triangle: 2 and 3 for the halves of the square, 2a and 2a + 1 for the left and
 /// the right child of a.
 ///
-/// Every address lies in the deepest grid, of side 2,048. Addresses are ordered by level, and within
+/// Every address lies in the deepest grid, of 16,384 steps a side. Addresses are ordered by level, and within
 /// a level from left child to right child.
 #[derive(Clone, Copy, Debug, PartialEq, Eq, PartialOrd, Ord)]
 pub struct Tri {
@@ -28,7 +28,7 @@ impl Model for Tri {
 
     ghost view = { λ t. t.number };
 
-    ghost invariant = { λ t. (2 ≤ t.number) × (t.number < 2 ^ 24) };
+    ghost invariant = { λ t. (2 ≤ t.number) × (t.number < 2 ^ 30) };
 
     ghost inverse = { λ a. record { number = a } };
 }
@@ -41,7 +41,7 @@ impl Tri {
     /// The half of the square above its falling diagonal.
     pub const UPPER: Self = Tri { number: 3 };
 
-    /// The triangle with this address.
+    /// The triangle with this address, where a grid of at most 2,049 points a side has it; `at` takes all addresses.
     pub fn new(number: u32) -> Option<Self>
         ensures valid { IsSome result ↔ ((2 ≤ number) × (number < 2 ^ 24)) }
         ensures value { IfSome result (λ t. t ≡ number) }
@@ -53,11 +53,23 @@ impl Tri {
         }
     }
 
+    /// The triangle with this address.
+    pub fn at(number: u32) -> Option<Self>
+        ensures valid { IsSome result ↔ ((2 ≤ number) × (number < 2 ^ 30)) }
+        ensures value { IfSome result (λ t. t ≡ number) }
+    {
+        if (2..1 << 30).contains(&number) {
+            Some(Tri { number })
+        } else {
+            None
+        }
+    }
+
     /// The address as a number.
     pub fn number(self) -> u32
         ensures value { result ≡ self }
         ensures low { 2 ≤ result }
-        ensures high { result < 2 ^ 24 }
+        ensures high { result < 2 ^ 30 }
     {
         self.number
     }
@@ -65,7 +77,7 @@ impl Tri {
     /// How often a half of the square was split to come to this triangle.
     pub fn level(self) -> u32
         ensures value { result ≡ level_of self }
-        ensures high { result ≤ 22 }
+        ensures high { result ≤ 28 }
     {
         // An address of level l has l + 2 binary digits.
         30 - self.number.leading_zeros()
@@ -73,7 +85,7 @@ impl Tri {
 
     /// The left child: its base is this triangle's left leg, from the apex to `v0`.
     pub fn left(self) -> Self
-        requires coarse { level_of self < 22 }
+        requires coarse { level_of self < 28 }
         ensures value { result ≡ 2 * self }
         ensures level { level_of result ≡ level_of self + 1 }
         ensures corners { (n : ℕ) → corners_of n result ≡ child 0 (corners_of n self) }
@@ -85,7 +97,7 @@ impl Tri {
 
     /// The right child: its base is this triangle's right leg, from `v1` to the apex.
     pub fn right(self) -> Self
-        requires coarse { level_of self < 22 }
+        requires coarse { level_of self < 28 }
         ensures value { result ≡ 2 * self + 1 }
         ensures level { level_of result ≡ level_of self + 1 }
         ensures corners { (n : ℕ) → corners_of n result ≡ child 1 (corners_of n self) }

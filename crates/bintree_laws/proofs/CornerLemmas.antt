@@ -86,14 +86,14 @@ pub IsWithin-wider : (m k : ℕ) (c : Corners) → m ≤ k → IsWithin m c → 
 IsWithin-wider m k c le w = grind arith
 
 -- and within the largest square
-pub IsWithin-largest : (n : ℕ) (c : Corners) → n ≤ 11 → IsWithin (2 ^ n) c → IsWithin (2 ^ 11) c
-IsWithin-largest n c small w = IsWithin-wider (2 ^ n) (2 ^ 11) c (pow_mono small) w
+pub IsWithin-largest : (n : ℕ) (c : Corners) → n ≤ 14 → IsWithin (2 ^ n) c → IsWithin (2 ^ 14) c
+IsWithin-largest n c small w = IsWithin-wider (2 ^ n) (2 ^ 14) c (pow_mono small) w
 
 -- what is reached on the way down lies within the largest square
-pub IsWithin-reached : (level n a : ℕ) (c : Corners) → n ≤ 11 → c ≡ corners_at level (2 ^ n) a → IsWithin (2 ^ 11) c
+pub IsWithin-reached : (level n a : ℕ) (c : Corners) → n ≤ 14 → c ≡ corners_at level (2 ^ n) a → IsWithin (2 ^ 14) c
 IsWithin-reached level n a c small reached =
-    let le : 2 ^ n ≤ 2 ^ 11 = pow_mono small in rw reached
-    (IsWithin-wider (2 ^ n) (2 ^ 11) (corners_at level (2 ^ n) a) le (IsWithin-corners_at level (2 ^ n) a))
+    let le : 2 ^ n ≤ 2 ^ 14 = pow_mono small in rw reached
+    (IsWithin-wider (2 ^ n) (2 ^ 14) (corners_at level (2 ^ n) a) le (IsWithin-corners_at level (2 ^ n) a))
 
 -- ---- a step of the way down
 
@@ -120,7 +120,7 @@ corners_at-next level below m number c d some fits reached next =
     next ∙ (rw (deeper, bit, half, ← reached) refl)
 
 -- the way begins at a base triangle
-pub corners_at-start : (level n number : ℕ) (c : Corners) → n ≤ 11 → c ≡ base_triangle (1 * 2 ^ n % 4294967296)
+pub corners_at-start : (level n number : ℕ) (c : Corners) → n ≤ 14 → c ≡ base_triangle (1 * 2 ^ n % 4294967296)
     (if nat_eq (bit_and (number / 2 ^ level) 1) 1 then 1 else 0) → c ≡ corners_at (level - level) (2 ^ n)
     (number / 2 ^ level)
 corners_at-start level n number c small start =
@@ -139,5 +139,5 @@ corners_at-end level below n number none same =
     rw (zeroth, all, whole, same) refl
 
 -- the largest side; the first part shows `grind` the power to match
-pub side_small : (n : ℕ) → n ≤ 11 → (2 ^ n ≡ 2 ^ n) × (2 ^ n ≤ 2048)
+pub side_small : (n : ℕ) → n ≤ 14 → (2 ^ n ≡ 2 ^ n) × (2 ^ n ≤ 16384)
 side_small n small = (refl, pow_mono small)

@@ -150,7 +150,7 @@ top_is_level a (suc k) blanks low e from to =
     omega arith
 
 -- the level that is read off the leading blanks of 32 bits
-pub level_of-leading : (a : ℕ) → 2 ≤ a → a < 2 ^ 24 → count_leading_zeros 32 a + (level_of a + 2) ≡ 32
+pub level_of-leading : (a : ℕ) → 2 ≤ a → a < 2 ^ 30 → count_leading_zeros 32 a + (level_of a + 2) ≡ 32
 level_of-leading a low high =
     let top : (j : ℕ) × (count_leading_zeros 32 a + suc j ≡ 32) × (2 ^ j ≤ a) × (a < 2 ^ suc j) = leading_top 32 a
     (omega arith) (omega arith) in
@@ -159,16 +159,16 @@ level_of-leading a low high =
 -- ---- what the code asks; the first part of a conclusion shows `grind` the call to match
 
 -- the level by the leading zeros of a 32-bit number
-pub leading_read : (a : ℕ) → 2 ≤ a → a < 2 ^ 24 → (count_leading_zeros 32 a ≡ count_leading_zeros 32 a) ×
-    (30 - count_leading_zeros 32 a ≡ level_of a) × (count_leading_zeros 32 a ≤ 30) × (level_of a < 23)
+pub leading_read : (a : ℕ) → 2 ≤ a → a < 2 ^ 30 → (count_leading_zeros 32 a ≡ count_leading_zeros 32 a) ×
+    (30 - count_leading_zeros 32 a ≡ level_of a) × (count_leading_zeros 32 a ≤ 30) × (level_of a < 29)
 leading_read a low high =
     let read : count_leading_zeros 32 a + (level_of a + 2) ≡ 32 = level_of-leading a low high in
-    (refl, omega arith, omega arith, (level_of-below a 23 low).1 high)
+    (refl, omega arith, omega arith, (level_of-below a 29 low).1 high)
 
--- the children of a triangle above level 22 are addresses of 24 bits
-pub child_room : (a : ℕ) → 2 ≤ a → level_of a < 22 → (level_of a ≡ level_of a) × (2 * a + 1 < 2 ^ 24)
+-- the children of a triangle above level 28 are addresses of 30 bits
+pub child_room : (a : ℕ) → 2 ≤ a → level_of a < 28 → (level_of a ≡ level_of a) × (2 * a + 1 < 2 ^ 30)
 child_room a low coarse =
-    let below : a < 2 ^ 23 = (level_of-below a 22 low).0 coarse in (refl, omega arith)
+    let below : a < 2 ^ 29 = (level_of-below a 28 low).0 coarse in (refl, omega arith)
 
 -- all laws of levels
 pub ruleset levels = (leading_read, child_room, level_of-left, level_of-right, level_of-parent)

@@ -246,12 +246,12 @@ pub pair_no_answer : (a : ℕ) → ((c : ℕ) → IsPair (level_of a) a c → �
 pair_no_answer a none c = ((λ e. cc), (λ pair. absurd (none c pair)))
 
 -- a pair of an address is an address
-pub pair_range : (a b : ℕ) → 2 ≤ a → a < 2 ^ 24 → IsPair (level_of a) a b → (2 ≤ b) × (b < 2 ^ 24)
+pub pair_range : (a b : ℕ) → 2 ≤ a → a < 2 ^ 30 → IsPair (level_of a) a b → (2 ≤ b) × (b < 2 ^ 30)
 pair_range a b low high pair =
     let at : IsAtLevel (level_of a) b = IsAtLevel-pair (level_of a) a b (IsAtLevel-level_of a low) pair in
-    let level : level_of a < 23 = (level_of-below a 23 low).1 high in
-    let shallow : level_of a + 2 ≤ 24 = omega arith in
-    let deepest : 2 ^ (level_of a + 2) ≤ 2 ^ 24 = pow_mono shallow in
+    let level : level_of a < 29 = (level_of-below a 29 low).1 high in
+    let shallow : level_of a + 2 ≤ 30 = omega arith in
+    let deepest : 2 ^ (level_of a + 2) ≤ 2 ^ 30 = pow_mono shallow in
     let lowest : 1 ≤ level_of a + 1 = omega arith in
     let first : 2 ^ 1 ≤ 2 ^ (level_of a + 1) = pow_mono lowest in
     (omega arith, omega arith)

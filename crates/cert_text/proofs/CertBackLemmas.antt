@@ -34,8 +34,8 @@ use Rattle.cert_text.proofs.LineLemmas.{entries-whole, entries-one, lines-ended}
 number-fields : (a : ℕ) → a < 2 ^ 32 → All IsField (decimal a ∷ [])
 number-fields a fits = All-cons IsField (decimal a) [] (decimal-field a fits) (All-nil IsField)
 
-small : (n : ℕ) (k : ℕ) → n ≤ 11 → k ≤ 2 → 2 ^ (2 * n + k) ≤ 2 ^ 24
-small n k top few = let h : 2 * n + k ≤ 24 = omega arith in pow_mono h
+small : (n : ℕ) (k : ℕ) → n ≤ 14 → k ≤ 2 → 2 ^ (2 * n + k) ≤ 2 ^ 30
+small n k top few = let h : 2 * n + k ≤ 30 = omega arith in pow_mono h
 
 -- a leaf
 
@@ -47,7 +47,7 @@ leaf_field = record {
 }
 
 -- the line of a leaf of the grid is read back as it
-leaf-back : (n a : ℕ) → n ≤ 11 → IsAddress n a → read_cert_line n (cert_line_text (LeafLine a)) ≡ Some (LeafLine a)
+leaf-back : (n a : ℕ) → n ≤ 14 → IsAddress n a → read_cert_line n (cert_line_text (LeafLine a)) ≡ Some (LeafLine a)
 leaf-back n a top address =
     let most = small n 2 top (omega arith) in
     let low = address.low in let high = address.high in
@@ -55,7 +55,7 @@ leaf-back n a top address =
     (omega arith)
     ∙ ap (option_map (λ b. LeafLine b)) (address-back (2 ^ (2 * n + 2)) a low high most)
 
-leaf-one : (n a : ℕ) → n ≤ 11 → IsAddress n a → IsOneLine (cert_line_text (LeafLine a))
+leaf-one : (n a : ℕ) → n ≤ 14 → IsAddress n a → IsOneLine (cert_line_text (LeafLine a))
 leaf-one n a top address =
     let most = small n 2 top (omega arith) in
     let high = address.high in
@@ -88,7 +88,7 @@ kind-fields n Parent field = refl
 kind-fields n Mate field = refl
 
 -- the line of a reason, of a triangle of the grid that may be split, is read back as it
-reason-back : (n : ℕ) (r : Reason) → n ≤ 11 → IsSplittable n r.triangle →
+reason-back : (n : ℕ) (r : Reason) → n ≤ 14 → IsSplittable n r.triangle →
     read_cert_line n (cert_line_text (ReasonLine r)) ≡ Some (ReasonLine r)
 reason-back n r top splittable =
     let most = small n 1 top (omega arith) in
@@ -99,7 +99,7 @@ reason-back n r top splittable =
     ∙ ap (option_map (λ b. ReasonLine (record { kind = r.kind; triangle = b })))
     (address-back (2 ^ (2 * n + 1)) r.triangle low high most)
 
-reason-one : (n : ℕ) (r : Reason) → n ≤ 11 → IsSplittable n r.triangle → IsOneLine (cert_line_text (ReasonLine r))
+reason-one : (n : ℕ) (r : Reason) → n ≤ 14 → IsSplittable n r.triangle → IsOneLine (cert_line_text (ReasonLine r))
 reason-one n r top splittable =
     let most = small n 1 top (omega arith) in
     let high = splittable-lt n r.triangle splittable in
@@ -165,7 +165,7 @@ module _ (n : ℕ) (seen_from : CameraAt) (is : IsCamera seen_from) where
 
 -- lines one after the other
 
-leaf-next : (n : ℕ) (seen_from : CameraAt) → n ≤ 11 → (done : List ℕ) (a : ℕ) → IsAddress n a →
+leaf-next : (n : ℕ) (seen_from : CameraAt) → n ≤ 14 → (done : List ℕ) (a : ℕ) → IsAddress n a →
     length done < 1048576 →
     cert_line_in n (read_so_far (Some seen_from) done []) (cert_line_text (LeafLine a))
     ≡ Some (read_so_far (Some seen_from) (done ++ a ∷ []) [])
@@ -174,7 +174,7 @@ leaf-next n seen_from top done a is few =
     (cond-true (nat_lt (length done) 1048576) (Some (read_so_far (Some seen_from) (done ++ a ∷ []) [])) None
     (lt-ltb (length done) 1048576 few))
 
-reason-next : (n : ℕ) (seen_from : CameraAt) (leaves : List ℕ) → n ≤ 11 → (done : List Reason) (r : Reason) →
+reason-next : (n : ℕ) (seen_from : CameraAt) (leaves : List ℕ) → n ≤ 14 → (done : List Reason) (r : Reason) →
     IsSplittable n r.triangle → length done < 1100000 →
     cert_line_in n (read_so_far (Some seen_from) leaves done) (cert_line_text (ReasonLine r))
     ≡ Some (read_so_far (Some seen_from) leaves (done ++ r ∷ []))

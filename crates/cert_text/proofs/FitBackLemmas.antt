@@ -65,14 +65,14 @@ off_field : IsField (codes "off")
 off_field =
     record { some = omega arith; short = omega arith; big = (omega arith, (omega arith, (omega arith, tt))) }
 
-module _ (n : ℕ) (top : n ≤ 11) (r : Off) (is : IsOffOf n r) where
+module _ (n : ℕ) (top : n ≤ 14) (r : Off) (is : IsOffOf n r) where
   abbrev fields : List (List ℕ)
   fields = decimal r.triangle ∷ (decimal r.x ∷ (decimal r.y ∷ []))
 
   off-fields : All IsField fields
   off-fields =
-      let below : 2 ^ (2 * n + 1) ≤ 2 ^ 24 = (let h : 2 * n + 1 ≤ 24 = omega arith in pow_mono h) in
-      let side : 2 ^ n ≤ 2 ^ 11 = pow_mono top in
+      let below : 2 ^ (2 * n + 1) ≤ 2 ^ 30 = (let h : 2 * n + 1 ≤ 30 = omega arith in pow_mono h) in
+      let side : 2 ^ n ≤ 2 ^ 14 = pow_mono top in
       let high = splittable-lt n r.triangle is.splittable in
       let column = is.column in let row = is.row in
       All-cons IsField (decimal r.triangle) (decimal r.x ∷ (decimal r.y ∷ [])) (decimal-field r.triangle (omega arith))
@@ -82,8 +82,8 @@ module _ (n : ℕ) (top : n ≤ 11) (r : Off) (is : IsOffOf n r) where
   -- the line of a reason, of a triangle that may be split and a point of the grid, is read back as it
   off-back : read_fit_line n (fit_line_text (OffLine r)) ≡ Some (OffLine r)
   off-back =
-      let below : 2 ^ (2 * n + 1) ≤ 2 ^ 24 = (let h : 2 * n + 1 ≤ 24 = omega arith in pow_mono h) in
-      let side : 2 ^ n ≤ 2 ^ 11 = pow_mono top in
+      let below : 2 ^ (2 * n + 1) ≤ 2 ^ 30 = (let h : 2 * n + 1 ≤ 30 = omega arith in pow_mono h) in
+      let side : 2 ^ n ≤ 2 ^ 14 = pow_mono top in
       let low = is.splittable.low in let high = splittable-lt n r.triangle is.splittable in
       let column = is.column in let row = is.row in
       let x = number_below (2 ^ n + 1) (decimal r.x) in
@@ -98,7 +98,7 @@ module _ (n : ℕ) (top : n ≤ 11) (r : Off) (is : IsOffOf n r) where
 
 -- lines one after the other
 
-needed-next : (n own : ℕ) → n ≤ 11 → (done : List Off) (r : Off) → IsOffOf n r → length done < 8388608 →
+needed-next : (n own : ℕ) → n ≤ 14 → (done : List Off) (r : Off) → IsOffOf n r → length done < 8388608 →
     fit_line_in n (fit_read_so_far (Some own) false done []) (fit_line_text (OffLine r))
     ≡ Some (fit_read_so_far (Some own) false (done ++ r ∷ []) [])
 needed-next n own top done r is few =
@@ -106,7 +106,7 @@ needed-next n own top done r is few =
     (cond-true (nat_lt (length done) 8388608) (Some (fit_read_so_far (Some own) false (done ++ r ∷ []) [])) None
     (lt-ltb (length done) 8388608 few))
 
-beyond-next : (n own : ℕ) (needed : List Off) → n ≤ 11 → (done : List Off) (r : Off) → IsOffOf n r →
+beyond-next : (n own : ℕ) (needed : List Off) → n ≤ 14 → (done : List Off) (r : Off) → IsOffOf n r →
     length done < 8388608 →
     fit_line_in n (fit_read_so_far (Some own) true needed done) (fit_line_text (OffLine r))
     ≡ Some (fit_read_so_far (Some own) true needed (done ++ r ∷ []))

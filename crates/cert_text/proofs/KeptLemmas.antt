@@ -38,13 +38,13 @@ need_field = record {
   big = (omega arith, (omega arith, (omega arith, (omega arith, tt))));
 }
 
-module _ (n : ℕ) (top : n ≤ 11) (p : Point) (is : IsPointOf n p) where
+module _ (n : ℕ) (top : n ≤ 14) (p : Point) (is : IsPointOf n p) where
   abbrev parts : List (List ℕ)
   parts = decimal p.x ∷ (decimal p.y ∷ [])
 
   point-fields : All IsField parts
   point-fields =
-      let side : 2 ^ n ≤ 2 ^ 11 = pow_mono top in
+      let side : 2 ^ n ≤ 2 ^ 14 = pow_mono top in
       let column = is.column in let row = is.row in
       All-cons IsField (decimal p.x) (decimal p.y ∷ []) (decimal-field p.x (omega arith))
       (All-cons IsField (decimal p.y) [] (decimal-field p.y (omega arith)) (All-nil IsField))
@@ -52,7 +52,7 @@ module _ (n : ℕ) (top : n ≤ 11) (p : Point) (is : IsPointOf n p) where
   -- the line of a point of the grid is read back as it
   need-back : need_in n (need_text p) ≡ Some p
   need-back =
-      let side : 2 ^ n ≤ 2 ^ 11 = pow_mono top in
+      let side : 2 ^ n ≤ 2 ^ 14 = pow_mono top in
       let column = is.column in let row = is.row in
       let y = number_below (2 ^ n + 1) (decimal p.y) in
       need_is n _ ∙ joined-says (need_fields n) (codes "need") parts need_field point-fields (omega arith)
@@ -65,7 +65,7 @@ module _ (n : ℕ) (top : n ≤ 11) (p : Point) (is : IsPointOf n p) where
 -- lines one after the other
 
 -- a point before the tolerance
-need-next : (n : ℕ) → n ≤ 11 → (done : List Point) (p : Point) → IsPointOf n p → length done < 8388608 →
+need-next : (n : ℕ) → n ≤ 14 → (done : List Point) (p : Point) → IsPointOf n p → length done < 8388608 →
     kept_line_in n (kept_read_so_far done nothing_fit_read) (need_text p)
     ≡ Some (kept_read_so_far (done ++ p ∷ []) nothing_fit_read)
 need-next n top done p is few =

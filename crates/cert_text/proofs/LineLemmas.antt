@@ -163,7 +163,7 @@ number-back end k high most =
     (decimal-back 19 k (lit< tt) (omega arith) (omega arith))
     ∙ ap (λ (v : Bool). if v then Some k else None) (lt-ltb k end high)
 
-pub address-back : (end a : ℕ) → 2 ≤ a → a < end → end ≤ 2 ^ 24 → address_in end (decimal a) ≡ Some a
+pub address-back : (end a : ℕ) → 2 ≤ a → a < end → end ≤ 2 ^ 30 → address_in end (decimal a) ≡ Some a
 address-back end a low high most =
     ap (λ (o : Option ℕ). elim o as (λ _. Option ℕ) [
       | None ↦ None

@@ -182,7 +182,7 @@ fn reason_line(bytes: &[u8], n: u32, kind: Kind) -> Option<CertLine>
 fn leaf_end(n: u32) -> u32
     requires in_grid { (1 ≤ n) × (n ≤ GREATEST_LEVEL) }
     ensures value { result ≡ 2 ^ (2 * n + 2) }
-    ensures high { result ≤ 2 ^ 24 }
+    ensures high { result ≤ 2 ^ 30 }
 {
     1 << (2 * n + 2)
 }

@@ -46,13 +46,13 @@ pub(crate) fn read_line<L: FromFields>(bytes: &[u8], n: u32) -> Option<L>
 
 /// The triangle whose address the field is, if it is less than `end`.
 pub(crate) fn read_address(field: &[u8], end: u32) -> Option<Tri>
-    requires in_grid { end ≤ 2 ^ 24 }
+    requires in_grid { end ≤ 2 ^ 30 }
     ensures value { result ≡ address_in end field.now }
     ensures low { IfSome result (λ t. 2 ≤ t) }
     ensures high { IfSome result (λ t. t < end) }
 {
     match read_dec(field) {
-        Some(number) if number < u64::from(end) => Tri::new(number as u32),
+        Some(number) if number < u64::from(end) => Tri::at(number as u32),
         _ => None,
     }
 }
@@ -72,7 +72,7 @@ pub(crate) fn read_below(field: &[u8], end: u64) -> Option<u32>
 pub(crate) fn split_end(n: u32) -> u32
     requires in_grid { (1 ≤ n) × (n ≤ GREATEST_LEVEL) }
     ensures value { result ≡ 2 ^ (2 * n + 1) }
-    ensures high { result ≤ 2 ^ 24 }
+    ensures high { result ≤ 2 ^ 30 }
 {
     1 << (2 * n + 1)
 }

@@ -1,22 +1,23 @@
 -- Triangles whose centres are points, and the least closed set that has all of them: with one point more it is the
 -- split of a triangle there.
-use Rattle.std.proofs.Common.{◌≡◌, ◌⊎◌, ℕ, ◌*◌, ◌^◌, ◌&&◌, Bool, true, false, IsTrue, nat_le, nat_lt, List, []}
+use Rattle.std.proofs.Common.{◌≡◌, ◌⊎◌, ℕ, ◌^◌, Bool, true, false, IsTrue, List, []}
 use Rattle.std.proofs.Common.{◌∷◌, ◌++◌, Contains, inl, inr, refl, sym, ◌∙◌, ap, subst, arith, ⊎_elim}
 use Rattle.std.specs.Cmp.{IsEquivalence}
 use Rattle.std.specs.List.{list_any}
-use Rattle.std.proofs.lemmas.Bool.{and_parts, and_from, leb-true, ltb-true, le-leb, lt-ltb, false≢true, cases_Bool, both_ways}
+use Rattle.std.proofs.lemmas.Bool.{false≢true, cases_Bool, both_ways}
 use Rattle.std.proofs.lemmas.List.Elements.{Contains-append_left, Contains-push, Contains-push_cases}
 use Rattle.std.proofs.lemmas.Map.Views.{Contains-from_any, list_any-from_Contains}
 use Rattle.mesh_defs.specs.declared.point.Point.{Point}
-use Rattle.mesh_defs.specs.Triangle.{level_of, IsSplittable}
-use Rattle.mesh_defs.specs.ClosedSet.{IsClosed, IsSubset, IsLeastClosed, leaves_of}
+use Rattle.mesh_defs.specs.Triangle.{IsSplittable}
+use Rattle.mesh_defs.specs.ClosedSet.{IsClosed, IsSubset, IsLeastClosed}
 use Rattle.mesh_defs.specs.Greedy.{with_triangle}
 use Rattle.mesh_defs.specs.MeshText.{is_same_point}
 use Rattle.mesh_defs.proofs.PointLemmas.{same_point-eq, eq-same_point}
 use Rattle.mesh_defs.proofs.TestLemmas.{same_tests}
 use Rattle.mesh_laws.proofs.ForcingLemmas.{with-cases, with-old, with-new}
-use Rattle.mesh_laws.specs.Vertex.{is_mesh_vertex, centre_of, IsSquareCorner}
-use Rattle.mesh_laws.proofs.VertexLemmas.{centre-inside, centre-member}
+use Rattle.mesh_laws.specs.Vertex.{centre_of, IsSquareCorner}
+use Rattle.mesh_laws.proofs.VertexLemmas.{centre-inside}
+use Rattle.fit_laws.proofs.CentreLemmas.{has_centre-splittable, has_centre-point, splittable-has_centre, centre-shared}
 use Rattle.certificate_laws.specs.Keeping.{is_centred}
 
 -- the test of two points for being the same one
@@ -43,39 +44,25 @@ listed_or_not points p = ⊎_elim
 
 -- what is centred at points may be split, and has one of them as its centre
 module _ (n : ℕ) (points : List Point) (a : ℕ) where
-  abbrev is_coarse : Bool
-  is_coarse = nat_le 2 a && nat_lt (level_of a) (2 * n)
-
-  abbrev is_at : Bool
-  is_at = list_any (is_same_point (centre_of n a)) points
+  abbrev listed : Point → Bool
+  listed p = list_any (is_same_point p) points
 
   pub centred-splittable : IsTrue (is_centred n points a) → IsSplittable n a
-  centred-splittable is =
-      let test = and_parts (nat_le 2 a) (nat_lt (level_of a) (2 * n)) (and_parts is_coarse is_at is).0 in
-      record { low = leb-true 2 a test.0; coarse = ltb-true (level_of a) (2 * n) test.1 }
+  centred-splittable is = has_centre-splittable n listed a is
 
   pub centred-point : IsTrue (is_centred n points a) → Contains points (centre_of n a)
-  centred-point is = Contains-from_any same_point-eq (centre_of n a) points (and_parts is_coarse is_at is).1
+  centred-point is = Contains-from_any same_point-eq (centre_of n a) points (has_centre-point n listed a is)
 
   -- and what may be split and has one as its centre is centred
   pub is-centred : IsSplittable n a → Contains points (centre_of n a) → IsTrue (is_centred n points a)
-  is-centred s listed =
-      and_from is_coarse is_at
-      (and_from (nat_le 2 a) (nat_lt (level_of a) (2 * n)) (le-leb 2 a s.low) (lt-ltb (level_of a) (2 * n) s.coarse))
-      (list_any-from_Contains same_points (centre_of n a) points listed)
+  is-centred s contained = splittable-has_centre n listed a s
+      (list_any-from_Contains same_points (centre_of n a) points contained)
 
 -- what is centred at points is centred where they are among others
 pub centred-within : (n : ℕ) (some all : List Point) → ((p : Point) → Contains some p → Contains all p) →
     IsSubset (is_centred n some) (is_centred n all)
 centred-within n some all within a is = is-centred n all a (centred-splittable n some a is)
     (within (centre_of n a) (centred-point n some a is))
-
--- a closed set has all triangles with one centre, or none
-pub centre-shared : (n : ℕ) (has : ℕ → Bool) (a t : ℕ) → IsClosed n has → IsSplittable n a → IsSplittable n t →
-    centre_of n a ≡ centre_of n t → has a ≡ has t
-centre-shared n has a t closed s splittable same =
-    sym (centre-member n has a closed s) ∙ ap (is_mesh_vertex n (leaves_of n has)) same
-    ∙ centre-member n has t closed splittable
 
 -- no point has no triangle
 pub centred-none : (n : ℕ) (a : ℕ) → IsTrue (is_centred n [] a) → ⊥

@@ -3,15 +3,15 @@
 -- The definition is this project's own.
 -- Words: is_centred, KeptCertificate, IsNeed, IsFirstBadNeed, LeadsToKept, IsKeptFit, IsKeptSound, IsBadKept,
 -- IsKeptRejected, IsKeptVerdict, IsKeptVerdictOf.
-use Rattle.std.specs.Prelude.{◌≡◌, ℕ, ◌+◌, ◌*◌, ◌^◌, ◌<◌, ◌≤◌, ◌⊎◌, Bool, ◌&&◌, nat_le, nat_lt, List, [], ◌∷◌, ◌++◌}
+use Rattle.std.specs.Prelude.{◌≡◌, ℕ, ◌+◌, ◌^◌, ◌<◌, ◌≤◌, ◌⊎◌, Bool, List, [], ◌∷◌, ◌++◌}
 use Rattle.std.specs.Prelude.{All, Contains, length}
 use Rattle.std.specs.List.{list_any}
 use Rattle.mesh_defs.specs.declared.point.Point.{Point}
-use Rattle.mesh_defs.specs.Triangle.{level_of}
 use Rattle.mesh_defs.specs.ClosedSet.{IsLeastClosed, IsSubset, leaves_of}
 use Rattle.mesh_defs.specs.MeshText.{is_same_point}
 use Rattle.mesh_defs.specs.Priority.{worst_of}
-use Rattle.mesh_laws.specs.Vertex.{centre_of, IsSquareCorner}
+use Rattle.mesh_laws.specs.Vertex.{IsSquareCorner}
+use Rattle.fit_laws.specs.Centre.{has_centre}
 use Rattle.fit_laws.specs.PlaneHeight.{deviation_of}
 use Rattle.fit_laws.specs.Error.{error_of}
 use Rattle.certificate_laws.specs.declared.fit_reason.FitReject.{FitReject}
@@ -23,8 +23,7 @@ use Rattle.certificate_laws.specs.FitCertificate.{FitCertificate, LeadsTo, IsFir
 
 -- the triangle may be split, and its centre, the midpoint of its base, is one of these points
 abbrev pub is_centred : ℕ → List Point → ℕ → Bool
-is_centred n points a = (nat_le 2 a && nat_lt (level_of a) (2 * n))
-    && list_any (is_same_point (centre_of n a)) points
+is_centred n points = has_centre n (λ p. list_any (is_same_point p) points)
 
 -- points that the mesh needs since they are kept, and a certificate that goes on from there
 pub record KeptCertificate : Type 0 where

@@ -32,7 +32,7 @@ above_near (pos n) x low high over under = rw (no_less n) (rising n low x over)
 above_near (negsuc n) x low high over under = falling n x high under
 
 -- how large a product is
-pub product_small : (a x : ℤ) → unsigned_abs a ≤ 2 ^ 20 → unsigned_abs x ≤ 2 ^ 21 → unsigned_abs (a *ℤ x) ≤ 2 ^ 41
+pub product_small : (a x : ℤ) → unsigned_abs a ≤ 2 ^ 20 → unsigned_abs x ≤ 2 ^ 24 → unsigned_abs (a *ℤ x) ≤ 2 ^ 44
 product_small a x slope reach = omega (arith, unsigned_abs-mul a x, mul-le-mul slope reach)
 
 -- what is at most 2 ^ 50 in size fits

@@ -46,7 +46,7 @@ impl Plane {
 
     /// Whether all corners of the cuboid are outside.
     pub(crate) fn leaves_out(&self, cuboid: &Cuboid) -> bool
-        requires { IsWithinReach (2 ^ 21) (as_box cuboid.now) }
+        requires { IsWithinReach (2 ^ 24) (as_box cuboid.now) }
         ensures { result ≡ is_all_outside (as_box cuboid.now) self.now }
     {
         self.farthest_inside(cuboid) < 0
@@ -54,7 +54,7 @@ impl Plane {
 
     /// Whether some corner of the cuboid is outside.
     pub(crate) fn cuts(&self, cuboid: &Cuboid) -> bool
-        requires { IsWithinReach (2 ^ 21) (as_box cuboid.now) }
+        requires { IsWithinReach (2 ^ 24) (as_box cuboid.now) }
         ensures { result ≡ is_some_outside (as_box cuboid.now) self.now }
     {
         self.farthest_outside(cuboid) < 0
@@ -62,7 +62,7 @@ impl Plane {
 
     /// The value at the corner that lies farthest inside.
     fn farthest_inside(&self, cuboid: &Cuboid) -> i64
-        requires { IsWithinReach (2 ^ 21) (as_box cuboid.now) }
+        requires { IsWithinReach (2 ^ 24) (as_box cuboid.now) }
         ensures { result ≡ far_value self.now (as_box cuboid.now) }
     {
         let x = end_along(self.a, cuboid.x0, cuboid.x1);
@@ -73,7 +73,7 @@ impl Plane {
 
     /// The value at the corner that lies farthest outside.
     fn farthest_outside(&self, cuboid: &Cuboid) -> i64
-        requires { IsWithinReach (2 ^ 21) (as_box cuboid.now) }
+        requires { IsWithinReach (2 ^ 24) (as_box cuboid.now) }
         ensures { result ≡ near_value self.now (as_box cuboid.now) }
     {
         let x = end_along(self.a, cuboid.x1, cuboid.x0);
@@ -84,9 +84,9 @@ impl Plane {
 
     /// The value at a point: at least 0 inside.
     pub(crate) fn value_at(&self, x: i64, y: i64, z: i64) -> i64
-        requires x_reach { unsigned_abs x ≤ 2 ^ 21 }
-        requires y_reach { unsigned_abs y ≤ 2 ^ 21 }
-        requires z_reach { unsigned_abs z ≤ 2 ^ 21 }
+        requires x_reach { unsigned_abs x ≤ 2 ^ 24 }
+        requires y_reach { unsigned_abs y ≤ 2 ^ 24 }
+        requires z_reach { unsigned_abs z ≤ 2 ^ 24 }
         ensures { result ≡ plane_value self.now x y z }
     {
         self.a * x + (self.b * y + (self.c * z + self.d))
@@ -116,10 +116,10 @@ fn is_slope(number: i64) -> bool
 
 /// The end of the range at which its product with the slope is greatest.
 fn end_along(slope: i64, low: i64, high: i64) -> i64
-    requires low_reach { unsigned_abs low ≤ 2 ^ 21 }
-    requires high_reach { unsigned_abs high ≤ 2 ^ 21 }
+    requires low_reach { unsigned_abs low ≤ 2 ^ 24 }
+    requires high_reach { unsigned_abs high ≤ 2 ^ 24 }
     ensures value { result ≡ far_end slope low high }
-    ensures reach { unsigned_abs result ≤ 2 ^ 21 }
+    ensures reach { unsigned_abs result ≤ 2 ^ 24 }
 {
     if slope < 0 { low } else { high }
 }

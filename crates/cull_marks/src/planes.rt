@@ -79,7 +79,7 @@ impl Planes {
     /// Cost (not proved): at most two corners a plane.
     #[tactic(auto, unfolding(mesh_defs::specs::View::mark_of))]
     pub fn mark(&self, cuboid: &Cuboid) -> Mark
-        requires reach { IsWithinReach (2 ^ 21) (as_box cuboid.now) }
+        requires reach { IsWithinReach (2 ^ 24) (as_box cuboid.now) }
         ensures { result ≡ mark_of self.now (as_box cuboid.now) }
     {
         if self.leave_out(cuboid) {
@@ -93,7 +93,7 @@ impl Planes {
 
     /// Whether all corners of the cuboid are outside one plane.
     fn leave_out(&self, cuboid: &Cuboid) -> bool
-        requires { IsWithinReach (2 ^ 21) (as_box cuboid.now) }
+        requires { IsWithinReach (2 ^ 24) (as_box cuboid.now) }
         ensures { result ≡ list_any (is_all_outside (as_box cuboid.now)) self.now }
     {
         self.list.iter().any(|plane| plane.leaves_out(cuboid))
@@ -101,7 +101,7 @@ impl Planes {
 
     /// Whether some corner of the cuboid is outside some plane.
     fn cut(&self, cuboid: &Cuboid) -> bool
-        requires { IsWithinReach (2 ^ 21) (as_box cuboid.now) }
+        requires { IsWithinReach (2 ^ 24) (as_box cuboid.now) }
         ensures { result ≡ list_any (is_some_outside (as_box cuboid.now)) self.now }
     {
         self.list.iter().any(|plane| plane.cuts(cuboid))

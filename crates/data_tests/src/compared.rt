@@ -39,7 +39,7 @@ fn middle(alloc: Global) -> Result<Wedges, Fail>
 
 /// A certificate without reasons of the triangles with these addresses.
 fn certificate(alloc: Global, n: u32, numbers: &[u32]) -> Result<Cert, Fail>
-    requires { n ≤ 11 }
+    requires { n ≤ 14 }
     ensures { IfOk result (λ cert. All (λ a. level_of a ≤ 2 * n) cert.leaves) }
 {
     let leaves = leaves_of(alloc, n, numbers)?;

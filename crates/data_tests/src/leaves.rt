@@ -9,7 +9,7 @@ use std::test::Fail;
 
 /// The triangles with these addresses, if the grid of level n has them.
 pub(crate) fn leaves_of(alloc: Global, n: u32, numbers: &[u32]) -> Result<Vec<Tri>, Fail>
-    requires { n ≤ 11 }
+    requires { n ≤ 14 }
     ensures { IfOk result (λ leaves. All (λ a. level_of a ≤ 2 * n) leaves.items) }
 {
     let mut leaves = Vec::new(alloc);

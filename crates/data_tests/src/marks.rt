@@ -27,12 +27,12 @@ const LEFT: Cuboid = Cuboid {
 
 /// The largest box.
 const REACH: Cuboid = Cuboid {
-    x0: -2097152,
-    x1: 2097152,
-    y0: -2097152,
-    y1: 2097152,
-    z0: -2097152,
-    z1: 2097152,
+    x0: -16777216,
+    x1: 16777216,
+    y0: -16777216,
+    y1: 16777216,
+    z0: -16777216,
+    z1: 16777216,
 };
 
 /// The slopes of a plane along x, y and z, and its offset.
@@ -52,7 +52,7 @@ fn planes_of(slopes: &[Slopes]) -> Option<Planes> {
 
 /// How many planes these are, and the mark of a box under them.
 fn mark_under(cuboid: &Cuboid, slopes: &[Slopes]) -> Option<(u32, Mark)>
-    requires { IsWithinReach (2 ^ 21) (as_box cuboid.now) }
+    requires { IsWithinReach (2 ^ 24) (as_box cuboid.now) }
 {
     let planes = planes_of(slopes)?;
     Some((planes.len(), planes.mark(cuboid)))

@@ -221,18 +221,18 @@ fn the_greatest_numbers_fit(rt: HostRuntime) -> Result<(), Fail> {
         assert!(rt; Camera::new(x, y, z).is_none());
     }
     let far_corner = Cuboid {
-        x0: 2097152,
-        x1: 2097152,
-        y0: 2097152,
-        y1: 2097152,
-        z0: 2097152,
-        z1: 2097152,
+        x0: 16777216,
+        x1: 16777216,
+        y0: 16777216,
+        y1: 16777216,
+        z0: 16777216,
+        z1: 16777216,
     };
     let camera = camera_at((-end, -end, -end))?;
     let found = (camera.x(), camera.y(), camera.z());
     assert_eq!(rt; found, (-end, -end, -end));
-    assert_eq!(rt; distance(&far_corner, &camera), 1863407767);
-    assert_eq!(rt; priority(2883540, 0), 188975677440);
+    assert_eq!(rt; distance(&far_corner, &camera), 1888834383);
+    assert_eq!(rt; priority(3669960, 0), 240514498560);
     assert_eq!(rt; priority(4294967295, 8589934592), 32767);
     Ok(())
 }

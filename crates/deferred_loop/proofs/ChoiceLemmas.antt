@@ -42,7 +42,7 @@ forced_leaves : (n : ℕ) (before : List ℕ) (t : ℕ) (after : List ℕ) → I
 forced_leaves n before t after f = length-leaves_of n after f.ascending f.least.closed
 
 -- the number of leaves has room in 32 bits
-pub leaves_small : (n : ℕ) (members : List ℕ) → IsGridSet n members → leaf_count n members ≤ 2 ^ 24 + 2
+pub leaves_small : (n : ℕ) (members : List ℕ) → IsGridSet n members → leaf_count n members ≤ 2 ^ 30 + 2
 leaves_small n members set = omega (arith, set_leaves n members set, length-members n members set)
 
 module _ (n : ℕ) (priority : ℕ → ℕ) (falling : IsFalling n priority) (budget : ℕ) (low : 2 ≤ budget) (members : List ℕ)
@@ -137,7 +137,7 @@ split_room n most budget priority members t after (inr whole) next forced =
 pub record IsCounted (n m : ℕ) (less more : List ℕ) : Type 0 where
   pub few : leaf_count n less ≤ leaf_count m more
   pub count : leaf_count m more - leaf_count n less ≡ length more - length less
-  pub small : leaf_count m more ≤ 2 ^ 24 + 2
+  pub small : leaf_count m more ≤ 2 ^ 30 + 2
 
 -- of a split
 pub split_counted : (n m : ℕ) (before : List ℕ) (t : ℕ) (after : List ℕ) → m ≡ n → IsGridSet n before →

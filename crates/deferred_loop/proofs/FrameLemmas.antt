@@ -34,7 +34,7 @@ module _ (w : DeferredFrame) (is : IsDeferredFrame w) where
 
   -- the counts have room
   pub charged_small : (s : SeenMesh) (evaluations added removed count : ℕ) →
-      IsCharged w evaluations s added removed count → (added ≤ 2 ^ 25) × (removed ≤ 2 ^ 24)
+      IsCharged w evaluations s added removed count → (added ≤ 2 ^ 31) × (removed ≤ 2 ^ 30)
   charged_small s evaluations added removed count c =
       run_small w.n w.budget w.priority is.falling is.low w.start s.set.members added removed is.set c.run
 
@@ -64,9 +64,9 @@ module _ (w : DeferredFrame) (is : IsDeferredFrame w) where
 
 -- the counters of the pool have room for one step more
 pub counters_small : (start now : PoolSet) (added removed : ℕ) → IsCountedBy start now added removed →
-    (start.splits < 2 ^ 61) × (start.merges < 2 ^ 61) → added ≤ 2 ^ 25 → removed ≤ 2 ^ 24 →
-    (now.splits + 48 < 2 ^ 62) × (now.merges < 2 ^ 62)
-counters_small start now added removed c small few less =
+    (start.splits < 2 ^ 61) × (start.merges < 2 ^ 61) → added ≤ 2 ^ 31 → removed ≤ 2 ^ 30 → now.n ≤ 14 →
+    (now.splits + (4 * now.n + 4) < 2 ^ 62) × (now.merges < 2 ^ 62)
+counters_small start now added removed c small few less deep =
     let splits = c.splits_rose in
     let merges = c.merges_rose in
     let low = small.0 in

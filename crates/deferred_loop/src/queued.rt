@@ -1,7 +1,7 @@
 //! A mesh as the loop sees it: its set, with the room and the counts of its pool, the heads of its queues, the stamps
 //! of its entries, the priorities that were told in this frame, and the entries that are still fresh.
 
-ghost use Rattle.std.specs.Prelude.{◌≡◌, ℕ, ◌+◌, ◌<◌, ◌≤◌, ◌∷◌, ◌^◌, List, [], false, Contains, IfSome, MatchOption};
+ghost use Rattle.std.specs.Prelude.{◌≡◌, ℕ, ◌+◌, ◌*◌, ◌<◌, ◌≤◌, ◌∷◌, ◌^◌, List, [], false, Contains, IfSome, MatchOption};
 ghost use Rattle.mesh_defs.specs.declared.counters.TheConstants.{LONGEST_WAY, MOST_CHANGES};
 ghost use Rattle.mesh_defs.specs.Triangle.{IsSplittable};
 ghost use Rattle.mesh_defs.specs.ClosedSet.{leaves_of, among};
@@ -94,7 +94,7 @@ pub trait QueuedMesh {
         requires splittable { IsSplittable (seen self.now).set.n t.tri }
         requires leaf { Contains (leaves_of (seen self.now).set.n (among (seen self.now).set.members)) t.tri }
         ensures gain { IsGain (seen self.now).set.n (seen self.now).set.members t.tri result }
-        ensures small { result ≤ 16777216 };
+        ensures small { result ≤ 1073741824 };
 
     fn first(&self) -> Head
         requires settled { (seen self.now).fresh ≡ [] }
@@ -141,7 +141,7 @@ pub trait QueuedMesh {
         requires leaf { Contains (leaves_of (seen self.old).set.n (among (seen self.old).set.members)) t.tri }
         requires room { (after : List ℕ) → IsForced (seen self.old).set.n (seen self.old).set.members t.tri after →
             leaf_count (seen self.old).set.n after ≤ (seen self.old).set.most }
-        requires counter { (seen self.old).set.splits + 48 < MOST_CHANGES }
+        requires counter { (seen self.old).set.splits + (4 * (seen self.old).set.n + 4) < MOST_CHANGES }
         ensures split { IsSplitOf (seen self.old) (seen self.new) t.tri }
         ensures log { IsLogged (seen self.old).set (seen self.new).set (log self.old) (log self.new) };
 

@@ -1,6 +1,6 @@
 //! One split or merge, with its new entries.
 
-ghost use Rattle.std.specs.Prelude.{◌≡◌, ℕ, ◌+◌, ◌-◌, ◌<◌, ◌≤◌, ◌^◌, length};
+ghost use Rattle.std.specs.Prelude.{◌≡◌, ℕ, ◌+◌, ◌-◌, ◌*◌, ◌<◌, ◌≤◌, ◌^◌, length};
 ghost use Rattle.mesh_defs.specs.declared.counters.TheConstants.{LONGEST_WAY, MOST_CHANGES};
 ghost use Rattle.mesh_laws.specs.Steps.{IsSplitStep, IsMergeStep};
 ghost use Rattle.mesh_laws.specs.Deferred.{DeferredFrame, IsDeferredFrame};
@@ -29,8 +29,8 @@ pub fn split_at<M: QueuedMesh, G: Gauge>(
     requires next { IsNextSplit w.n w.budget w.priority (M.seen mesh.old).set.members t.tri }
     requires hold { ReadingsHold w.n w.priority odometer (G.readings gauge.old) }
     requires far { odometer ≤ LONGEST_WAY }
-    requires small { splits.old ≤ 2 ^ 30 }
-    requires counter { (M.seen mesh.old).set.splits + 48 < MOST_CHANGES }
+    requires small { splits.old ≤ 2 ^ 31 }
+    requires counter { (M.seen mesh.old).set.splits + (4 * (M.seen mesh.old).set.n + 4) < MOST_CHANGES }
     requires room { HasRoom w.n (M.seen mesh.old).set.most w.budget }
     requires at { M.tri_at mesh.old t.slot.0 ≡ t.tri }
     ensures told { G.told gauge.new ≡ G.told gauge.old }

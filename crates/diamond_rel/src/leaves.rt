@@ -13,7 +13,7 @@ use mesh_defs::NoMemory;
 /// Adds the leaves at and below the triangle, which has so many levels below it.
 fn push_leaves(members: &[Tri], levels: u32, t: Tri, out: &mut Vec<Tri>) -> Result<(), NoMemory>
     requires ascending { IsAscending members.now }
-    requires deep { levels + level_of t ≤ 22 }
+    requires deep { levels + level_of t ≤ 28 }
     ensures { OnOk result (out.new.items ≡ out.old.items ++ leaves_under levels (among members.now) t) }
 {
     if levels == 0 || !contains(members, t) {

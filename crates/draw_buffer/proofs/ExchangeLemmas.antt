@@ -21,8 +21,8 @@ use Rattle.draw_buffer.proofs.UseLemmas.{shown-stay, map-shown, uses_in-push, us
 use Rattle.draw_buffer.proofs.UseLemmas.{uses_in-at, waiting_uses-none, waiting_uses-push, waiting_uses-at}
 
 -- the table of a grid
-pub end-small : (n : ℕ) → n ≤ 11 → 4 * 2 ^ (2 * n) ≤ 2 ^ 24
-end-small n small = let wide : 2 * n ≤ 22 = omega arith in let h : 2 ^ (2 * n) ≤ 2 ^ 22 = pow_mono wide in omega arith
+pub end-small : (n : ℕ) → n ≤ 14 → 4 * 2 ^ (2 * n) ≤ 2 ^ 30
+end-small n small = let wide : 2 * n ≤ 28 = omega arith in let h : 2 ^ (2 * n) ≤ 2 ^ 28 = pow_mono wide in omega arith
 
 -- an address of the grid is in the table
 pub address-low : (n a : ℕ) → level_of a ≤ 2 * n → a < 4 * 2 ^ (2 * n)

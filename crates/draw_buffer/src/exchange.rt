@@ -17,9 +17,8 @@ use mesh_defs::NoMemory;
 use std::alloc::Global;
 use std::marker::Model;
 
-/// The greatest number of triangles that a buffer may have room for: twice those of the finest mesh of the greatest
-/// grid.
-pub const MOST_TRIANGLES: u32 = 1 << 24;
+/// The greatest number of triangles that a buffer may have room for: those of the finest mesh of the greatest grid.
+pub const MOST_TRIANGLES: u32 = 1 << 29;
 
 /// A triangle that waits for a place, with its corners.
 #[derive(Clone, Copy)]

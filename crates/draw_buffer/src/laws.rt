@@ -12,5 +12,5 @@ pub fn times_laws()
 
 /// What the limit is, as a number. It does nothing.
 pub fn limit_laws()
-    ensures most_triangles { MOST_TRIANGLES ≡ 2 ^ 24 }
+    ensures most_triangles { MOST_TRIANGLES ≡ 2 ^ 29 }
 {}

@@ -19,7 +19,7 @@ fn force(pool: &mut Pool, number: u32) -> Option<Forced> {
     for (place, slot) in addresses.iter_mut().zip(chain.slots.iter()) {
         *place = address(pool, Some(*slot));
     }
-    if chain.gain > pool.room() || pool.splits() >= (1 << 62) - 48 {
+    if chain.gain > pool.room() || pool.splits() >= (1 << 62) - 60 {
         return None;
     }
     let gain = chain.gain;

@@ -8,7 +8,7 @@ pub type Peak = (u32, u32, u16);
 
 /// The grid of side 2 ^ n with these heights, and else 0.
 pub fn grid_with(alloc: Global, n: u32, peaks: &[Peak]) -> Option<Grid> {
-    if n < 1 || n > 11 {
+    if n < 1 || n > 14 {
         return None;
     }
     let mut grid = Grid::flat(alloc, n, 65535).ok()?;

@@ -99,7 +99,7 @@ fn is_below(low: &[u64], high: &[u64]) -> bool
 fn check_falling(rt: &impl Abort, n: u32, priorities: &[u64])
     ensures { IsFalling n (λ a. get_or priorities.now a 0) }
 {
-    assert!(rt; n <= 11);
+    assert!(rt; n <= 14);
     assert!(rt;
         priorities.len() as u64 <= 2 << (2 * n),
         "the finest have none"
@@ -139,7 +139,7 @@ impl Run {
         lower: Vec<u64>,
         upper: Vec<u64>,
     ) -> Result<Run, NoMemory>
-        requires n { (1 ≤ n) × (n ≤ 11) }
+        requires n { (1 ≤ n) × (n ≤ 14) }
         requires most { (2 ≤ most) × (most ≤ 2 ^ 20) }
     {
         Ok(Run {
@@ -262,7 +262,7 @@ fn spread(alloc: Global, runs: &[Equal]) -> Option<Vec<u64>> {
 
 /// A run whose priorities are between these lists.
 fn run_between(alloc: Global, n: u32, most: u32, lower: &[Equal], upper: &[Equal]) -> Option<Run> {
-    if n < 1 || n > 11 || most < 2 || most > 1 << 20 {
+    if n < 1 || n > 14 || most < 2 || most > 1 << 20 {
         return None;
     }
     let lower = spread(alloc, lower)?;

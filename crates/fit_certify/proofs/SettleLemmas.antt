@@ -1,6 +1,6 @@
 -- Splitting what is off, one leaf after the other: what is known, what one split leaves, what a pass leaves, and the end.
 use Rattle.std.proofs.Common.{◌≡◌, ℕ, ◌+◌, ◌-◌, ◌*◌, ◌/◌, ◌^◌, ◌<◌, ◌≤◌, ◌||◌, Bool, true, false, IsTrue, cond}
-use Rattle.std.proofs.Common.{List, [], ◌∷◌, ◌++◌, All, length, Contains, refl, sym, ◌∙◌, subst, arith, ⊎_elim, pow-add}
+use Rattle.std.proofs.Common.{List, [], ◌∷◌, ◌++◌, All, length, Contains, refl, sym, ◌∙◌, subst, arith, ⊎_elim, pow-add, pow_mono}
 use Rattle.std.proofs.lemmas.Bool.{cases_lt, cases_Bool, or_cases, both_ways, false≢true}
 use Rattle.std.proofs.lemmas.List.Elements.{All-cons, All-nil, All-append, All-contains}
 use Rattle.mesh_defs.specs.declared.point.Point.{Point}
@@ -14,10 +14,9 @@ use Rattle.mesh_defs.proofs.WorstLemmas.{worst-le}
 use Rattle.bintree_laws.proofs.LevelLemmas.{level-le, level_of-left, level_of-right}
 use Rattle.mesh_laws.proofs.LeafLemmas.{leaves_under-split, leaves_under-whole, leaves-most, four-power}
 use Rattle.mesh_laws.proofs.ClosureLemmas.{leaf-outer}
-use Rattle.mesh_laws.proofs.DescentLemmas.{IsAddress-splittable, IsDown-2, IsDown-3}
+use Rattle.mesh_laws.proofs.DescentLemmas.{IsAddress-splittable, IsAddress-level, IsDown-2, IsDown-3}
 use Rattle.mesh_laws.proofs.ForcingLemmas.{with-cases, with-old}
 use Rattle.mesh_laws.specs.Sweep.{is_flagged}
-use Rattle.mesh_laws.proofs.FlagLemmas.{end-high}
 use Rattle.fit_laws.specs.PlaneHeight.{offs_in}
 use Rattle.mesh_measure.specs.Above.{IsAbove}
 use Rattle.fit_laws.specs.Error.{error_of}
@@ -27,7 +26,7 @@ use Rattle.fit_laws.proofs.ErrorLemmas.{error-finest}
 use Rattle.certificate_laws.specs.declared.fit_reason.Off.{Off}
 use Rattle.certificate_laws.specs.FitCertificate.{LeadsTo}
 use Rattle.certificate_laws.proofs.LeadLemmas.{leads-next, leads-grown}
-use Rattle.fit_certify.specs.Settling.{AreKnown, IsGoingOn}
+use Rattle.fit_certify.specs.Settling.{AreKnown, AreReady, AreKept, IsGoingOn, HasSplit}
 
 -- the error is the greatest way off the plane
 pub error-most : (n : ℕ) (heights : List ℕ) (a tolerance : ℕ) → greatest (offs_in n heights a) ≤ tolerance
@@ -127,7 +126,7 @@ neither true other next either not = absurd (false≢true (sym not ∙ either))
 neither false other next either not = (refl, sym either ∙ not)
 
 -- there are more leaves where one of two parts splits one
-pub either-more : (n : ℕ) (old mid new : List Bool) (one other next : Bool) → next ≡ (one || other) →
+either-more : (n : ℕ) (old mid new : List Bool) (one other next : Bool) → next ≡ (one || other) →
     (one ≡ true → length (leaves_of n (is_flagged old)) < length (leaves_of n (is_flagged mid))) →
     (one ≡ false → mid ≡ old) →
     (other ≡ true → length (leaves_of n (is_flagged mid)) < length (leaves_of n (is_flagged new))) →
@@ -147,6 +146,35 @@ either-more n old mid new one other next either first same second again did_any 
     (or_cases one other (sym either ∙ did_any)) in
     subst (λ (l : List Bool). size l < size new) (same did_not) (second here))
     (cases_Bool one)
+
+-- so of the two parts together
+pub either-split : (n : ℕ) (old mid new : List Bool) (one other next : Bool) → next ≡ (one || other) →
+    HasSplit n old mid one → HasSplit n mid new other → HasSplit n old new next
+either-split n old mid new one other next either first second = record {
+  more = either-more n old mid new one other next either first.more first.same second.more second.same;
+  same = λ not. let both = neither one other next either not in second.same both.1 ∙ first.same both.0;
+}
+
+-- a part of a pass leaves what the next one begins with
+pub ready-on : (n : ℕ) (heights : List ℕ) (tolerance lower : ℕ) (flags known new next : List Bool) →
+    AreReady n heights tolerance lower flags known → AreKept n heights lower flags known new next →
+    IsClosed n (is_flagged new) → AreReady n heights tolerance lower new next
+ready-on n heights tolerance lower flags known new next ready kept closed = record {
+  lower = ready.lower;
+  flags = kept.flags ∙ ready.flags;
+  closed = closed;
+  room = kept.room ∙ ready.room;
+  known = kept.known;
+}
+
+-- a half of a triangle that is split is one of the grid, and its parent is split
+pub half-ready : (n : ℕ) (flags : List Bool) (t half : ℕ) → 2 ≤ t → level_of t < 2 * n → t ≡ half / 2 →
+    level_of half ≡ level_of t + 1 → is_flagged flags t ≡ true →
+    IsAddress n half × (4 ≤ half → IsTrue (is_flagged flags (half / 2)))
+half-ready n flags t half low coarse is more member = (
+  IsAddress-level n half (omega arith) (omega arith),
+  λ _. subst (λ z. IsTrue (is_flagged flags z)) is member,
+)
 
 -- what lies below
 
@@ -214,7 +242,8 @@ reasons-few n heights tolerance has reasons after small closed leads =
     let most = leaves-most n after in
     let four = four-power n in
     let double = pow-add 2 (2 * n) 1 in
-    let high = end-high n small in
+    let few : 2 * n + 1 ≤ 23 = omega arith in
+    let high : 2 ^ (2 * n + 1) ≤ 2 ^ 23 = pow_mono few in
     omega arith
 
 -- each pass but the last has more leaves

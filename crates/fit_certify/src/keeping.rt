@@ -5,6 +5,7 @@ ghost use Rattle.std.specs.Prelude.{take};
 ghost use Rattle.mesh_defs.specs.declared.point.Point.{Point as PointSeen};
 ghost use Rattle.mesh_defs.specs.Triangle.{level_of};
 ghost use Rattle.mesh_defs.specs.ClosedSet.{IsClosed, IsLeastClosed};
+ghost use Rattle.mesh_defs.specs.declared.level.TheConstants.{GREATEST_FILE_LEVEL};
 ghost use Rattle.bintree_laws.specs.Corners.{IsInSquare};
 ghost use Rattle.mesh_laws.specs.Sweep.{is_flagged};
 ghost use Rattle.certificate_laws.specs.declared.limits.TheConstants.{MOST_REASONS};
@@ -24,7 +25,8 @@ use std::alloc::Global;
 /// A sound certificate of the best mesh for a tolerance that keeps these points of the grid: that of `Fit::frame_with` of
 /// `fit_mesh` for their triangles. A corner of the square is a vertex of each mesh.
 ///
-/// Its points are those of the list whose triangles are not split by the points before them.
+/// Its points are those of the list whose triangles are not split by the points before them. A grid of at most 2,049
+/// points a side has no more reasons than a certificate may have.
 /// Cost (not proved): a level for each point; the error of each triangle that is split or a leaf, once, and a few passes
 /// over them; two bytes for each splittable triangle, 12 for each reason and eight for each point.
 pub fn make_kept(
@@ -33,6 +35,7 @@ pub fn make_kept(
     tolerance: u32,
     points: &[Point],
 ) -> Result<KeptCert, NoMemory>
+    requires file_level { grid.now.n ≤ GREATEST_FILE_LEVEL }
     requires inside { All (IsInSquare (2 ^ grid.now.n)) points.now }
     requires few { length points.now ≤ MOST_REASONS }
     ensures sound { IfOk result (λ c. (mesh : List ℕ) ×
@@ -53,6 +56,7 @@ fn kept_cert_of(
     flags: &mut [bool],
     known: &mut [bool],
 ) -> Result<KeptCert, NoMemory>
+    requires file_level { grid.now.n ≤ GREATEST_FILE_LEVEL }
     requires inside { All (IsInSquare (2 ^ grid.now.n)) points.now }
     requires few { length points.now ≤ MOST_REASONS }
     requires flags { length flags.old ≡ 2 ^ (2 * grid.now.n + 1) }

@@ -2,6 +2,7 @@
 
 ghost use Rattle.std.specs.Prelude.{◌≡◌, ℕ, ◌+◌, ◌-◌, ◌*◌, ◌^◌, ◌≤◌, false, List, IfOk, length};
 ghost use Rattle.mesh_defs.specs.ClosedSet.{IsClosed, leaves_of};
+ghost use Rattle.mesh_defs.specs.declared.level.TheConstants.{GREATEST_FILE_LEVEL};
 ghost use Rattle.mesh_laws.specs.Sweep.{is_flagged};
 ghost use Rattle.fit_laws.specs.Error.{error_of};
 ghost use Rattle.certificate_laws.specs.FitCertificate.{LeadsTo, IsFitSound};
@@ -20,9 +21,11 @@ use std::alloc::Global;
 /// A sound certificate of the best mesh for an error or a budget: the mesh of `Fit::frame` of `fit_mesh`.
 ///
 /// Its tolerance is that of the target, or the deviation of the mesh. Reasons stand behind the mesh for a budget alone.
+/// A grid of at most 2,049 points a side has no more reasons than a certificate may have.
 /// Cost (not proved): that of `Fit::frame` for a budget; the error of each triangle that is split or a leaf, once, and a
 /// few passes over them; two bytes for each splittable triangle, and 12 for each reason.
 pub fn make(alloc: Global, grid: &Grid, target: Target) -> Result<FitCert, NoMemory>
+    requires file_level { grid.now.n ≤ GREATEST_FILE_LEVEL }
     requires possible { IsPossible target }
     ensures sound { IfOk result (λ c. (mesh : List ℕ) × IsFitSound grid.now.n grid.now.heights target c mesh) }
     ensures behind { IfOk result (λ c. HasNoneBehind target c.beyond) }
@@ -42,6 +45,7 @@ fn cert_of(
     flags: &mut [bool],
     known: &mut [bool],
 ) -> Result<FitCert, NoMemory>
+    requires file_level { grid.now.n ≤ GREATEST_FILE_LEVEL }
     requires flags { length flags.old ≡ 2 ^ (2 * grid.now.n + 1) }
     requires empty { (a : ℕ) → is_flagged flags.old a ≡ false }
     requires room { length known.old ≡ 2 ^ (2 * grid.now.n + 1) }
@@ -93,6 +97,7 @@ fn settle_below(
     flags: &mut [bool],
     known: &mut [bool],
 ) -> Result<Vec<Off>, NoMemory>
+    requires file_level { grid.now.n ≤ GREATEST_FILE_LEVEL }
     requires flags { length flags.old ≡ 2 ^ (2 * grid.now.n + 1) }
     requires closed { IsClosed grid.now.n (is_flagged flags.old) }
     requires room { length known.old ≡ 2 ^ (2 * grid.now.n + 1) }

@@ -5,11 +5,12 @@ ghost use Rattle.std.specs.Prelude.{IfOk, OnOk, length};
 ghost use Rattle.mesh_defs.specs.Triangle.{level_of, IsAddress, IsSplittable};
 ghost use Rattle.mesh_defs.specs.ClosedSet.{IsClosed, leaves_under, leaves_of};
 ghost use Rattle.mesh_defs.specs.Priority.{worst_of};
+ghost use Rattle.mesh_defs.specs.declared.level.TheConstants.{GREATEST_FILE_LEVEL};
 ghost use Rattle.mesh_laws.specs.Sweep.{is_flagged};
 ghost use Rattle.fit_laws.specs.Error.{error_of};
 ghost use Rattle.certificate_laws.specs.FitCertificate.{LeadsTo};
 ghost use Rattle.certificate_laws.specs.declared.limits.TheConstants.{MOST_REASONS};
-ghost use Rattle.fit_certify.specs.Settling.{AreKnown, IsGoingOn};
+ghost use Rattle.fit_certify.specs.Settling.{AreKnown, AreReady, AreKept, IsGoingOn, HasSplit};
 
 use crate::force::force;
 use crate::known::point_off;
@@ -33,6 +34,7 @@ pub(crate) fn settle(
     flags: &mut [bool],
     known: &mut [bool],
 ) -> Result<Vec<Off>, NoMemory>
+    requires file_level { grid.now.n ≤ GREATEST_FILE_LEVEL }
     requires lower { lower ≤ tolerance }
     requires flags { length flags.old ≡ 2 ^ (2 * grid.now.n + 1) }
     requires closed { IsClosed grid.now.n (is_flagged flags.old) }
@@ -65,21 +67,13 @@ fn sweep(
     known: &mut [bool],
     reasons: &mut Vec<Off>,
 ) -> Result<bool, NoMemory>
-    requires lower { lower ≤ tolerance }
-    requires flags { length flags.old ≡ 2 ^ (2 * grid.now.n + 1) }
-    requires closed { IsClosed grid.now.n (is_flagged flags.old) }
-    requires room { length known.old ≡ 2 ^ (2 * grid.now.n + 1) }
-    requires known { AreKnown grid.now.n grid.now.heights lower known.old }
-    ensures room { length known.new ≡ length known.old }
-    ensures known { AreKnown grid.now.n grid.now.heights lower known.new }
-    ensures flags { length flags.new ≡ length flags.old }
+    requires ready { AreReady grid.now.n grid.now.heights tolerance lower flags.old known.old }
+    ensures kept { AreKept grid.now.n grid.now.heights lower flags.old known.old flags.new known.new }
     ensures going { OnOk result (IsGoingOn grid.now.n grid.now.heights tolerance
         flags.old reasons.old.items flags.new reasons.new.items) }
-    ensures more { IfOk result (λ again. again ≡ true →
-        length (leaves_of grid.now.n (is_flagged flags.old)) < length (leaves_of grid.now.n (is_flagged flags.new))) }
-    ensures none { IfOk result (λ again. again ≡ false →
-        (flags.new ≡ flags.old) × (worst_of (error_of grid.now.n grid.now.heights)
-        (leaves_of grid.now.n (is_flagged flags.new)) ≤ tolerance)) }
+    ensures split { IfOk result (HasSplit grid.now.n flags.old flags.new) }
+    ensures none { IfOk result (λ again. again ≡ false → worst_of (error_of grid.now.n grid.now.heights)
+        (leaves_of grid.now.n (is_flagged flags.new)) ≤ tolerance) }
 {
     let _level = grid.n();
     let below = sweep_under(grid, tolerance, lower, flags, known, reasons, Tri::LOWER)?;
@@ -98,20 +92,13 @@ fn sweep_under(
     t: Tri,
 ) -> Result<bool, NoMemory>
     requires address { IsAddress grid.now.n t }
-    requires lower { lower ≤ tolerance }
-    requires flags { length flags.old ≡ 2 ^ (2 * grid.now.n + 1) }
-    requires closed { IsClosed grid.now.n (is_flagged flags.old) }
     requires parent { 4 ≤ t → IsTrue (is_flagged flags.old (t / 2)) }
-    requires room { length known.old ≡ 2 ^ (2 * grid.now.n + 1) }
-    requires known { AreKnown grid.now.n grid.now.heights lower known.old }
-    ensures room { length known.new ≡ length known.old }
-    ensures known { AreKnown grid.now.n grid.now.heights lower known.new }
-    ensures flags { length flags.new ≡ length flags.old }
+    requires ready { AreReady grid.now.n grid.now.heights tolerance lower flags.old known.old }
+    ensures kept { AreKept grid.now.n grid.now.heights lower flags.old known.old flags.new known.new }
     ensures going { OnOk result (IsGoingOn grid.now.n grid.now.heights tolerance
         flags.old reasons.old.items flags.new reasons.new.items) }
-    ensures more { IfOk result (λ again. again ≡ true →
-        length (leaves_of grid.now.n (is_flagged flags.old)) < length (leaves_of grid.now.n (is_flagged flags.new))) }
-    ensures none { IfOk result (λ again. again ≡ false → (flags.new ≡ flags.old) ×
+    ensures split { IfOk result (HasSplit grid.now.n flags.old flags.new) }
+    ensures none { IfOk result (λ again. again ≡ false →
         All (λ a. error_of grid.now.n grid.now.heights a ≤ tolerance)
         (leaves_under (2 * grid.now.n - level_of t) (is_flagged flags.new) t)) }
 {
@@ -145,21 +132,14 @@ fn split_leaf(
     t: Tri,
 ) -> Result<bool, NoMemory>
     requires splittable { IsSplittable grid.now.n t }
-    requires lower { lower ≤ tolerance }
-    requires flags { length flags.old ≡ 2 ^ (2 * grid.now.n + 1) }
-    requires closed { IsClosed grid.now.n (is_flagged flags.old) }
     requires parent { 4 ≤ t → IsTrue (is_flagged flags.old (t / 2)) }
-    requires room { length known.old ≡ 2 ^ (2 * grid.now.n + 1) }
-    requires known { AreKnown grid.now.n grid.now.heights lower known.old }
-    ensures room { length known.new ≡ length known.old }
-    ensures known { AreKnown grid.now.n grid.now.heights lower known.new }
-    ensures flags { length flags.new ≡ length flags.old }
+    requires ready { AreReady grid.now.n grid.now.heights tolerance lower flags.old known.old }
+    ensures kept { AreKept grid.now.n grid.now.heights lower flags.old known.old flags.new known.new }
     ensures going { OnOk result (IsGoingOn grid.now.n grid.now.heights tolerance
         flags.old reasons.old.items flags.new reasons.new.items) }
-    ensures more { IfOk result (λ is. is ≡ true →
-        length (leaves_of grid.now.n (is_flagged flags.old)) < length (leaves_of grid.now.n (is_flagged flags.new))) }
-    ensures none { IfOk result (λ is. is ≡ false → (flags.new ≡ flags.old) ×
-        (is_flagged flags.new t ≡ false → error_of grid.now.n grid.now.heights t ≤ tolerance)) }
+    ensures split { IfOk result (HasSplit grid.now.n flags.old flags.new) }
+    ensures none { IfOk result (λ is. is ≡ false →
+        is_flagged flags.new t ≡ false → error_of grid.now.n grid.now.heights t ≤ tolerance) }
 {
     if is_set(flags, t) {
         return Ok(false);

@@ -5,3 +5,4 @@ pub mod Budget
 pub mod Required
 pub mod Points
 pub mod Excess
+pub mod Centre

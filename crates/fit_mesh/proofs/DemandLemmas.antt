@@ -1,19 +1,19 @@
 -- Closures of what is required, one part more at a time; and the triangles whose centre stands at a place.
 use Rattle.std.proofs.Common.{◌≡◌, ℕ, ◌-◌, ◌*◌, ◌/◌, ◌%◌, ◌^◌, ◌<◌, Bool, true, false, ◌&&◌, ◌||◌, leb, ltb}
 use Rattle.std.proofs.Common.{IsTrue, eqb, List, [], ◌∷◌, ◌++◌, refl, sym, ◌∙◌, ap, subst, arith, ⊎_elim, eq-eqb}
-use Rattle.std.proofs.lemmas.Bool.{or_cases, or_left, or_right, and_parts, and_from, leb-true, le-leb, ltb-true, lt-ltb}
-use Rattle.std.proofs.lemmas.Bool.{eqb-true, false≢true}
+use Rattle.std.proofs.lemmas.Bool.{or_cases, or_left, or_right, eqb-true, false≢true}
 use Rattle.std.proofs.lemmas.Nat.{div-mul-add, mod-mul-add}
 use Rattle.mesh_defs.specs.declared.point.Point.{Point}
 use Rattle.mesh_defs.specs.HeightField.{side_of, place_of}
 use Rattle.mesh_defs.specs.Triangle.{level_of, IsSplittable}
-use Rattle.mesh_defs.specs.ClosedSet.{IsClosed, IsSubset, IsLeastClosed, leaves_of, among}
+use Rattle.mesh_defs.specs.ClosedSet.{IsClosed, IsSubset, IsLeastClosed, among}
 use Rattle.mesh_defs.specs.Greedy.{with_triangle}
 use Rattle.bintree_laws.specs.Corners.{IsInSquare}
 use Rattle.bintree_laws.proofs.CornerLemmas.{IsWithin-corners_of}
 use Rattle.mesh_laws.proofs.ForcingLemmas.{with-cases, with-old, with-new}
-use Rattle.mesh_laws.specs.Vertex.{is_mesh_vertex, centre_of, IsSquareCorner}
-use Rattle.mesh_laws.proofs.VertexLemmas.{centre-member, centre-inside}
+use Rattle.mesh_laws.specs.Vertex.{centre_of, IsSquareCorner}
+use Rattle.mesh_laws.proofs.VertexLemmas.{centre-inside}
+use Rattle.fit_laws.proofs.CentreLemmas.{has_centre-splittable, has_centre-point, splittable-has_centre, centre-shared}
 use Rattle.fit_mesh.specs.Required.{is_centred_at}
 use Rattle.fit_mesh.proofs.LogLemmas.{among-more, or-assoc}
 
@@ -71,6 +71,9 @@ module _ (n : ℕ) where
   abbrev centre_place : ℕ → ℕ
   centre_place a = place_of n (centre_of n a).x (centre_of n a).y
 
+  abbrev is_at : List ℕ → Point → Bool
+  is_at places p = among places (place_of n p.x p.y)
+
   -- at no place
   pub centred-none : (a : ℕ) → is_centred_at n [] a ≡ false
   centred-none a = and-false (is_coarse a)
@@ -87,19 +90,15 @@ module _ (n : ℕ) where
 
   -- a triangle that is centred may be split, and its centre is at the place
   pub centred-splittable : (places : List ℕ) (a : ℕ) → IsTrue (is_centred_at n places a) → IsSplittable n a
-  centred-splittable places a is =
-      let test = and_parts (leb 2 a) (ltb (level_of a) (2 * n))
-      (and_parts (is_coarse a) (among places (centre_place a)) is).0 in
-      record { low = leb-true 2 a test.0; coarse = ltb-true (level_of a) (2 * n) test.1 }
+  centred-splittable places a is = has_centre-splittable n (is_at places) a is
 
   pub centred-place : (places : List ℕ) (a : ℕ) → IsTrue (is_centred_at n places a) →
       IsTrue (among places (centre_place a))
-  centred-place places a is = (and_parts (is_coarse a) (among places (centre_place a)) is).1
+  centred-place places a is = has_centre-point n (is_at places) a is
 
   pub is-centred : (places : List ℕ) (a : ℕ) → IsSplittable n a → IsTrue (among places (centre_place a)) →
       IsTrue (is_centred_at n places a)
-  is-centred places a s listed = and_from (is_coarse a) (among places (centre_place a))
-      (and_from (leb 2 a) (ltb (level_of a) (2 * n)) (le-leb 2 a s.low) (lt-ltb (level_of a) (2 * n) s.coarse)) listed
+  is-centred places a s listed = splittable-has_centre n (is_at places) a s listed
 
   -- a place is that of one point
   pub place-one : (p q : Point) → IsInSquare (2 ^ n) p → IsInSquare (2 ^ n) q →
@@ -122,12 +121,6 @@ module _ (n : ℕ) where
         y = (let i = w.v0_y in let j = w.v1_y in omega arith);
       }
 
-  -- of a closed set, triangles with one centre are members together
-  pub same-centre : (has : ℕ → Bool) (a t : ℕ) → IsClosed n has → IsSplittable n a → IsSplittable n t →
-      centre_of n a ≡ centre_of n t → has a ≡ has t
-  same-centre has a t closed s u e =
-      sym (centre-member n has a closed s) ∙ ap (is_mesh_vertex n (leaves_of n has)) e ∙ centre-member n has t closed u
-
   module _ (place : ℕ) (p : Point) (here : IsInSquare (2 ^ n) p) (at : place_of n p.x p.y ≡ place) where
     one-point : (a : ℕ) → IsTrue (is_centred_at n (place ∷ []) a) → centre_of n a ≡ p
     one-point a is = place-one (centre_of n a) p (centre-within a) here (⊎_elim
@@ -148,7 +141,7 @@ module _ (n : ℕ) where
       closed = least.closed;
       holds = λ a h. ⊎_elim
           (λ old. least.holds a (with-old has t a old))
-          (λ new. same-centre next a t least.closed (centred-splittable (place ∷ []) a new) s
+          (λ new. centre-shared n next a t least.closed (centred-splittable (place ∷ []) a new) s
           (one-point a new ∙ sym centre) ∙ least.holds t (with-new has t))
           (or_cases (has a) (is_centred_at n (place ∷ []) a) h);
       least = λ other closed splits. least.least other closed (λ a h. ⊎_elim

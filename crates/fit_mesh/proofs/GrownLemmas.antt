@@ -24,7 +24,7 @@ use Rattle.fit_laws.specs.Error.{IsExactAtFinest}
 use Rattle.fit_laws.proofs.FitLemmas.{closed-same, splittable-error}
 use Rattle.fit_laws.proofs.BudgetLemmas.{budget_end}
 use Rattle.fit_mesh.specs.Log.{Extends, HasLog}
-use Rattle.fit_mesh.specs.Waiting.{pair_cmp, IsWaitingEntry, AreKept, AreLeft, IsFirst, IsPending, IsWaiting}
+use Rattle.fit_mesh.specs.Waiting.{pair_cmp, IsWaitingEntry, AreKept, AreLeft, IsFirst, IsPending, IsWaiting, IsWorstLeaf}
 use Rattle.fit_mesh.specs.Grown.{IsNeededBelow, IsBest}
 use Rattle.fit_mesh.specs.Found.{IsFound}
 use Rattle.fit_mesh.proofs.LogLemmas.{log-none}
@@ -94,6 +94,18 @@ module _ (n : ℕ) (p : ℕ → ℕ) (exact : IsExactAtFinest n p) (flags : List
       let some : 0 < r.0 = e.some in
       let same : r.0 ≡ p r.1 = e.value in splittable-error n p exact r.1 e.address (omega arith)
 
+-- so it is the worst leaf
+pub worst-leaf : (n : ℕ) (p : ℕ → ℕ) (exact : IsExactAtFinest n p) (flags : List Bool) (log : List ℕ)
+    (items : List (ℕ × ℕ)) (r : ℕ × ℕ) → HasLog n flags log → IsWaiting n p (is_flagged flags) items →
+    IsFirst (is_flagged flags) items r → IsWorstLeaf n p (is_flagged flags) r
+worst-leaf n p exact flags log items r g w first = record {
+  worst = first-worst n p flags log items g w r first;
+  value = (w.entries r first.entry).value;
+  leaf = Contains-in r.1 (leaves_of n (is_flagged flags))
+      (leaf-outer n (is_flagged flags) r.1 g.closed (first-outer n p flags log items g w r first));
+  splittable = first-splittable n p exact flags items w r first;
+}
+
 -- marks
 
 -- of all that is split
@@ -154,10 +166,10 @@ below-step n p low has next t needed outer above least k less =
 -- the beginning
 
 -- addresses are small
-pub address-small : (n a : ℕ) → n ≤ 11 → IsAddress n a → (2 ≤ a) × (a < 2 ^ 24)
+pub address-small : (n a : ℕ) → n ≤ 14 → IsAddress n a → (2 ≤ a) × (a < 2 ^ 30)
 address-small n a high address =
-    let few : 2 * n + 2 ≤ 24 = omega arith in
-    let most : 2 ^ (2 * n + 2) ≤ 2 ^ 24 = pow_mono few in
+    let few : 2 * n + 2 ≤ 30 = omega arith in
+    let most : 2 ^ (2 * n + 2) ≤ 2 ^ 30 = pow_mono few in
     (address.low, (let h = address.high in omega arith))
 
 -- the empty set has the two halves of the square as leaves

@@ -8,6 +8,7 @@ use Rattle.mesh_defs.specs.ClosedSet.{IsClosed, IsSubset, IsLeastClosed, among}
 use Rattle.mesh_defs.specs.Priority.{worst_of}
 use Rattle.mesh_defs.specs.Greedy.{with_triangle}
 use Rattle.mesh_defs.proofs.ListLemmas.{IsIn-contains, among-in}
+use Rattle.mesh_laws.proofs.DescentLemmas.{IsAddress-down, IsDown-2, IsDown-3}
 use Rattle.mesh_laws.proofs.ForcingLemmas.{with-cases}
 use Rattle.mesh_laws.proofs.ClosureLemmas.{IsOuter, leaves_of-same}
 use Rattle.mesh_laws.proofs.LeafLemmas.{leaves-most, four-power}
@@ -37,6 +38,14 @@ settled-inside n tolerance e other t settled address parent above = ⊎_elim
       parent = parent;
     } in absurd (omega arith))
     (cases_Bool (other t))
+
+-- so of the halves
+pub halves-inside : (n tolerance : ℕ) (e : ℕ → ℕ) (other : ℕ → Bool) → IsFineEnough n tolerance e other →
+    (tolerance < e 2 → IsTrue (other 2)) × (tolerance < e 3 → IsTrue (other 3))
+halves-inside n tolerance e other settled = (
+  settled-inside n tolerance e other 2 settled (IsAddress-down n (2 * n) 2 (IsDown-2 n)) (λ big. absurd (omega arith)),
+  settled-inside n tolerance e other 3 settled (IsAddress-down n (2 * n) 3 (IsDown-3 n)) (λ big. absurd (omega arith)),
+)
 
 -- what a split forces is in each closed set with the triangle
 pub ask-least : (n : ℕ) (has next : ℕ → Bool) (t : ℕ) → IsLeastClosed n (with_triangle has t) next →

@@ -1,17 +1,16 @@
 -- What is required of a mesh: triangles to be split, or grid points to be vertices, by their places in the heights.
 -- This project's own form. Words: is_centred_at, is_required, IsAskable, or_required.
-use Rattle.std.specs.Prelude.{ℕ, ◌*◌, ◌<◌, Bool, ◌&&◌, ◌||◌, nat_le, nat_lt, List, All}
+use Rattle.std.specs.Prelude.{ℕ, ◌*◌, ◌<◌, Bool, ◌||◌, List, All}
 use Rattle.mesh_defs.specs.HeightField.{side_of, place_of}
-use Rattle.mesh_defs.specs.Triangle.{level_of, IsSplittable}
+use Rattle.mesh_defs.specs.Triangle.{IsSplittable}
 use Rattle.mesh_defs.specs.ClosedSet.{among}
-use Rattle.mesh_laws.specs.Vertex.{centre_of}
+use Rattle.fit_laws.specs.Centre.{has_centre}
 use Rattle.fit_mesh.specs.declared.required.Required.{Required}
 use Rattle.fit_mesh.specs.declared.required.Required.TheVariants.{Triangles, Points}
 
 -- the triangle may be split, and its centre, the midpoint of its base, stands at one of these places in the heights
 abbrev pub is_centred_at : ℕ → List ℕ → ℕ → Bool
-is_centred_at n places a = (nat_le 2 a && nat_lt (level_of a) (2 * n))
-    && among places (place_of n (centre_of n a).x (centre_of n a).y)
+is_centred_at n places = has_centre n (λ p. among places (place_of n p.x p.y))
 
 -- the triangle has to be split
 abbrev pub is_required : ℕ → Required → ℕ → Bool

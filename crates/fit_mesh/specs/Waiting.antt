@@ -1,11 +1,12 @@
 -- The leaves that wait for a split, each with its error.
--- Words: pair_cmp, IsWaitingEntry, AreKept, AreLeft, IsFirst, IsPending, IsWaiting.
+-- Words: pair_cmp, IsWaitingEntry, AreKept, AreLeft, IsFirst, IsWaiting, IsPending, IsWorstLeaf.
 use Rattle.std.specs.Prelude.{◌≡◌, ℕ, ◌/◌, ◌<◌, ◌≤◌, ◌⊎◌, Bool, false, IsTrue, List, Contains, All}
 use Rattle.std.specs.declared.cmp.Ordering.{Ordering}
 use Rattle.std.specs.Ordering.{nat_cmp, ordering_then}
 use Rattle.std.specs.BinaryHeap.{IsHeap}
-use Rattle.mesh_defs.specs.Triangle.{IsAddress}
+use Rattle.mesh_defs.specs.Triangle.{IsAddress, IsSplittable}
 use Rattle.mesh_defs.specs.ClosedSet.{leaves_of, among}
+use Rattle.mesh_defs.specs.Priority.{worst_of}
 
 -- by error, and then by address
 abbrev pub pair_cmp : ℕ × ℕ → ℕ × ℕ → Ordering
@@ -44,3 +45,10 @@ pub record IsPending (n : ℕ) (error : ℕ → ℕ) (has : ℕ → Bool) (fresh
   pub entries : (r : ℕ × ℕ) → Contains items r → IsWaitingEntry n error has r
   pub leaves : (a : ℕ) → Contains (leaves_of n has) a → 0 < error a →
       Contains items (error a, a) ⊎ ((4 ≤ a) × IsTrue (among fresh (a / 2)))
+
+-- a leaf that can be split, whose error is the greatest of a leaf
+pub record IsWorstLeaf (n : ℕ) (error : ℕ → ℕ) (has : ℕ → Bool) (r : ℕ × ℕ) : Type 0 where
+  pub worst : worst_of error (leaves_of n has) ≡ r.0
+  pub value : r.0 ≡ error r.1
+  pub leaf : Contains (leaves_of n has) r.1
+  pub splittable : IsSplittable n r.1

@@ -1,14 +1,15 @@
 //! The least greatest error for a budget: the worst leaf is split, again and again.
 
-ghost use Rattle.std.specs.Prelude.{◌≡◌, ℕ, ◌+◌, ◌*◌, ◌-◌, ◌^◌, ◌/◌, ◌<◌, ◌≤◌, ◌⊎◌, [], length, drop, vec_capacity};
+ghost use Rattle.std.specs.Prelude.{◌≡◌, ℕ, ◌+◌, ◌*◌, ◌-◌, ◌^◌, ◌/◌, ◌<◌, ◌≤◌, ◌⊎◌, [], Contains, IfSome, IfNone, length, drop, vec_capacity};
 ghost use Rattle.std.specs.BinaryHeap.{IsHeap, heap_items, heap_len, heap_capacity};
-ghost use Rattle.mesh_defs.specs.Triangle.{IsAddress};
+ghost use Rattle.mesh_defs.specs.Triangle.{IsAddress, IsSplittable};
 ghost use Rattle.mesh_defs.specs.ClosedSet.{IsLeastClosed, leaves_of};
+ghost use Rattle.mesh_defs.specs.Greedy.{with_triangle};
 ghost use Rattle.mesh_defs.specs.Priority.{worst_of};
 ghost use Rattle.mesh_laws.specs.Sweep.{is_flagged};
 ghost use Rattle.fit_laws.specs.Error.{error_of};
-ghost use Rattle.fit_mesh.specs.Log.{HasLog};
-ghost use Rattle.fit_mesh.specs.Waiting.{pair_cmp, IsPending, IsWaiting};
+ghost use Rattle.fit_mesh.specs.Log.{Extends, HasLog};
+ghost use Rattle.fit_mesh.specs.Waiting.{pair_cmp, IsPending, IsWaiting, IsWorstLeaf};
 ghost use Rattle.fit_mesh.specs.Grown.{IsNeededBelow, IsBest};
 ghost use Rattle.fit_mesh.specs.Found.{IsFound};
 
@@ -96,10 +97,52 @@ fn greatest_waiting(
     ensures value { let e = error_of grid.now.n grid.now.heights in
         result ≡ worst_of e (leaves_of grid.now.n (is_flagged flags.now)) }
 {
-    match next_leaf(heap, flags) {
+    match worst_leaf(grid, heap, flags, log) {
         None => 0,
         Some(first) => first.0,
     }
+}
+
+/// The worst leaf with its error; none where no leaf has one.
+fn worst_leaf(
+    grid: &Grid,
+    heap: &mut BinaryHeap<(u32, u32)>,
+    flags: &[bool],
+    log: &[Tri],
+) -> Option<(u32, u32)>
+    requires grown { HasLog grid.now.n flags.now log.now }
+    requires waiting { let e = error_of grid.now.n grid.now.heights in
+        IsWaiting grid.now.n e (is_flagged flags.now) (heap_items heap.old) }
+    ensures capacity { heap_capacity heap.new ≡ heap_capacity heap.old }
+    ensures len { heap_len heap.new ≤ heap_len heap.old }
+    ensures waiting { let e = error_of grid.now.n grid.now.heights in
+        IsWaiting grid.now.n e (is_flagged flags.now) (heap_items heap.new) }
+    ensures none { let e = error_of grid.now.n grid.now.heights in
+        IfNone result (worst_of e (leaves_of grid.now.n (is_flagged flags.now)) ≡ 0) }
+    ensures worst { let e = error_of grid.now.n grid.now.heights in
+        IfSome result (IsWorstLeaf grid.now.n e (is_flagged flags.now)) }
+{
+    next_leaf(heap, flags)
+}
+
+/// Splits a leaf, with what that forces.
+fn split_leaf(grid: &Grid, flags: &mut [bool], log: &mut Vec<Tri>, number: u32)
+    requires grown { HasLog grid.now.n flags.old log.old.items }
+    requires room { 2 ^ (2 * grid.now.n + 1) ≤ vec_capacity log.old }
+    requires splittable { IsSplittable grid.now.n number }
+    requires leaf { Contains (leaves_of grid.now.n (is_flagged flags.old)) number }
+    ensures capacity { vec_capacity log.new ≡ vec_capacity log.old }
+    ensures grown { HasLog grid.now.n flags.new log.new.items }
+    ensures kept { Extends log.old.items log.new.items }
+    ensures more { length log.old.items < length log.new.items }
+    ensures least { IsLeastClosed grid.now.n (with_triangle (is_flagged flags.old) number) (is_flagged flags.new) }
+    ensures needed { let e = error_of grid.now.n grid.now.heights in (low : ℕ) → low ≤ e number →
+        IsNeededBelow grid.now.n e low (is_flagged flags.old) →
+        IsNeededBelow grid.now.n e low (is_flagged flags.new) }
+{
+    let _level = grid.n();
+    let t = Tri::at(number).unwrap();
+    force(flags, log, grid.n(), t);
 }
 
 /// Splits the leaf with the greatest error, with what that forces, until no error exceeds the tolerance or the
@@ -140,7 +183,7 @@ fn refine(
     let mut low = first;
     let mut mark = log.len();
     while low > tolerance {
-        match next_leaf(heap, flags) {
+        match worst_leaf(grid, heap, flags, log) {
             None => {
                 low = 0;
                 mark = log.len();
@@ -151,8 +194,7 @@ fn refine(
                     mark = log.len();
                 } else {
                     let before = log.len();
-                    let t = Tri::new(number).unwrap();
-                    force(flags, log, grid.n(), t);
+                    split_leaf(grid, flags, log, number);
                     if log.len() > budget - 2 {
                         return Growth { low, mark };
                     }

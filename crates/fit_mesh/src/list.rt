@@ -29,7 +29,7 @@ pub fn list_set(flags: &[bool], n: u32, list: &mut Vec<Tri>)
 
 /// Puts the leaves at and below the triangle, which has so many levels below it, behind the others.
 fn push_leaves(flags: &[bool], levels: u32, t: Tri, list: &mut Vec<Tri>)
-    requires deep { levels + level_of t ≤ 22 }
+    requires deep { levels + level_of t ≤ 28 }
     requires room { length list.old.items + length (leaves_under levels (is_flagged flags.now) t)
         ≤ vec_capacity list.old }
     ensures listed { list.new.items ≡ list.old.items ++ leaves_under levels (is_flagged flags.now) t }
@@ -73,7 +73,7 @@ pub fn split_above_numbers(flags: &mut [bool], log: &mut Vec<Tri>, n: u32, numbe
     clear(flags);
     log.clear();
     for number in numbers {
-        let t = Tri::new(*number).unwrap();
+        let t = Tri::at(*number).unwrap();
         split_above(flags, log, n, t);
     }
 }

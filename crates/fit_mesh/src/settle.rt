@@ -43,22 +43,7 @@ pub fn settle_anew(
     clear(flags);
     log.clear();
     split_required(flags, log, grid.n(), required);
-    ask(
-        grid,
-        limit,
-        flags,
-        log,
-        Tri::LOWER,
-        corners_in(grid, Tri::LOWER),
-    );
-    ask(
-        grid,
-        limit,
-        flags,
-        log,
-        Tri::UPPER,
-        corners_in(grid, Tri::UPPER),
-    );
+    ask_halves(grid, limit, flags, log);
     settle(grid, limit, usize::MAX, flags, log);
 }
 
@@ -134,6 +119,34 @@ pub fn settle(
     log.len() <= most
 }
 
+/// Splits each half of the square that is off by more than the limit.
+pub fn ask_halves(grid: &Grid, limit: Limit, flags: &mut [bool], log: &mut Vec<Tri>)
+    requires complete { IsComplete grid.now.n limit }
+    requires flags { length flags.old ≡ 2 ^ (2 * grid.now.n + 1) }
+    requires room { 2 ^ (2 * grid.now.n + 1) ≤ vec_capacity log.old }
+    requires log { IsLogged flags.old log.old.items }
+    requires closed { IsClosed grid.now.n (is_flagged flags.old) }
+    ensures flags { length flags.new ≡ length flags.old }
+    ensures capacity { vec_capacity log.new ≡ vec_capacity log.old }
+    ensures log { KeepsLog flags.old log.old.items flags.new log.new.items }
+    ensures closed { IsClosed grid.now.n (is_flagged flags.new) }
+    ensures more { IsSubset (is_flagged flags.old) (is_flagged flags.new) }
+    ensures least { let e = error_within grid.now.n grid.now.heights limit.entry in (other : ℕ → Bool) →
+        IsClosed grid.now.n other → IsSubset (is_flagged flags.old) other →
+        (tolerance_of limit.entry < e 2 → IsTrue (other 2)) →
+        (tolerance_of limit.entry < e 3 → IsTrue (other 3)) → IsSubset (is_flagged flags.new) other }
+    ensures kept { Extends log.old.items log.new.items }
+    ensures lower { let e = error_within grid.now.n grid.now.heights limit.entry in
+        tolerance_of limit.entry < e 2 → IsTrue (is_flagged flags.new 2) }
+    ensures upper { let e = error_within grid.now.n grid.now.heights limit.entry in
+        tolerance_of limit.entry < e 3 → IsTrue (is_flagged flags.new 3) }
+{
+    let lower = corners_in(grid, Tri::LOWER);
+    ask(grid, limit, flags, log, Tri::LOWER, lower);
+    let upper = corners_in(grid, Tri::UPPER);
+    ask(grid, limit, flags, log, Tri::UPPER, upper);
+}
+
 /// Splits each child of a member that is off by more than the limit.
 fn ask_pair(grid: &Grid, limit: Limit, flags: &mut [bool], log: &mut Vec<Tri>, t: Tri)
     requires complete { IsComplete grid.now.n limit }
@@ -165,14 +178,7 @@ fn ask_pair(grid: &Grid, limit: Limit, flags: &mut [bool], log: &mut Vec<Tri>, t
 }
 
 /// Splits a triangle whose parent is split, where it is off by more than the limit.
-pub fn ask(
-    grid: &Grid,
-    limit: Limit,
-    flags: &mut [bool],
-    log: &mut Vec<Tri>,
-    t: Tri,
-    corners: Corners,
-)
+fn ask(grid: &Grid, limit: Limit, flags: &mut [bool], log: &mut Vec<Tri>, t: Tri, corners: Corners)
     requires complete { IsComplete grid.now.n limit }
     requires address { IsAddress grid.now.n t }
     requires corners { corners ≡ corners_of grid.now.n t }

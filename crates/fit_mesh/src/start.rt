@@ -10,9 +10,8 @@ ghost use Rattle.fit_mesh.specs.Log.{Extends, HasLog};
 use crate::error::greater;
 use crate::force::{clear, set_back};
 use crate::limit::Limit;
-use crate::settle::{ask, settle};
+use crate::settle::{ask_halves, settle};
 use bintree_addr::Tri;
-use mesh_measure::corners_in;
 use pgm_grid::Grid;
 
 /// Flags the fewest triangles for a tolerance and logs them: the least of some tolerances that the budget allows.
@@ -75,21 +74,6 @@ fn settle_within(
         IsSubset (is_flagged flags.old) other → IsSubset (is_flagged flags.new) other }
 {
     let limit = Limit::Common(tolerance);
-    ask(
-        grid,
-        limit,
-        flags,
-        log,
-        Tri::LOWER,
-        corners_in(grid, Tri::LOWER),
-    );
-    ask(
-        grid,
-        limit,
-        flags,
-        log,
-        Tri::UPPER,
-        corners_in(grid, Tri::UPPER),
-    );
+    ask_halves(grid, limit, flags, log);
     settle(grid, limit, budget - 2, flags, log)
 }

@@ -1,5 +1,5 @@
 -- What each split of a chain asks for, and what it adds.
-use Rattle.std.proofs.Common.{◌≡◌, ◌≢◌, ap, sym, ◌∙◌, ◌⊎◌, true, ℕ, ◌+◌, ◌*◌, ◌/◌, ◌^◌, ◌<◌, ◌≤◌, refl, arith, inl, inr}
+use Rattle.std.proofs.Common.{◌≡◌, ap, sym, ◌∙◌, true, ℕ, ◌+◌, ◌*◌, ◌/◌, ◌^◌, ◌<◌, ◌≤◌, refl, arith, inl, inr}
 use Rattle.std.proofs.Common.{⊎_elim, subst, List, [], ◌∷◌, ◌++◌, length, get_or}
 use Rattle.std.proofs.lemmas.Bool.{cases_lt, cases_Bool, true≢false}
 use Rattle.std.proofs.lemmas.Option.{IfSome_then}
@@ -12,7 +12,7 @@ use Rattle.mesh_laws.specs.Slots.{address_at, has_children, IsLive, split_set, I
 use Rattle.triangle_pool.specs.Answer.{numbers, AreChildren, IsBorn, IsBirth}
 use Rattle.mesh_laws.proofs.SlotLemmas.{has_children-set, set-has_children, size_one, size_two}
 use Rattle.force_split.specs.Chain.{IsChain, IsChained, IsBornOf, IsAnswer, AreAnswers, chain_size}
-use Rattle.force_split.proofs.ChainLemmas.{chained_shut, chained_up, chained_step, next_coarse}
+use Rattle.force_split.proofs.ChainLemmas.{low_less, chained_shut, chained_up, chained_step, next_coarse}
 
 -- what is known of the slots that are to be split
 pub record IsTask (n : ℕ) (pairs : List ℕ) (room splits : ℕ) (slots : List Slot) : Type 0 where
@@ -105,13 +105,22 @@ diamond_small a =
     ⊎_elim (λ few. let one = size_one a (let none : mate_of a ≡ 0 = omega arith in none) in omega arith)
     (λ some. let two = size_two a some in omega arith) (cases_lt (mate_of a) 1)
 
--- at most two triangles are split for each slot
-pub size_small : (pairs : List ℕ) (slots : List Slot) → chain_size pairs (numbers slots) ≤ 2 * length slots
-size_small pairs [] = omega arith
-size_small pairs (s ∷ rest) =
-    let one = diamond_small (address_at pairs s.0) in
-    let more = size_small pairs rest in
+-- at most two triangles are split on each level of a chain
+size_levels : (pairs : List ℕ) (s : ℕ) (rest : List ℕ) → IsChain pairs (s ∷ rest) →
+    chain_size pairs (s ∷ rest) ≤ 2 * level_of (address_at pairs s) + 2
+size_levels pairs s [] chain = let one = diamond_small (address_at pairs s) in omega arith
+size_levels pairs s (t ∷ rest) chain =
+    let one = diamond_small (address_at pairs s) in
+    let more = size_levels pairs t rest chain.1.1 in
+    let same : level_of (address_at pairs t) ≤ level_of (address_at pairs t) = omega arith in
+    let less = low_less pairs s (t ∷ rest) (address_at pairs t) chain.0 chain.1.0 chain.1.1 same in
     omega arith
+
+-- so a chain of splittable leaves has at most 4 n
+pub size_small : (n : ℕ) (pairs slots : List ℕ) → IsChain pairs slots →
+    level_of (address_at pairs (get_or slots 0 0)) < 2 * n → chain_size pairs slots ≤ 4 * n
+size_small n pairs [] chain coarse = omega arith
+size_small n pairs (s ∷ rest) chain coarse = let less = size_levels pairs s rest chain in omega arith
 
 -- ---- which slots the answers hold
 

@@ -1,5 +1,5 @@
 -- The set after the splits of a chain is the least closed one.
-use Rattle.std.proofs.Common.{◌≡◌, ◌≢◌, ap, sym, ◌∙◌, ◌⊎◌, Bool, true, false, ℕ, ◌+◌, ◌*◌, ◌/◌, ◌<◌, ◌≤◌, refl, arith}
+use Rattle.std.proofs.Common.{◌≡◌, ap, sym, ◌∙◌, Bool, true, false, ℕ, ◌+◌, ◌*◌, ◌/◌, ◌<◌, ◌≤◌, refl, arith}
 use Rattle.std.proofs.Common.{inl, inr, ⊎_elim, List, [], ◌∷◌}
 use Rattle.std.proofs.lemmas.Bool.{cases_Bool, true≢false}
 use Rattle.mesh_defs.specs.Triangle.{level_of}
@@ -46,7 +46,7 @@ chained_least n pairs s (t ∷ rest) mid other next chain h closed sub up = h.fo
     ])
 
 -- what the rest of a chain adds is coarser than the first slot's triangle
-low_less : (pairs : List ℕ) (s : ℕ) (rest : List ℕ) (p : ℕ) → HasLeaf pairs s → IsNextInChain pairs s rest →
+pub low_less : (pairs : List ℕ) (s : ℕ) (rest : List ℕ) (p : ℕ) → HasLeaf pairs s → IsNextInChain pairs s rest →
     IsChain pairs rest → IsLow pairs rest p → level_of p < level_of (address_at pairs s)
 low_less pairs s [] p leaf next chain low = absurd low
 low_less pairs s (t ∷ rest) p leaf next chain low =

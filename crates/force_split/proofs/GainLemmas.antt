@@ -1,5 +1,5 @@
 -- The gain of a chain is its size.
-use Rattle.std.proofs.Common.{◌≡◌, ◌≢◌, ap, sym, ◌∙◌, ◌⊎◌, true, false, ◌||◌, cond, nat_eq, ℕ, ◌+◌, ◌*◌, ◌<◌, ◌≤◌, refl}
+use Rattle.std.proofs.Common.{◌≡◌, ap, sym, ◌∙◌, ◌⊎◌, true, false, ◌||◌, cond, nat_eq, ℕ, ◌+◌, ◌*◌, ◌<◌, ◌≤◌, refl}
 use Rattle.std.proofs.Common.{arith, inl, inr, ⊎_elim, List, [], ◌∷◌, length}
 use Rattle.std.specs.List.{count_by}
 use Rattle.std.proofs.lemmas.Bool.{cases_eq, cases_lt, cases_Bool, true≢false, or_cases, or_left, or_right, eq-eqb}

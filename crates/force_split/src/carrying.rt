@@ -18,14 +18,14 @@ use bintree_addr::Slot;
 use triangle_pool::{Born, Pool};
 
 /// Splits the slots of a chain, the last one first.
-fn split_all(pool: &mut Pool, slots: &[Slot], answers: &mut ArrayVec<Born, 24>)
+fn split_all(pool: &mut Pool, slots: &[Slot], answers: &mut ArrayVec<Born, 30>)
     requires valid { IsPool pool.old.n pool.old.pairs }
     requires chain { IsChain pool.old.pairs (numbers slots.now) }
     requires coarse { 1 ≤ length slots.now →
         level_of (address_at pool.old.pairs (slice_index (numbers slots.now) 0)) < 2 * pool.old.n }
     requires room { chain_size pool.old.pairs (numbers slots.now) ≤ room_of pool.old.pairs }
     requires count { pool.old.splits + chain_size pool.old.pairs (numbers slots.now) < MOST_CHANGES }
-    requires fits { array_vec_len answers.old + length slots.now ≤ 24 }
+    requires fits { array_vec_len answers.old + length slots.now ≤ 30 }
     ensures n { pool.new.n ≡ pool.old.n }
     ensures most { pool.new.most ≡ pool.old.most }
     ensures merges { pool.new.merges ≡ pool.old.merges }
@@ -50,14 +50,14 @@ fn split_all(pool: &mut Pool, slots: &[Slot], answers: &mut ArrayVec<Born, 24>)
 }
 
 /// Splits a leaf with what that forces, as planned.
-pub fn carry_out(pool: &mut Pool, chain: &Chain) -> ArrayVec<Born, 24>
+pub fn carry_out(pool: &mut Pool, chain: &Chain) -> ArrayVec<Born, 30>
     requires some { 1 ≤ length chain.now.slots.items }
     requires chain { IsChain pool.old.pairs (numbers chain.now.slots.items) }
     requires size { chain.now.gain ≡ chain_size pool.old.pairs (numbers chain.now.slots.items) }
     requires coarse { level_of
         (address_at pool.old.pairs (slice_index (numbers chain.now.slots.items) 0)) < 2 * pool.old.n }
     requires room { chain.now.gain ≤ room_of pool.old.pairs }
-    requires count { pool.old.splits + 48 < MOST_CHANGES }
+    requires count { pool.old.splits + (4 * pool.old.n + 4) < MOST_CHANGES }
     ensures n { pool.new.n ≡ pool.old.n }
     ensures most { pool.new.most ≡ pool.old.most }
     ensures merges { pool.new.merges ≡ pool.old.merges }

@@ -18,7 +18,7 @@ use triangle_pool::Pool;
 /// A leaf and what must be split before it, the finest first, and how many triangles the whole split adds.
 #[derive(Debug, Drop)]
 pub struct Chain {
-    pub slots: ArrayVec<Slot, 24>,
+    pub slots: ArrayVec<Slot, 30>,
     pub gain: u32,
 }
 
@@ -49,10 +49,10 @@ fn size(pool: &Pool, s: Slot) -> u32
 }
 
 /// Adds the slot and its chain, which has at most one slot a level, and answers the chain's size.
-fn extend(pool: &Pool, s: Slot, levels: u32, slots: &mut ArrayVec<Slot, 24>) -> u32
+fn extend(pool: &Pool, s: Slot, levels: u32, slots: &mut ArrayVec<Slot, 30>) -> u32
     requires leaf { HasLeaf pool.now.pairs s.0 }
     requires level { level_of (address_at pool.now.pairs s.0) ≤ levels }
-    requires fits { array_vec_len slots.old + levels < 24 }
+    requires fits { array_vec_len slots.old + levels < 30 }
     ensures chain { (rest : List ℕ) × (numbers slots.new.items ≡ numbers slots.old.items ++ (s.0 ∷ rest))
         × IsChain pool.now.pairs (s.0 ∷ rest) × (result ≡ chain_size pool.now.pairs (s.0 ∷ rest)) }
     ensures small { result ≤ 2 * levels + 2 }

@@ -8,7 +8,7 @@ ghost use Rattle.frame_loop.specs.declared.limits.TheConstants.{MOST_FRAMES, MOS
 pub const MOST_FRAMES: u32 = 1_000_000;
 
 /// An engine is renewed where it has counted at most so many evaluations, splits and merges: so that those of
-/// 1,000,000 frames more, at most 2^50 of each, leave it below what a frame may begin with, 2^61. At a million a
+/// 1,000,000 frames more, at most 2^55 of each, leave it below what a frame may begin with, 2^61. At a million a
 /// second it takes 36,000 years to count so far.
 pub const MOST_TO_RENEW: u64 = 1 << 60;
 

@@ -348,6 +348,6 @@ IsFound-all n p d level all is found =
     subst P is found.all_is
 
 -- there is room for the next level
-pub room-next : (d n : ℕ) (all next : List ℕ) → d < 2 * n → n ≤ 11 → length all ≤ 8 * (d + 1) → length next ≤ 8 →
-    length all + length next ≤ 192
+pub room-next : (d n : ℕ) (all next : List ℕ) → d < 2 * n → n ≤ 14 → length all ≤ 8 * (d + 1) → length next ≤ 8 →
+    length all + length next ≤ 232
 room-next d n all next coarse small few more = omega arith

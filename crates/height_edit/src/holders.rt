@@ -15,8 +15,8 @@ use wedgie_tree::edit_laws;
 /// The most triangles of one level that hold a point.
 const AROUND: usize = 8;
 
-/// Room for the triangles that hold a point: at most `AROUND` on each of at most 23 levels.
-pub const HOLDERS: usize = 192;
+/// Room for the triangles that hold a point: at most `AROUND` on each of at most 29 levels.
+pub const HOLDERS: usize = 232;
 
 /// All triangles that hold the point, by address.
 pub fn holders(n: u32, x: u32, y: u32) -> ArrayVec<Tri, HOLDERS>
@@ -112,8 +112,8 @@ fn push_held(held: &mut ArrayVec<Tri, AROUND>, number: u32, n: u32, x: u32, y: u
 /// The triangle with this address.
 fn triangle(number: u32) -> Tri
     requires low { 2 ≤ number }
-    requires high { number < 2 ^ 24 }
+    requires high { number < 2 ^ 30 }
     ensures { result ≡ number }
 {
-    Tri::new(number).unwrap()
+    Tri::at(number).unwrap()
 }

@@ -16,7 +16,7 @@ use wedgie_tree::{Wedges, edit_laws};
 /// Makes `h` the height of the point in column `x` from the left and row `y` from the bottom, and lists the
 /// triangles of all levels that hold the point, by address.
 ///
-/// At most eight triangles of one level hold a point, and there are at most 23 levels.
+/// At most eight triangles of one level hold a point, and there are at most 29 levels.
 /// Cost (not proved): that of `Wedges::set`, and at most sixteen walks down to corners for each level. Takes no
 /// memory.
 pub fn set_point(wedges: &mut Wedges, x: u32, y: u32, h: u16) -> ArrayVec<Tri, HOLDERS>

@@ -21,7 +21,7 @@ pub fn sweep(flags: &mut [bool], n: u32)
     level_laws();
     for number in (2..end(n)).rev() {
         if flags[number as usize] {
-            visit(flags, n, Tri::new(number).unwrap());
+            visit(flags, n, Tri::at(number).unwrap());
         }
     }
 }

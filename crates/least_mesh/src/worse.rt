@@ -58,5 +58,5 @@ fn is_worse(
     }
     let _valid = scene.n();
     let _count = meter.count();
-    scene.rank(Tri::new(number).unwrap(), meter).p > tolerance
+    scene.rank(Tri::at(number).unwrap(), meter).p > tolerance
 }

@@ -10,6 +10,7 @@ use cert_text::FitCertReader;
 use fit_certify::{
     FitCert, FitReject, FitVerdict, MOST_REASONS, Off, Target, check, make, mesh_of,
 };
+use mesh_defs::GREATEST_FILE_LEVEL;
 use pgm_grid::Grid;
 use std::alloc::Global;
 use std::test::Fail;
@@ -195,6 +196,9 @@ fn the_reasons_before_the_mesh_make_it(rt: HostRuntime) -> Result<(), Fail> {
 
 /// The verdict on the certificate that is made for an error.
 fn made_for_error(alloc: Global, grid: &Grid, tolerance: u32) -> Result<FitVerdict, Fail> {
+    if grid.n() > GREATEST_FILE_LEVEL {
+        return Err("a grid of a file".into());
+    }
     let target = error(tolerance);
     let cert = make(alloc, grid, Target::Error { tolerance })?;
     Ok(check(alloc, grid, &cert, target)?)
@@ -202,8 +206,8 @@ fn made_for_error(alloc: Global, grid: &Grid, tolerance: u32) -> Result<FitVerdi
 
 /// The verdict on the certificate that is made for a budget.
 fn made_for_budget(alloc: Global, grid: &Grid, triangles: u32) -> Result<FitVerdict, Fail> {
-    if triangles < 2 {
-        return Err("a budget".into());
+    if triangles < 2 || grid.n() > GREATEST_FILE_LEVEL {
+        return Err("a budget, and a grid of a file".into());
     }
     let target = budget(triangles);
     let cert = make(alloc, grid, Target::Budget { triangles })?;

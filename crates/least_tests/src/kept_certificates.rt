@@ -12,6 +12,7 @@ use fit_certify::{
     FitCert, FitReject, FitVerdict, KeptCert, MOST_REASONS, Off, check_kept, make_kept,
     mesh_of_kept,
 };
+use mesh_defs::GREATEST_FILE_LEVEL;
 use pgm_grid::Grid;
 use std::alloc::Global;
 use std::test::Fail;
@@ -35,7 +36,7 @@ fn points(alloc: Global, rows: Rows) -> Result<Vec<Point>, Fail>
 
 /// The points of these rows, which are of the grid of side 2^n.
 fn points_on(alloc: Global, n: u32, rows: Rows) -> Result<Vec<Point>, Fail>
-    requires in_grid { n ≤ 11 }
+    requires in_grid { n ≤ 14 }
     ensures inside { IfOk result (λ v. All (IsInSquare (2 ^ n)) v.items) }
     ensures few { IfOk result (λ v. length v.items ≤ MOST_REASONS) }
 {
@@ -190,6 +191,9 @@ fn each_test_that_fails_is_told(rt: HostRuntime) -> Result<(), Fail> {
 /// The verdict on the certificate that is made, and how many points it has and how many triangles its mesh.
 fn made(alloc: Global, tolerance: u32, kept: Rows) -> Result<(FitVerdict, usize, usize), Fail> {
     let grid = peak(alloc)?;
+    if grid.n() > GREATEST_FILE_LEVEL {
+        return Err("a grid of a file".into());
+    }
     let kept = points_on(alloc, grid.n(), kept)?;
     let cert = make_kept(alloc, &grid, tolerance, &kept)?;
     let verdict = check_kept(alloc, &grid, &cert, tolerance, &kept)?;

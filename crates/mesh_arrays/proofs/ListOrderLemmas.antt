@@ -32,15 +32,15 @@ more a w = grind arith
 twice : (a w : ℕ) → 2 * a * w ≡ 2 * (a * w)
 twice a w = mul_assoc 2 a w
 
--- the share of a triangle of a level below 22 has two halves, its left child's and behind it its right child's
-pub halved : (a : ℕ) → 2 ≤ a → level_of a < 22 → AreHalved a
+-- the share of a triangle of a level below 28 has two halves, its left child's and behind it its right child's
+pub halved : (a : ℕ) → 2 ≤ a → level_of a < 28 → AreHalved a
 halved a low coarse =
-    let w : ℕ = 2 ^ (22 - (level_of a + 1)) in
-    let e : 22 - level_of a ≡ suc (22 - (level_of a + 1)) = omega arith in
-    let p : 2 ^ (22 - level_of a) ≡ 2 * w = ap (λ k. 2 ^ k) e ∙ pow-succ' 2 (22 - (level_of a + 1)) in
-    let l : 2 ^ (22 - level_of (2 * a)) ≡ w = ap (λ k. 2 ^ (22 - k)) (level_of-left a low) in
-    let r : 2 ^ (22 - level_of (2 * a + 1)) ≡ w = ap (λ k. 2 ^ (22 - k)) (level_of-right a low) in
-    let positive : 0 < w = pow_pos (22 - (level_of a + 1)) in
+    let w : ℕ = 2 ^ (28 - (level_of a + 1)) in
+    let e : 28 - level_of a ≡ suc (28 - (level_of a + 1)) = omega arith in
+    let p : 2 ^ (28 - level_of a) ≡ 2 * w = ap (λ k. 2 ^ k) e ∙ pow-succ' 2 (28 - (level_of a + 1)) in
+    let l : 2 ^ (28 - level_of (2 * a)) ≡ w = ap (λ k. 2 ^ (28 - k)) (level_of-left a low) in
+    let r : 2 ^ (28 - level_of (2 * a + 1)) ≡ w = ap (λ k. 2 ^ (28 - k)) (level_of-right a low) in
+    let positive : 0 < w = pow_pos (28 - (level_of a + 1)) in
     let e1 = twice a w in
     let e2 = more (2 * a) w in
     let e3 = more (2 * a + 1) w in
@@ -61,19 +61,19 @@ halved a low coarse =
 -- a triangle begins before its end
 pub first-end : (a : ℕ) → first_of a < end_of a
 first-end a =
-    let positive : 0 < 2 ^ (22 - level_of a) = pow_pos (22 - level_of a) in
-    let e = more a (2 ^ (22 - level_of a)) in omega arith
+    let positive : 0 < 2 ^ (28 - level_of a) = pow_pos (28 - level_of a) in
+    let e = more a (2 ^ (28 - level_of a)) in omega arith
 
--- and ends within 2 ^ 24
-pub end-small : (a : ℕ) → 2 ≤ a → level_of a ≤ 22 → end_of a ≤ 2 ^ 24
+-- and ends within 2 ^ 30
+pub end-small : (a : ℕ) → 2 ≤ a → level_of a ≤ 28 → end_of a ≤ 2 ^ 30
 end-small a low deep =
-    let p : ℕ = 2 ^ (22 - level_of a) in
+    let p : ℕ = 2 ^ (28 - level_of a) in
     let below = lt-pow-level a low in
     let le : a + 1 ≤ 4 * 2 ^ level_of a = omega arith in
     let times : (a + 1) * p ≤ 4 * 2 ^ level_of a * p = mul-le-mul_right p le in
-    let all : 2 ^ 22 ≡ 2 ^ level_of a * p =
-    ap (λ k. 2 ^ k) (let e : 22 ≡ level_of a + (22 - level_of a) = omega arith in e)
-    ∙ pow-add 2 (level_of a) (22 - level_of a) in
+    let all : 2 ^ 28 ≡ 2 ^ level_of a * p =
+    ap (λ k. 2 ^ k) (let e : 28 ≡ level_of a + (28 - level_of a) = omega arith in e)
+    ∙ pow-add 2 (level_of a) (28 - level_of a) in
     let e = mul_assoc 4 (2 ^ level_of a) p in omega arith
 
 -- a number below 2 ^ 32 loses no bits
@@ -81,21 +81,21 @@ whole : (x : ℕ) → x < 4294967296 → x % 4294967296 ≡ x
 whole x small = omega arith
 
 -- as they are computed
-pub shifted_first : (a x l : ℕ) → 2 ≤ a → level_of a ≤ 22 → x ≡ a → l ≡ level_of a →
-    x * 2 ^ (22 - l) % 4294967296 ≡ first_of a
+pub shifted_first : (a x l : ℕ) → 2 ≤ a → level_of a ≤ 28 → x ≡ a → l ≡ level_of a →
+    x * 2 ^ (28 - l) % 4294967296 ≡ first_of a
 shifted_first a x l low deep is level =
     let small = end-small a low deep in
     let before = first-end a in
-    let e : x * 2 ^ (22 - l) ≡ first_of a = ap (λ k. k * 2 ^ (22 - l)) is ∙ ap (λ k. a * 2 ^ (22 - k)) level in
+    let e : x * 2 ^ (28 - l) ≡ first_of a = ap (λ k. k * 2 ^ (28 - l)) is ∙ ap (λ k. a * 2 ^ (28 - k)) level in
     ap (λ k. k % 4294967296) e ∙ whole (first_of a) (omega arith)
 
 -- the same of the end
-pub shifted_end : (a x l : ℕ) → 2 ≤ a → level_of a ≤ 22 → x ≡ a → l ≡ level_of a →
-    (x + 1) * 2 ^ (22 - l) % 4294967296 ≡ end_of a
+pub shifted_end : (a x l : ℕ) → 2 ≤ a → level_of a ≤ 28 → x ≡ a → l ≡ level_of a →
+    (x + 1) * 2 ^ (28 - l) % 4294967296 ≡ end_of a
 shifted_end a x l low deep is level =
     let small = end-small a low deep in
-    let e : (x + 1) * 2 ^ (22 - l) ≡ end_of a =
-    ap (λ k. (k + 1) * 2 ^ (22 - l)) is ∙ ap (λ k. (a + 1) * 2 ^ (22 - k)) level in
+    let e : (x + 1) * 2 ^ (28 - l) ≡ end_of a =
+    ap (λ k. (k + 1) * 2 ^ (28 - l)) is ∙ ap (λ k. (a + 1) * 2 ^ (28 - k)) level in
     ap (λ k. k % 4294967296) e ∙ whole (end_of a) (omega arith)
 
 -- runs

@@ -21,7 +21,7 @@ EndsBefore a b = end_of a < end_of b
 
 -- the place behind all triangles that end before a begins
 abbrev start_of : ℕ → ℕ
-start_of a = a * 2 ^ (22 - level_of a)
+start_of a = a * 2 ^ (28 - level_of a)
 
 -- the triangles stand depth first, and end behind one place and at most at another
 record IsSpan (low high : ℕ) (triangles : List ℕ) : Type 0 where
@@ -58,8 +58,8 @@ IsSpan-append low middle high xs ys first second left right = record {
 -- a triangle ends behind its start
 start-below : (a : ℕ) → start_of a < end_of a
 start-below a =
-    let some = pow_pos (22 - level_of a) in
-    let next : end_of a ≡ start_of a + 1 * 2 ^ (22 - level_of a) = add-mul a 1 (2 ^ (22 - level_of a)) in
+    let some = pow_pos (28 - level_of a) in
+    let next : end_of a ≡ start_of a + 1 * 2 ^ (28 - level_of a) = add-mul a 1 (2 ^ (28 - level_of a)) in
     omega arith
 
 -- one triangle is a span
@@ -80,23 +80,23 @@ record AreHalves (a : ℕ) : Type 0 where
 double : (b unit whole : ℕ) → whole ≡ 2 * unit → (2 * b) * unit ≡ b * whole
 double b unit whole same = mul_assoc 2 b unit ∙ mul_left_comm 2 b unit ∙ ap (λ k. b * k) (sym same)
 
-AreHalves-of : (a : ℕ) → 2 ≤ a → level_of a < 22 → AreHalves a
+AreHalves-of : (a : ℕ) → 2 ≤ a → level_of a < 28 → AreHalves a
 AreHalves-of a low coarse =
     let left = level_of-left a low in
     let right = level_of-right a low in
-    let unit : ℕ = 2 ^ (22 - (level_of a + 1)) in
-    let deeper : 22 - level_of a ≡ (22 - (level_of a + 1)) + 1 = omega arith in
-    let whole : 2 ^ (22 - level_of a) ≡ 2 * unit = rw deeper (pow_next (22 - (level_of a + 1))) in
+    let unit : ℕ = 2 ^ (28 - (level_of a + 1)) in
+    let deeper : 28 - level_of a ≡ (28 - (level_of a + 1)) + 1 = omega arith in
+    let whole : 2 ^ (28 - level_of a) ≡ 2 * unit = rw deeper (pow_next (28 - (level_of a + 1))) in
     let next : 2 * a + 1 + 1 ≡ 2 * (a + 1) = omega arith in
     record {
-      first_start = ap (λ l. 2 * a * 2 ^ (22 - l)) left ∙ double a unit (2 ^ (22 - level_of a)) whole;
-      middle = ap (λ l. (2 * a + 1) * 2 ^ (22 - l)) (right ∙ sym left);
-      last_end = ap (λ l. (2 * a + 1 + 1) * 2 ^ (22 - l)) right ∙ ap (λ k. k * unit) next
-          ∙ double (a + 1) unit (2 ^ (22 - level_of a)) whole;
+      first_start = ap (λ l. 2 * a * 2 ^ (28 - l)) left ∙ double a unit (2 ^ (28 - level_of a)) whole;
+      middle = ap (λ l. (2 * a + 1) * 2 ^ (28 - l)) (right ∙ sym left);
+      last_end = ap (λ l. (2 * a + 1 + 1) * 2 ^ (28 - l)) right ∙ ap (λ k. k * unit) next
+          ∙ double (a + 1) unit (2 ^ (28 - level_of a)) whole;
     }
 
 -- both halves, one behind the other
-IsSpan-both : (a : ℕ) (left right : List ℕ) → 2 ≤ a → level_of a < 22 → IsSpan (start_of (2 * a)) (end_of (2 * a)) left
+IsSpan-both : (a : ℕ) (left right : List ℕ) → 2 ≤ a → level_of a < 28 → IsSpan (start_of (2 * a)) (end_of (2 * a)) left
     → IsSpan (start_of (2 * a + 1)) (end_of (2 * a + 1)) right → IsSpan (start_of a) (end_of a) (left ++ right)
 IsSpan-both a left right low coarse first second =
     let halves = AreHalves-of a low coarse in
@@ -117,7 +117,7 @@ span_step : (b : Bool) (a : ℕ) (left right : List ℕ) → (b ≡ true → IsS
 span_step true a left right both = both refl
 span_step false a left right both = IsSpan-one a
 
-IsSpan-leaves_under : (n : ℕ) (has : ℕ → Bool) → n ≤ 11 → (levels a : ℕ) → IsDown n levels a →
+IsSpan-leaves_under : (n : ℕ) (has : ℕ → Bool) → n ≤ 14 → (levels a : ℕ) → IsDown n levels a →
     IsSpan (start_of a) (end_of a) (leaves_under levels has a)
 IsSpan-leaves_under n has high zero a d = IsSpan-one a
 IsSpan-leaves_under n has high (suc levels) a d =
@@ -134,10 +134,10 @@ IsDepthFirst-leaves_of n has high =
     let lower = IsSpan-leaves_under n has high (2 * n) 2 (IsDown-2 n) in
     let upper = IsSpan-leaves_under n has high (2 * n) 3 (IsDown-3 n) in
     let same : start_of 3 ≡ end_of 2 =
-    ap (λ l. 3 * 2 ^ (22 - l)) (level_of-root 3 (lit≤ tt) (lit< tt) ∙ sym (level_of-root 2 (lit≤ tt) (lit< tt))) in
+    ap (λ l. 3 * 2 ^ (28 - l)) (level_of-root 3 (lit≤ tt) (lit< tt) ∙ sym (level_of-root 2 (lit≤ tt) (lit< tt))) in
     let behind : IsSpan (end_of 2) (end_of 3) (leaves_under (2 * n) has 3) =
     subst (λ k. IsSpan k (end_of 3) (leaves_under (2 * n) has 3)) same upper in
-    let powers = pow_mono {i = 2 * n + 2} {j = 24} (omega arith) in
+    let powers = pow_mono {i = 2 * n + 2} {j = 30} (omega arith) in
     record {
       addresses = All-weaker (IsAddress n) IsTriangle (λ a is. record { low = is.low; high = omega arith })
           (leaves_of n has) (IsAddress-leaves_of n has);
@@ -146,22 +146,22 @@ IsDepthFirst-leaves_of n has high =
     }
 
 -- the end of a triangle is at most that of the square
-end_of-small : (a : ℕ) → IsTriangle a → end_of a ≤ 16777216
+end_of-small : (a : ℕ) → IsTriangle a → end_of a ≤ 1073741824
 end_of-small a is =
     let low : 2 ≤ a = is.low in
-    let level : level_of a < 23 = (level_of-below a 23 low).1 is.high in
+    let level : level_of a < 29 = (level_of-below a 29 low).1 is.high in
     let below : a + 1 ≤ 4 * 2 ^ level_of a = omega (arith, lt-pow-level a low) in
-    let unit : ℕ = 2 ^ (22 - level_of a) in
-    let deepest : level_of a + (22 - level_of a) ≡ 22 = omega arith in
-    let whole : 4 * 2 ^ level_of a * unit ≡ 16777216 =
+    let unit : ℕ = 2 ^ (28 - level_of a) in
+    let deepest : level_of a + (28 - level_of a) ≡ 28 = omega arith in
+    let whole : 4 * 2 ^ level_of a * unit ≡ 1073741824 =
     mul_assoc 4 (2 ^ level_of a) unit
-    ∙ ap (λ k. 4 * k) (sym (pow-add 2 (level_of a) (22 - level_of a)) ∙ ap (λ k. 2 ^ k) deepest) in
+    ∙ ap (λ k. 4 * k) (sym (pow-add 2 (level_of a) (28 - level_of a)) ∙ ap (λ k. 2 ^ k) deepest) in
     let product : (a + 1) * unit ≤ 4 * 2 ^ level_of a * unit =
     mul-le (a + 1) unit (4 * 2 ^ level_of a) unit below (omega arith) in
     omega arith
 
 -- so it is a number of 32 bits
-pub end_of-read : (a level : ℕ) → level ≡ level_of a → IsTriangle a → (a + 1) * 2 ^ (22 - level) % 4294967296 ≡ end_of a
+pub end_of-read : (a level : ℕ) → level ≡ level_of a → IsTriangle a → (a + 1) * 2 ^ (28 - level) % 4294967296 ≡ end_of a
 end_of-read a level same is =
-    let small : end_of a ≤ 16777216 = end_of-small a is in
-    ap (λ l. (a + 1) * 2 ^ (22 - l) % 4294967296) same ∙ mod-eq_of_lt {m = 4294967296} (omega arith)
+    let small : end_of a ≤ 1073741824 = end_of-small a is in
+    ap (λ l. (a + 1) * 2 ^ (28 - l) % 4294967296) same ∙ mod-eq_of_lt {m = 4294967296} (omega arith)

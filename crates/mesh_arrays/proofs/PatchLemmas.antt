@@ -29,7 +29,7 @@ pub record IsRead (t : ℕ) (own more rest : List ℕ) : Type 0 where
   pub dropped : drop (run_length t rest) rest ≡ more
 
 -- where what follows does not begin before the end of t, the run of t is just the old leaves at and below t
-pub read_own : (levels : ℕ) (before : ℕ → Bool) (t : ℕ) (more rest : List ℕ) → 2 ≤ t → level_of t + levels ≤ 22 →
+pub read_own : (levels : ℕ) (before : ℕ → Bool) (t : ℕ) (more rest : List ℕ) → 2 ≤ t → level_of t + levels ≤ 28 →
     rest ≡ leaves_under levels before t ++ more → run_length t more ≡ 0 →
     IsRead t (leaves_under levels before t) more rest
 read_own levels before t more rest low deep listed apart =
@@ -70,7 +70,7 @@ begins_split (suc levels) before t more rest listed begins = ⊎_elim
     (cases_Bool (before t))
 
 module _ (pairs : List ℕ) (touched : List Bool) (levels t : ℕ) (w : WalkState) (low : 2 ≤ t)
-    (deep : level_of t + levels ≤ 22)
+    (deep : level_of t + levels ≤ 28)
     (ready : IsReady pairs touched levels t w.rest) where
   abbrev own : List ℕ
   own = leaves_under levels ready.before t
@@ -271,7 +271,7 @@ module _ (pairs : List ℕ) (touched : List Bool) (levels t : ℕ) (w : WalkStat
 
 -- the whole
 
-module _ (n : ℕ) (pairs : List ℕ) (levels : ℕ) (w : WalkState) (few : n ≤ 11) (all : levels ≡ 2 * n)
+module _ (n : ℕ) (pairs : List ℕ) (levels : ℕ) (w : WalkState) (few : n ≤ 14) (all : levels ≡ 2 * n)
     (begun : IsWalkBegun n pairs w) where
   abbrev was : ℕ → List ℕ
   was a = leaves_under levels begun.before a

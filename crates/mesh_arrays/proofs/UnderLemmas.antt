@@ -46,7 +46,7 @@ lies-self : (a b : ℕ) → a ≡ b → Lies a b
 lies-self a b same = subst (Lies a) same (let e = first-end a in (omega arith, e))
 
 -- each leaf at or below a begins where a begins, or behind, and before the end of a
-pub leaves-within : (levels : ℕ) (has : ℕ → Bool) (a : ℕ) → 2 ≤ a → level_of a + levels ≤ 22 →
+pub leaves-within : (levels : ℕ) (has : ℕ → Bool) (a : ℕ) → 2 ≤ a → level_of a + levels ≤ 28 →
     (b : ℕ) → IsIn b (leaves_under levels has a) → (first_of a ≤ first_of b) × (first_of b < end_of a)
 leaves-within zero has a low deep b (inl same) = lies-self a b same
 leaves-within zero has a low deep b (inr none) = absurd none
@@ -111,7 +111,7 @@ leaves-same (suc levels) one two a low same = ⊎_elim
     (cases_Bool (two a))
 
 -- none lies below the left and below the right child of a triangle, whatever the sets
-pub leaves-apart : (levels : ℕ) (one two : ℕ → Bool) (a : ℕ) → 2 ≤ a → level_of a + suc levels ≤ 22 →
+pub leaves-apart : (levels : ℕ) (one two : ℕ → Bool) (a : ℕ) → 2 ≤ a → level_of a + suc levels ≤ 28 →
     (b : ℕ) → IsIn b (leaves_under levels one (2 * a)) → IsIn b (leaves_under levels two (2 * a + 1)) → ⊥
 leaves-apart levels one two a low deep b left right =
     let h : AreHalved a = halved a low (omega arith) in
@@ -124,11 +124,11 @@ leaves-apart levels one two a low deep b left right =
 -- the lower half of the square ends where the upper one begins
 pub halves_meet : end_of 2 ≡ first_of 3
 halves_meet =
-    ap (λ l. 3 * 2 ^ (22 - l)) (level_of-root 2 (omega arith) (omega arith)
+    ap (λ l. 3 * 2 ^ (28 - l)) (level_of-root 2 (omega arith) (omega arith)
     ∙ sym (level_of-root 3 (omega arith) (omega arith)))
 
 -- so none lies in both
-pub halves-apart : (levels : ℕ) (one two : ℕ → Bool) → levels ≤ 22 → (b : ℕ) → IsIn b (leaves_under levels one 2) →
+pub halves-apart : (levels : ℕ) (one two : ℕ → Bool) → levels ≤ 28 → (b : ℕ) → IsIn b (leaves_under levels one 2) →
     IsIn b (leaves_under levels two 3) → ⊥
 halves-apart levels one two deep b lower upper =
     let first = level_of-root 2 (omega arith) (omega arith) in
@@ -138,7 +138,7 @@ halves-apart levels one two deep b lower upper =
     let q = (leaves-within levels two 3 (omega arith) (omega arith) b upper).0 in omega arith
 
 -- what two sets share as leaves stands in one order in both
-pub leaves-shared : (levels : ℕ) (one two : ℕ → Bool) (a : ℕ) → 2 ≤ a → level_of a + levels ≤ 22 →
+pub leaves-shared : (levels : ℕ) (one two : ℕ → Bool) (a : ℕ) → 2 ≤ a → level_of a + levels ≤ 28 →
     shared (leaves_under levels one a) (leaves_under levels two a)
     ≡ shared (leaves_under levels two a) (leaves_under levels one a)
 leaves-shared zero one two a low deep = refl

@@ -8,11 +8,11 @@ use Rattle.mesh_defs.specs.ClosedSet.{among}
 -- the number is the address of a triangle of some grid
 pub record IsTriangle (a : ℕ) : Type 0 where
   pub low : 2 ≤ a
-  pub high : a < 2 ^ 24
+  pub high : a < 2 ^ 30
 
--- the first address of the deepest level, 22, behind those of the triangles at and below a
+-- the first address of the deepest level, 28, behind those of the triangles at and below a
 abbrev pub end_of : ℕ → ℕ
-end_of a = (a + 1) * 2 ^ (22 - level_of a)
+end_of a = (a + 1) * 2 ^ (28 - level_of a)
 
 -- triangles, each of which ends before all that follow it
 pub record IsDepthFirst (triangles : List ℕ) : Type 0 where

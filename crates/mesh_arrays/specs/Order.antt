@@ -1,15 +1,15 @@
 -- The order of triangles, depth first: each stands for the triangles of the deepest level below it, which follow one
 -- another.
 -- This project's own.
--- Words: first_of, run_length, begins_with; end_of is that of mesh_arrays: the first triangle of level 22 behind those
+-- Words: first_of, run_length, begins_with; end_of is that of mesh_arrays: the first triangle of level 28 behind those
 -- at and below a.
 use Rattle.std.specs.Prelude.{ℕ, ◌+◌, ◌-◌, ◌*◌, ◌^◌, Bool, false, nat_lt, nat_eq, cond, List, [], ◌∷◌}
 use Rattle.mesh_defs.specs.Triangle.{level_of}
 pub use Rattle.mesh_arrays.specs.Changes.{end_of}
 
--- the first triangle of level 22 at or below a
+-- the first triangle of level 28 at or below a
 abbrev pub first_of : ℕ → ℕ
-first_of a = a * 2 ^ (22 - level_of a)
+first_of a = a * 2 ^ (28 - level_of a)
 
 -- how many triangles at the beginning of a list begin before the end of t
 abbrev pub run_length : ℕ → List ℕ → ℕ

@@ -88,8 +88,8 @@ fn write_at(out: &mut [u32], at: usize, number: u32)
 fn end_of(a: u32) -> u32
     ensures { IsTriangle a → result ≡ end_of a }
 {
-    match Tri::new(a) {
-        Some(t) => (a + 1) << (22 - t.level()),
+    match Tri::at(a) {
+        Some(t) => (a + 1) << (28 - t.level()),
         None => 0,
     }
 }

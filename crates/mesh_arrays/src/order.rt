@@ -6,7 +6,7 @@ ghost use Rattle.mesh_arrays.specs.Order.{first_of, end_of};
 use bintree_addr::Tri;
 
 /// The level below which no grid has triangles.
-const DEEPEST: u32 = 22;
+const DEEPEST: u32 = 28;
 
 /// Where a triangle begins among those of the deepest level, depth first.
 pub(crate) fn first(t: Tri) -> u32

@@ -21,7 +21,7 @@ place_of n x y = (2 ^ n - y) * side_of n + x
 abbrev pub height_at : ℕ → List ℕ → ℕ → ℕ → ℕ
 height_at n heights x y = slice_index heights (place_of n x y)
 
--- n is 1 to 11, maxval 1 to 65535, and each point has a height of at most maxval
+-- n is 1 to 14, maxval 1 to 65535, and each point has a height of at most maxval
 pub record IsHeightField (g : HeightField) : Type 0 where
   pub n_low : 1 ≤ g.n
   pub n_high : g.n ≤ GREATEST_LEVEL

@@ -7,5 +7,5 @@ pub const LONGEST_WAY: u64 = 1 << 62;
 /// The count of a pool's splits is below this where one more is made, and so is that of its merges.
 pub const MOST_CHANGES: u64 = 1 << 62;
 
-/// The counts of splits, merges and evaluations are below this where a frame begins, which adds at most 2^30 to each.
+/// The counts of splits, merges and evaluations are below this where a frame begins, which adds at most 2^35 to each.
 pub const CHANGES_AT_FRAME: u64 = 1 << 61;

@@ -3,7 +3,7 @@
 ghost use Rattle.std.specs.Prelude.{ℕ, ◌≡◌, ◌≤◌, ◌↔◌, ◌^◌};
 ghost use Rattle.mesh_defs.specs.BoundingBox.{root_of, IsRoot};
 ghost use Rattle.mesh_defs.specs.Priority.{above};
-ghost use Rattle.mesh_defs.specs.declared.level.TheConstants.{GREATEST_LEVEL};
+ghost use Rattle.mesh_defs.specs.declared.level.TheConstants.{GREATEST_LEVEL, GREATEST_FILE_LEVEL};
 ghost use Rattle.mesh_defs.specs.declared.limits.TheConstants.{LEAST_TRIANGLES, MOST_TRIANGLES, GREATEST_HEIGHT};
 ghost use Rattle.mesh_defs.specs.declared.limits.TheConstants.{GREATEST_ERROR, MOST_PLANES, GREATEST_SLOPE};
 ghost use Rattle.mesh_defs.specs.declared.limits.TheConstants.{GREATEST_OFFSET, CAMERA_REACH, GREATEST_NUMBER};
@@ -24,7 +24,8 @@ pub fn threshold_laws()
 
 /// What each limit is, as a number. It does nothing.
 pub fn limit_laws()
-    ensures greatest_level { GREATEST_LEVEL ≡ 11 }
+    ensures greatest_level { GREATEST_LEVEL ≡ 14 }
+    ensures greatest_file_level { GREATEST_FILE_LEVEL ≡ 11 }
     ensures least_triangles { LEAST_TRIANGLES ≡ 2 }
     ensures most_triangles { MOST_TRIANGLES ≡ 2 ^ 20 }
     ensures greatest_height { GREATEST_HEIGHT ≡ 65535 }

@@ -18,7 +18,7 @@ mod point;
 pub use counters::{CHANGES_AT_FRAME, LONGEST_WAY, MOST_CHANGES};
 pub use failures::{Failed, NoMemory};
 pub use laws::{limit_laws, roots, threshold_laws};
-pub use level::GREATEST_LEVEL;
+pub use level::{GREATEST_FILE_LEVEL, GREATEST_LEVEL};
 pub use limits::{
     CAMERA_REACH, GREATEST_ERROR, GREATEST_HEIGHT, GREATEST_NUMBER, GREATEST_OFFSET,
     GREATEST_SLOPE, LEAST_TRIANGLES, MOST_PLANES, MOST_TRIANGLES,

@@ -15,13 +15,13 @@ pub const GREATEST_ERROR: u32 = 65_535_999;
 /// The most view planes in force at once: the sides of a frustum.
 pub const MOST_PLANES: u32 = 6;
 
-/// The greatest size of a slope of a plane. With cuboids that reach 2^21 and the greatest offset no sum comes near 2^63.
+/// The greatest size of a slope of a plane. With cuboids that reach 2^24 and the greatest offset no sum comes near 2^63.
 pub const GREATEST_SLOPE: u64 = 1 << 20;
 
 /// The greatest size of a plane's offset.
 pub const GREATEST_OFFSET: u64 = 1 << 50;
 
-/// The greatest size of a camera's coordinate. The squares of three gaps to a box within 2^21 then sum to less than
+/// The greatest size of a camera's coordinate. The squares of three gaps to a box within 2^24 then sum to less than
 /// 2^62.
 pub const CAMERA_REACH: u64 = 1 << 30;
 

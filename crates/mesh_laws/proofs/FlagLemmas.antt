@@ -57,6 +57,6 @@ end-low n low =
     let least : 2 ^ 1 ≤ 2 ^ (2 * n + 1) = pow_mono some in
     omega arith
 
--- and fewer than 2 ^ 23
-pub end-high : (n : ℕ) → n ≤ 11 → 2 ^ (2 * n + 1) ≤ 2 ^ 23
-end-high n high = let few : 2 * n + 1 ≤ 23 = omega arith in pow_mono few
+-- and fewer than 2 ^ 29
+pub end-high : (n : ℕ) → n ≤ 14 → 2 ^ (2 * n + 1) ≤ 2 ^ 29
+end-high n high = let few : 2 * n + 1 ≤ 29 = omega arith in pow_mono few

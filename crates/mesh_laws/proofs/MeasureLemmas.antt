@@ -18,7 +18,7 @@ chosen_of n budget priority =
 -- first the chosen triangles that are missing, and then the members
 pub steps_left : ℕ → ℕ → (ℕ → ℕ) → List ℕ → ℕ
 steps_left n budget priority members =
-    missing (take (chosen_of n budget priority) (ranking_of n priority)) members * (2 ^ 24 + 1) + length members
+    missing (take (chosen_of n budget priority) (ranking_of n priority)) members * (2 ^ 30 + 1) + length members
 
 -- their closure
 closure_of_chosen : (n budget : ℕ) (priority : ℕ → ℕ) → 2 ≤ budget →
@@ -58,7 +58,7 @@ module _ (n budget : ℕ) (priority : ℕ → ℕ) (falling : IsFalling n priori
   -- the counts of a run fit 32 bits
   pub run_small : (start last : List ℕ) (added removed : ℕ) → IsGridSet n start →
       StepRun n budget priority start last added removed →
-      (added ≤ 2 ^ 25) × (removed ≤ 2 ^ 24)
+      (added ≤ 2 ^ 31) × (removed ≤ 2 ^ 30)
   run_small start last added removed set run =
       let c = closure_of_chosen n budget priority low in
       let few = run_removed n budget priority (ranking_of n priority) (chosen_of n budget priority) c.0

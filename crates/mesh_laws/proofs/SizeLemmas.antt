@@ -30,20 +30,20 @@ length-within k m (x ∷ xs) o within =
     (λ a h. (All-contains (λ y. x < y) xs a o.0 (Contains-in a xs h), (within a (inr h)).1)) in
     omega arith
 
--- each member is less than 2 ^ 24
-pub length-members : (n : ℕ) (members : List ℕ) → IsGridSet n members → length members ≤ 2 ^ 24
+-- each member is less than 2 ^ 30
+pub length-members : (n : ℕ) (members : List ℕ) → IsGridSet n members → length members ≤ 2 ^ 30
 length-members n members g =
     let small = g.n_high in
-    let most : 2 ^ (2 * n) ≤ 2 ^ 22 = pow_mono (let h : 2 * n ≤ 22 = omega arith in h) in
-    let all : length members ≤ 2 ^ 24 - 0 = length-within 0 (2 ^ 24) members g.ascending
+    let most : 2 ^ (2 * n) ≤ 2 ^ 28 = pow_mono (let h : 2 * n ≤ 28 = omega arith in h) in
+    let all : length members ≤ 2 ^ 30 - 0 = length-within 0 (2 ^ 30) members g.ascending
     (λ a h.
     (omega arith, (let b = splittable-below n a (g.closed.splittable a (among-in a members h)) in omega arith))) in
     omega arith
 
 -- and so after a forced split
-pub length-grown : (n : ℕ) (wanted : ℕ → Bool) (after : List ℕ) → 1 ≤ n → n ≤ 11 → IsAscending after →
+pub length-grown : (n : ℕ) (wanted : ℕ → Bool) (after : List ℕ) → 1 ≤ n → n ≤ 14 → IsAscending after →
     IsLeastClosed n wanted (among after) →
-    length after ≤ 2 ^ 24
+    length after ≤ 2 ^ 30
 length-grown n wanted after low high o least =
     length-members n after record { n_low = low; n_high = high; ascending = o; closed = least.closed }
 

@@ -73,7 +73,7 @@ pub fn chain_laws()
         level_of a < 2 * n → (1 ≤ mate_of a → IsLeafOf has (mate_of a)) → IsGrown has after a →
         IsLeastClosed n (with_triangle has a) after }
 
-    // For a leaf below the finest level of the largest grid, at most 22 links.
+    // For a leaf below the finest level of the largest grid, at most 28 links.
     ensures short { (n : ℕ) (has : ℕ → Bool) (a : ℕ) (rest : List ℕ) → IsClosed n has →
         IsForcedChain has (a ∷ rest) → length rest ≤ level_of a }
 {}

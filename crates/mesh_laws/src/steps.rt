@@ -19,7 +19,7 @@ ghost use Rattle.mesh_laws.specs.Keys.{upper_key, lower_key, IsLastKey};
 ghost use Rattle.mesh_laws.specs.Stamps.{Stamp, Readings, HasStamps, StampsHold, ReadingsHold};
 
 /// No set of a grid has more members; so the counts of a run have room in 32 bits.
-pub const MOST_MEMBERS: u32 = 1 << 24;
+pub const MOST_MEMBERS: u32 = 1 << 30;
 
 /// Each step from a closed set: there is one or the frame is finished, and it respects the chosen triangles.
 ///

@@ -28,15 +28,15 @@ product i j k l le more =
     omega arith
 
 -- a point of the grid lies in the largest square
-pub IsInSquare-largest : (n x y : ℕ) → n ≤ 11 → x ≤ 2 ^ n → y ≤ 2 ^ n → IsInSquare (2 ^ 11) (point x y)
+pub IsInSquare-largest : (n x y : ℕ) → n ≤ 14 → x ≤ 2 ^ n → y ≤ 2 ^ n → IsInSquare (2 ^ 14) (point x y)
 IsInSquare-largest n x y small fits fits_y =
-    let le : 2 ^ n ≤ 2 ^ 11 = pow_mono small in
+    let le : 2 ^ n ≤ 2 ^ 14 = pow_mono small in
     record { x = omega arith; y = omega arith }
 
 -- a side times weighted heights is small, and so is a part of it
-pub product-small : (m sum area : ℕ) → m ≤ 2048 → sum ≤ 3298534883328 → (m * sum < 2 ^ 53) × (m * sum / area < 2 ^ 53)
+pub product-small : (m sum area : ℕ) → m ≤ 16384 → sum ≤ 211106232532992 → (m * sum < 2 ^ 62) × (m * sum / area < 2 ^ 62)
 product-small m sum area side small =
-    let le : m * sum ≤ 2048 * 3298534883328 = product m sum 2048 3298534883328 side small in
+    let le : m * sum ≤ 16384 * 211106232532992 = product m sum 16384 211106232532992 side small in
     let part : m * sum / area ≤ m * sum = div-le_self (m * sum) area in
     (omega arith, omega arith)
 

@@ -81,19 +81,19 @@ line-shifted c f y x line from lined high low rise fall k inside =
     omega arith
 
 -- a sum some rows and columns on is small
-pub sums-small : (start y up x slope : ℕ) → start ≤ 824633720832 → y ≤ 2048 → up ≤ 402653184 → x ≤ 2049 →
-    slope ≤ 402653184 →
-    start + y * up + x * slope ≤ 4398046511104
+pub sums-small : (start y up x slope : ℕ) → start ≤ 52776558133248 → y ≤ 16384 → up ≤ 3221225472 → x ≤ 16385 →
+    slope ≤ 3221225472 →
+    start + y * up + x * slope ≤ 281474976710656
 sums-small start y up x slope small low steep few flat =
-    let first : y * up ≤ 2048 * 402653184 = product y up 2048 402653184 low steep in
-    let second : x * slope ≤ 2049 * 402653184 = product x slope 2049 402653184 few flat in
+    let first : y * up ≤ 16384 * 3221225472 = product y up 16384 3221225472 low steep in
+    let second : x * slope ≤ 16385 * 3221225472 = product x slope 16385 3221225472 few flat in
     omega arith
 
 -- so is it after some more columns
-pub sums-small-on : (start y up x slope next k rise : ℕ) → start ≤ 824633720832 → y ≤ 2048 → up ≤ 402653184 →
-    x + k ≤ 2049 → slope ≤ 402653184 →
+pub sums-small-on : (start y up x slope next k rise : ℕ) → start ≤ 52776558133248 → y ≤ 16384 → up ≤ 3221225472 →
+    x + k ≤ 16385 → slope ≤ 3221225472 →
     next ≡ start + y * up + x * slope →
-    rise ≡ slope → next + k * rise ≤ 4398046511104
+    rise ≡ slope → next + k * rise ≤ 281474976710656
 sums-small-on start y up x slope next k rise small low steep few flat is same =
     let all = sums-small start y up (x + k) slope small low steep few flat in
     let more : k * rise ≡ k * slope = ap (λ z. k * z) same in omega arith

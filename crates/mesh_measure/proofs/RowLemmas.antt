@@ -26,13 +26,13 @@ height-le heights top k bounded = ⊎_elim {C = get_or heights k 0 ≤ top}
     (λ lt. bounded k 0 lt) (λ ge. omega (arith, get_or_past heights k 0 ge)) (cases_lt k (length heights))
 
 -- so the plane is small at a held point
-pub plane-small : (n : ℕ) (heights : List ℕ) (a top : ℕ) (r : Point) → IsAddress n a → n ≤ 11 → top ≤ 65535 →
+pub plane-small : (n : ℕ) (heights : List ℕ) (a top : ℕ) (r : Point) → IsAddress n a → n ≤ 14 → top ≤ 65535 →
     All (λ h. h ≤ top) heights → holds_point n a r ≡ true → plane_height n heights a r < 2 ^ 32
 plane-small n heights a top r address few low bounded held =
     let off : off_plane n heights a r ≤ 2 ^ n * top = off_plane-most n heights top a r address bounded held in
     let surface : height_of n heights r ≤ top = height-le heights top (place_of n r.x r.y) bounded in
-    let side : 2 ^ n ≤ 2 ^ 11 = pow_mono few in
-    let one : 2 ^ n * top ≤ 2048 * 65535 = product (2 ^ n) top 2048 65535 side low in
+    let side : 2 ^ n ≤ 2 ^ 14 = pow_mono few in
+    let one : 2 ^ n * top ≤ 16384 * 65535 = product (2 ^ n) top 16384 65535 side low in
     let two : 2 ^ n * height_of n heights r ≤ 2 ^ n * top = mul-le-mul_left (2 ^ n) surface in
     omega arith
 

@@ -26,12 +26,12 @@ pub record AreAcross (c : Corners) (r : Point) (s : Areas) : Type 0 where
 
 -- no sum is greater than at a point of the largest grid
 pub record AreSmall (s : Areas) : Type 0 where
-  pub apex_high : s.apex.high ≤ 12582912
-  pub apex_low : s.apex.low ≤ 12582912
-  pub v0_high : s.v0.high ≤ 12582912
-  pub v0_low : s.v0.low ≤ 12582912
-  pub v1_high : s.v1.high ≤ 12582912
-  pub v1_low : s.v1.low ≤ 12582912
+  pub apex_high : s.apex.high ≤ 805306368
+  pub apex_low : s.apex.low ≤ 805306368
+  pub v0_high : s.v0.high ≤ 805306368
+  pub v0_low : s.v0.low ≤ 805306368
+  pub v1_high : s.v1.high ≤ 805306368
+  pub v1_low : s.v1.low ≤ 805306368
 
 -- three numbers, each as often as the area across from its corner
 abbrev pub sum_of_weighted : Areas → ℕ → ℕ → ℕ → ℕ

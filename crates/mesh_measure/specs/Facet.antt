@@ -21,9 +21,9 @@ pub record IsFacet (n : ℕ) (heights : List ℕ) (facet : Facet) : Type 0 where
   pub v0 : facet.v0 ≡ height_of n heights facet.corners.v0
   pub v1 : facet.v1 ≡ height_of n heights facet.corners.v1
   pub area : facet.area ≡ area_of facet.corners
-  pub small : facet.area ≤ 12582912
+  pub small : facet.area ≤ 805306368
   pub power : facet.area ≡ 2 ^ facet.log_area
-  pub few : facet.log_area ≤ 22
+  pub few : facet.log_area ≤ 28
 
 -- the least and greatest coordinates of the corners
 pub record AreBounds (c : Corners) (bounds : Bounds) : Type 0 where

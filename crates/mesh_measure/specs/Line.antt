@@ -28,12 +28,12 @@ low_on line k = line.low + k * line.fall
 
 -- no sum of the plane is greater than in the largest grid
 pub record IsSmall (plane : Plane) : Type 0 where
-  pub high : plane.high ≤ 824633720832
-  pub low : plane.low ≤ 824633720832
-  pub rise : plane.rise ≤ 402653184
-  pub fall : plane.fall ≤ 402653184
-  pub up : plane.up ≤ 402653184
-  pub down : plane.down ≤ 402653184
+  pub high : plane.high ≤ 52776558133248
+  pub low : plane.low ≤ 52776558133248
+  pub rise : plane.rise ≤ 3221225472
+  pub fall : plane.fall ≤ 3221225472
+  pub up : plane.up ≤ 3221225472
+  pub down : plane.down ≤ 3221225472
 
 -- the heights of the facet are the values of f at its corners
 pub record AreHeights (f : Point → ℕ) (facet : Facet) : Type 0 where

@@ -14,5 +14,5 @@ pub record IsHeldRow (c : Corners) (f : Point → ℕ) (y left right : ℕ) (row
   pub within : row.columns.end ≤ right + 1
   pub held : (x : ℕ) → IsColumn row.columns x ↔ (((left ≤ x) × (x < right + 1)) × (is_in_closed c (point x y) ≡ true))
   pub lined : IsLineFrom c f y row.columns.from row.line
-  pub high : high_on row.line (row.columns.end - row.columns.from) ≤ 4398046511104
-  pub low : low_on row.line (row.columns.end - row.columns.from) ≤ 4398046511104
+  pub high : high_on row.line (row.columns.end - row.columns.from) ≤ 281474976710656
+  pub low : low_on row.line (row.columns.end - row.columns.from) ≤ 281474976710656

@@ -31,8 +31,8 @@ impl Across {
         requires p_in_grid { IsInSquare (2 ^ GREATEST_LEVEL) p }
         requires q_in_grid { IsInSquare (2 ^ GREATEST_LEVEL) q }
         ensures value { AreSumsAcross r p q result }
-        ensures high { result.high ≤ 12582912 }
-        ensures low { result.low ≤ 12582912 }
+        ensures high { result.high ≤ 805306368 }
+        ensures low { result.low ≤ 805306368 }
     {
         Across {
             high: p.x * q.y + q.x * r.y + r.x * p.y,

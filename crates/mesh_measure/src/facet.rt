@@ -9,7 +9,7 @@ ghost use Rattle.mesh_measure.specs.Areas.{AreSmall, sum_of_weighted};
 ghost use Rattle.mesh_measure.specs.Facet.{IsFacet, AreBounds};
 
 use crate::areas::{Across, Areas};
-use crate::shape::{Bounds, Facet};
+use crate::shape::{BoundedFacet, Bounds, Facet};
 use bintree_addr::{Corners, Point, Tri};
 use pgm_grid::Grid;
 use wedgie_tree::Wedges;
@@ -52,11 +52,27 @@ pub(crate) fn facet_at(grid: &Grid, t: Tri, corners: Corners) -> Facet
     }
 }
 
+/// The same with the rectangle around it.
+#[inline(always)]
+pub(crate) fn bounded_at(grid: &Grid, t: Tri, corners: Corners) -> BoundedFacet
+    requires level { level_of t ≤ 2 * grid.now.n }
+    requires corners { corners ≡ corners_of grid.now.n t }
+    ensures valid { IsFacet grid.now.n grid.now.heights result.facet }
+    ensures corners { result.facet.corners ≡ corners_of grid.now.n t }
+    ensures bounds { AreBounds result.facet.corners result.bounds }
+    ensures right_in_grid { result.bounds.right ≤ 2 ^ grid.now.n }
+    ensures high_in_grid { result.bounds.high ≤ 2 ^ grid.now.n }
+{
+    let facet = facet_at(grid, t, corners);
+    let bounds = bounds_of(facet.corners);
+    BoundedFacet { facet, bounds }
+}
+
 /// The heights at the corners, each as often as twice the area across from it.
 pub(crate) fn weighted(facet: Facet, areas: Areas) -> u64
     requires small { AreSmall areas }
     ensures value { result ≡ sum_of_weighted areas facet.apex facet.v0 facet.v1 }
-    ensures small { result ≤ 3298534883328 }
+    ensures small { result ≤ 211106232532992 }
 {
     u64::from(areas.apex.area()) * u64::from(facet.apex)
         + u64::from(areas.v0.area()) * u64::from(facet.v0)
@@ -94,7 +110,7 @@ fn greatest_of(i: u32, j: u32, k: u32) -> u32
 pub(crate) fn side(n: u32) -> u64
     requires { n ≤ GREATEST_LEVEL }
     ensures value { result ≡ 2 ^ n }
-    ensures small { result ≤ 2048 }
+    ensures small { result ≤ 16384 }
 {
     1 << n
 }

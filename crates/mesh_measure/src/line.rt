@@ -41,10 +41,10 @@ pub(crate) fn plane_of(facet: Facet) -> Plane
     Plane {
         high: weigh(facet, p.x * q.y, q.x * a.y, a.x * p.y),
         low: weigh(facet, p.y * q.x, q.y * a.x, a.y * p.x),
-        rise: weigh(facet, p.y, q.y, a.y),
-        fall: weigh(facet, q.y, a.y, p.y),
-        up: weigh(facet, q.x, a.x, p.x),
-        down: weigh(facet, p.x, q.x, a.x),
+        rise: weigh_coordinates(facet, p.y, q.y, a.y),
+        fall: weigh_coordinates(facet, q.y, a.y, p.y),
+        up: weigh_coordinates(facet, q.x, a.x, p.x),
+        down: weigh_coordinates(facet, p.x, q.x, a.x),
     }
 }
 
@@ -52,8 +52,8 @@ pub(crate) fn plane_of(facet: Facet) -> Plane
 #[inline(always)]
 pub(crate) fn line_in(plane: Plane, x: u32, y: u32) -> Line
     requires small { IsSmall plane }
-    requires x_in_grid { x ≤ 2049 }
-    requires y_in_grid { y ≤ 2048 }
+    requires x_in_grid { x ≤ 16385 }
+    requires y_in_grid { y ≤ 16384 }
     ensures high { result.high ≡ high_on (line_at plane y) x }
     ensures low { result.low ≡ low_on (line_at plane y) x }
     ensures rise { result.rise ≡ plane.rise }
@@ -69,13 +69,25 @@ pub(crate) fn line_in(plane: Plane, x: u32, y: u32) -> Line
 
 /// The heights at the corners, each as often as it says here.
 #[inline(always)]
-pub(crate) fn weigh(facet: Facet, apex: u32, v0: u32, v1: u32) -> u64
+fn weigh(facet: Facet, apex: u32, v0: u32, v1: u32) -> u64
     ensures value { result ≡ apex * facet.apex + v0 * facet.v0 + v1 * facet.v1 }
     ensures small { (most : ℕ) → apex ≤ most → v0 ≤ most → v1 ≤ most → result ≤ 196608 * most }
 {
     u64::from(apex) * u64::from(facet.apex)
         + u64::from(v0) * u64::from(facet.v0)
         + u64::from(v1) * u64::from(facet.v1)
+}
+
+/// The same, as often as coordinates of grid points.
+#[inline(always)]
+pub(crate) fn weigh_coordinates(facet: Facet, apex: u32, v0: u32, v1: u32) -> u64
+    requires apex_in_grid { apex ≤ 2 ^ GREATEST_LEVEL }
+    requires v0_in_grid { v0 ≤ 2 ^ GREATEST_LEVEL }
+    requires v1_in_grid { v1 ≤ 2 ^ GREATEST_LEVEL }
+    ensures value { result ≡ apex * facet.apex + v0 * facet.v0 + v1 * facet.v1 }
+    ensures small { result ≤ 3221225472 }
+{
+    weigh(facet, apex, v0, v1)
 }
 
 /// How far the heights, times 2^n, are from a plane at most, a column each: the plane rises by a step a column, modulo
@@ -113,10 +125,10 @@ pub(crate) fn greatest_excess(
     line: Line,
 ) -> u64
     requires count { length tolerances.now ≡ length heights.now }
-    requires area { area ≤ 12582912 }
-    requires side { side ≤ 2048 }
-    requires high { high_on line (length heights.now) ≤ 4398046511104 }
-    requires low { low_on line (length heights.now) ≤ 4398046511104 }
+    requires area { area ≤ 805306368 }
+    requires side { side ≤ 16384 }
+    requires high { high_on line (length heights.now) ≤ 281474976710656 }
+    requires low { low_on line (length heights.now) ≤ 281474976710656 }
     ensures { IsGreatestAlong (length heights.now)
         (excess_on area side line heights.now tolerances.now) result }
 {

@@ -11,7 +11,7 @@ ghost use Rattle.mesh_measure.specs.Line.{IsPlaneOf};
 ghost use Rattle.mesh_measure.specs.Most.{gap_beyond, IsMost, IsMostUntil, IsInRow, IsInBounds};
 
 use crate::columns::Columns;
-use crate::facet::{bounds_of, corners_in, facet_at, side};
+use crate::facet::{bounded_at, corners_in, side};
 use crate::line::{Plane, greater, greatest_excess, plane_of};
 use crate::points::{held_row, row_of};
 use crate::shape::{Bounds, Facet};
@@ -110,6 +110,6 @@ pub fn exceeds_own_at(grid: &Grid, t: Tri, corners: Corners, tolerances: &[u32])
         ↔ (0 < greatest (excesses_in grid.now.n grid.now.heights tolerances.now t)) }
 {
     let _address = t.number();
-    let facet = facet_at(grid, t, corners);
-    excess_until(grid, tolerances, facet, bounds_of(facet.corners)) > 0
+    let around = bounded_at(grid, t, corners);
+    excess_until(grid, tolerances, around.facet, around.bounds) > 0
 }

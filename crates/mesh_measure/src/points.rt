@@ -18,7 +18,7 @@ ghost use Rattle.mesh_measure.specs.Slope.{AreSlopesOf};
 use crate::areas::Areas;
 use crate::columns::Columns;
 use crate::edges::held_columns;
-use crate::facet::{bounds_of, corners_in, facet_at, weighted};
+use crate::facet::{bounded_at, corners_in, weighted};
 use crate::line::{Plane, farther, greatest_off, line_in};
 use crate::shape::{Bounds, Facet, HeldRow};
 use crate::slope::{Slopes, height_at, slopes_of};
@@ -33,7 +33,7 @@ pub(crate) fn gap(grid: &Grid, facet: Facet, areas: Areas, x: u32, y: u32) -> u6
     requires areas { AreAcross facet.corners (point x y) areas }
     requires small { AreSmall areas }
     ensures value { result ≡ gap_of facet.corners (height_of grid.now.n grid.now.heights) (point x y) }
-    ensures small { result ≤ 8796093022208 }
+    ensures small { result ≤ 281474976710656 }
 {
     let surface = facet.area * u64::from(grid.height(x, y));
     surface.abs_diff(weighted(facet, areas))
@@ -169,8 +169,8 @@ pub fn off_triangle_at(grid: &Grid, t: Tri, corners: Corners) -> u32
     ensures { result ≡ greatest (offs_in grid.now.n grid.now.heights t) }
 {
     let _address = t.number();
-    let facet = facet_at(grid, t, corners);
-    most_until(grid, facet, t, bounds_of(facet.corners), u32::MAX)
+    let around = bounded_at(grid, t, corners);
+    most_until(grid, around.facet, t, around.bounds, u32::MAX)
 }
 
 /// Whether a triangle's error is above the tolerance, in units of height, times 2^n.
@@ -191,7 +191,7 @@ pub fn exceeds_at(grid: &Grid, t: Tri, corners: Corners, tolerance: u32) -> bool
     ensures { IsTrue result ↔ (tolerance < greatest (offs_in grid.now.n grid.now.heights t)) }
 {
     let _address = t.number();
-    let facet = facet_at(grid, t, corners);
-    off_middle(grid, facet, t) > tolerance
-        || most_until(grid, facet, t, bounds_of(facet.corners), tolerance) > tolerance
+    let around = bounded_at(grid, t, corners);
+    off_middle(grid, around.facet, t) > tolerance
+        || most_until(grid, around.facet, t, around.bounds, tolerance) > tolerance
 }

@@ -24,6 +24,13 @@ pub(crate) struct Bounds {
     pub(crate) high: u32,
 }
 
+/// A triangle as it lies in space, and the rectangle around its corners.
+#[derive(Clone, Copy)]
+pub(crate) struct BoundedFacet {
+    pub(crate) facet: Facet,
+    pub(crate) bounds: Bounds,
+}
+
 /// The columns of a row that a triangle holds, and its plane along them, from the first of them on.
 #[derive(Clone, Copy)]
 pub(crate) struct HeldRow {

@@ -6,7 +6,7 @@ ghost use Rattle.mesh_defs.specs.declared.level.TheConstants.{GREATEST_LEVEL};
 ghost use Rattle.mesh_measure.specs.Facet.{IsFacet};
 ghost use Rattle.mesh_measure.specs.Slope.{height_by, AreSlopesOf};
 
-use crate::line::weigh;
+use crate::line::weigh_coordinates;
 use crate::shape::Facet;
 use bintree_addr::{Point, Tri};
 use pgm_grid::Grid;
@@ -30,11 +30,11 @@ pub(crate) fn slopes_of(grid: &Grid, facet: Facet, t: Tri) -> Slopes
     let _address = t.number();
     let n = grid.n();
     let (a, p, q) = (facet.corners.apex, facet.corners.v0, facet.corners.v1);
-    let rise = weigh(facet, p.y, q.y, a.y);
-    let fall = weigh(facet, q.y, a.y, p.y);
+    let rise = weigh_coordinates(facet, p.y, q.y, a.y);
+    let fall = weigh_coordinates(facet, q.y, a.y, p.y);
     let right = step(rise, fall, n, facet.log_area);
-    let gain = weigh(facet, q.x, a.x, p.x);
-    let loss = weigh(facet, p.x, q.x, a.x);
+    let gain = weigh_coordinates(facet, q.x, a.x, p.x);
+    let loss = weigh_coordinates(facet, p.x, q.x, a.x);
     let up = step(gain, loss, n, facet.log_area);
     Slopes {
         at: start(raised(facet.apex, n), a, right, up),
@@ -47,9 +47,9 @@ pub(crate) fn slopes_of(grid: &Grid, facet: Facet, t: Tri) -> Slopes
 #[inline(always)]
 fn step(more: u64, less: u64, n: u32, log_area: u32) -> u32
     requires in_grid { n ≤ GREATEST_LEVEL }
-    requires area { log_area ≤ 22 }
-    requires more { more ≤ 402653184 }
-    requires less { less ≤ 402653184 }
+    requires area { log_area ≤ 28 }
+    requires more { more ≤ 3221225472 }
+    requires less { less ≤ 3221225472 }
     ensures { (i j : ℕ) → 2 ^ log_area * i + 2 ^ n * less ≡ 2 ^ log_area * j + 2 ^ n * more →
         (result + j) % 2 ^ 32 ≡ i % 2 ^ 32 }
 {
@@ -63,8 +63,8 @@ fn step(more: u64, less: u64, n: u32, log_area: u32) -> u32
 #[inline(always)]
 fn over_area(number: u64, n: u32, log_area: u32) -> u32
     requires in_grid { n ≤ GREATEST_LEVEL }
-    requires area { log_area ≤ 22 }
-    requires small { number ≤ 402653184 }
+    requires area { log_area ≤ 28 }
+    requires small { number ≤ 3221225472 }
     ensures { result ≡ 2 ^ n * number / 2 ^ log_area % 2 ^ 32 }
 {
     (((number << n) >> log_area) % 4_294_967_296) as u32

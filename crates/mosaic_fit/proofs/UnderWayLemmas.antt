@@ -496,16 +496,16 @@ module _ (r q : RoundsState) (columns : q.columns ≡ r.columns) (rows : q.rows 
       (terrain_error q.columns q.rows k p heights) meshes) n h))
 
 -- a loop ends long before its count does
-pub few-steps : (columns rows n : ℕ) → columns ≤ 65536 → rows ≤ 65536 → n ≤ 11 →
+pub few-steps : (columns rows n : ℕ) → columns ≤ 65536 → rows ≤ 65536 → n ≤ 14 →
     2 * 4 ^ n * (columns * rows) < 18446744073709551615
 few-steps columns rows n wide high deep =
     let square : 4 ^ n ≡ 2 ^ n * 2 ^ n = mul-pow 2 2 n in
-    let side : 2 ^ n ≤ 2 ^ 11 = pow_mono deep in
-    let points : 2 ^ n * 2 ^ n ≤ 2 ^ 11 * 2 ^ 11 = mul-le (2 ^ n) (2 ^ n) (2 ^ 11) (2 ^ 11) side side in
+    let side : 2 ^ n ≤ 2 ^ 14 = pow_mono deep in
+    let points : 2 ^ n * 2 ^ n ≤ 2 ^ 14 * 2 ^ 14 = mul-le (2 ^ n) (2 ^ n) (2 ^ 14) (2 ^ 14) side side in
     let tiles : columns * rows ≤ 65536 * 65536 = mul-le columns rows 65536 65536 wide high in
-    let most : 2 * 4 ^ n ≤ 8388608 = omega arith in
-    let all : 2 * 4 ^ n * (columns * rows) ≤ 8388608 * 4294967296 =
-    mul-le (2 * 4 ^ n) (columns * rows) 8388608 4294967296 most (omega arith) in omega arith
+    let most : 2 * 4 ^ n ≤ 536870912 = omega arith in
+    let all : 2 * 4 ^ n * (columns * rows) ≤ 536870912 * 4294967296 =
+    mul-le (2 * 4 ^ n) (columns * rows) 536870912 4294967296 most (omega arith) in omega arith
 
 -- what holds of all entries of a list holds of each
 pub entry-of : (P : ℕ → Type 0) (list : List ℕ) → All P list → (a : ℕ) → IsTrue (among list a) → P a

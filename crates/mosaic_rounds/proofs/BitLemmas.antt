@@ -49,5 +49,5 @@ has-set words i j room = ⊎_elim
     (cases_eq (j / 64) (i / 64))
 
 -- how many bits a tile has, as the code finds it
-pub tile-bits : (n : ℕ) → n ≤ 11 → 1 * 2 ^ (n + 2) % 2 ^ 64 ≡ 2 ^ (n + 2)
+pub tile-bits : (n : ℕ) → n ≤ 14 → 1 * 2 ^ (n + 2) % 2 ^ 64 ≡ 2 ^ (n + 2)
 tile-bits n high = one_shl (n + 2) 64 (omega arith)

@@ -12,18 +12,18 @@ use Rattle.mosaic_rounds.specs.Side.{IsNeighbour}
 use Rattle.mosaic_rounds.specs.Turn.{turn_in}
 
 -- the bits of all tiles have numbers far below those of a word
-pub first-small : (columns rows n x y : ℕ) → columns ≤ 65536 → rows ≤ 65536 → n ≤ 11 → x < columns → y < rows →
-    (y * columns + x) * 2 ^ (n + 2) < 2 ^ 46
+pub first-small : (columns rows n x y : ℕ) → columns ≤ 65536 → rows ≤ 65536 → n ≤ 14 → x < columns → y < rows →
+    (y * columns + x) * 2 ^ (n + 2) < 2 ^ 48
 first-small columns rows n x y wide high deep column row =
     let number = mul-add-lt y columns x rows row column in
     let few : columns * rows ≤ 65536 * 65536 = mul-le columns rows 65536 65536 wide high in
     let below : (y * columns + x) * 2 ^ (n + 2) < 2 ^ (32 + (n + 2)) =
     shl_below (y * columns + x) 32 (n + 2) (omega arith) in
-    let deepest : 32 + (n + 2) ≤ 46 = omega arith in
-    let most : 2 ^ (32 + (n + 2)) ≤ 2 ^ 46 = pow_mono deepest in omega arith
+    let deepest : 32 + (n + 2) ≤ 48 = omega arith in
+    let most : 2 ^ (32 + (n + 2)) ≤ 2 ^ 48 = pow_mono deepest in omega arith
 
 -- how many places a side has, as the code finds it
-pub side-places : (n : ℕ) → n ≤ 11 → 1 * 2 ^ n % 2 ^ 32 ≡ 2 ^ n
+pub side-places : (n : ℕ) → n ≤ 14 → 1 * 2 ^ n % 2 ^ 32 ≡ 2 ^ n
 side-places n high = one_shl n 32 (omega arith)
 
 -- a turn tells the tile

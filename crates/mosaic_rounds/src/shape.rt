@@ -11,7 +11,7 @@ ghost use Rattle.mosaic_rounds.specs.declared.shape.TheConstants.{MOST_ACROSS};
 use crate::bits::exceeds;
 use mesh_defs::Point;
 
-/// The most columns, and the most rows: at n = 11 a terrain of 2^27 points a side.
+/// The most columns, and the most rows: at n = 14 a terrain of 2^30 points a side.
 pub const MOST_ACROSS: u32 = 65_536;
 
 /// So many columns and rows of tiles of side 2^n.
@@ -27,7 +27,7 @@ pub fn first_bit(shape: Shape, t: Point) -> usize
     requires shape { IsShape shape }
     requires tile { IsTile shape.columns shape.rows t }
     ensures value { result ≡ first_of shape t }
-    ensures small { result < 2 ^ 46 }
+    ensures small { result < 2 ^ 48 }
     ensures room { result + 2 ^ (shape.n + 2) ≤ shape.columns * shape.rows * 2 ^ (shape.n + 2) }
 {
     (t.y as usize * shape.columns as usize + t.x as usize) << (shape.n + 2)

@@ -110,10 +110,10 @@ level_of-small (suc (suc (suc zero))) low = refl
 level_of-small (suc (suc (suc (suc t)))) low = absurd (omega arith)
 
 -- a grid has few places
-pub side-small : (n : ℕ) → n ≤ 11 → side_of n * side_of n ≤ 4198401
+pub side-small : (n : ℕ) → n ≤ 14 → side_of n * side_of n ≤ 268468225
 side-small n high =
-    let side : 2 ^ n ≤ 2 ^ 11 = pow_mono high in
-    mul-le-mul (side_of n) 2049 (side_of n) 2049 (omega arith) (omega arith)
+    let side : 2 ^ n ≤ 2 ^ 14 = pow_mono high in
+    mul-le-mul (side_of n) 16385 (side_of n) 16385 (omega arith) (omega arith)
   where
     mul-le-mul : (a b c d : ℕ) → a ≤ b → c ≤ d → a * c ≤ b * d
     mul-le-mul a b c d one two = grind arith

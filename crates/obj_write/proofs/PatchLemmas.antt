@@ -288,12 +288,12 @@ last-block xs used block flagged unused =
     flagged.clear k (ap (λ b. get_or used b false) here ∙ unused))
 
 -- how many points a grid has
-pub grid_few : (n : ℕ) → n ≤ 11 → side_of n * side_of n < 2 ^ 32
+pub grid_few : (n : ℕ) → n ≤ 14 → side_of n * side_of n < 2 ^ 32
 grid_few n small =
-    let le : 2 ^ n ≤ 2048 = (side_small n small).1 in
-    let side : side_of n ≤ 2049 = omega arith in
-    let square : side_of n * side_of n ≤ 2049 * 2049 =
-    mul-le-mul {n₁ = side_of n} {m₁ = side_of n} {n₂ = 2049} {m₂ = 2049} side side in
+    let le : 2 ^ n ≤ 16384 = (side_small n small).1 in
+    let side : side_of n ≤ 16385 = omega arith in
+    let square : side_of n * side_of n ≤ 16385 * 16385 =
+    mul-le-mul {n₁ = side_of n} {m₁ = side_of n} {n₂ = 16385} {m₂ = 16385} side side in
     omega arith
 
 -- there are as many numbers as points

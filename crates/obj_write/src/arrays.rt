@@ -95,7 +95,7 @@ fn point_at(n: u32, at: usize) -> Point
 /// So many grid steps, in world units.
 fn scaled(spacing: u32, steps: u32) -> u32
     requires spacing { spacing ≤ GREATEST_SPACING }
-    requires steps { steps ≤ 2048 }
+    requires steps { steps ≤ 16384 }
     ensures { result ≡ spacing * steps }
 {
     spacing * steps

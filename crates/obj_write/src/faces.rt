@@ -15,7 +15,7 @@ use crate::vertices::place;
 use bintree_addr::{Point, Tri};
 
 /// How many levels triangles have.
-pub(crate) const LEVELS: usize = 23;
+pub(crate) const LEVELS: usize = 29;
 
 /// The field of the number at a place of the grid, and the place.
 #[derive(Clone, Copy, Debug)]

@@ -19,7 +19,7 @@ pub(crate) struct Step {
 /// Steps before any triangle was asked for: each has a half of the square.
 pub(crate) fn first_steps(n: u32) -> [Step; LEVELS]
     requires in_grid { (1 ≤ n) × (n ≤ GREATEST_LEVEL) }
-    ensures levels { length result ≡ 23 }
+    ensures levels { length result ≡ 29 }
     ensures known { AreCorners n result }
 {
     let half = Tri::default();
@@ -36,11 +36,11 @@ pub(crate) fn first_steps(n: u32) -> [Step; LEVELS]
 pub(crate) fn corners_on_the_way(steps: &mut [Step], n: u32, t: Tri) -> Corners
     requires in_grid { (1 ≤ n) × (n ≤ GREATEST_LEVEL) }
     requires level { level_of t ≤ 2 * n }
-    requires levels { length steps.old ≡ 23 }
+    requires levels { length steps.old ≡ 29 }
     requires known { AreCorners n steps.old }
     ensures value { result ≡ corners_of n t }
     ensures within { IsWithin (2 ^ n) result }
-    ensures levels { length steps.new ≡ 23 }
+    ensures levels { length steps.new ≡ 29 }
     ensures known { AreCorners n steps.new }
 {
     let level = t.level() as usize;

@@ -26,7 +26,7 @@ use Rattle.pgm_grid.specs.Progress.{grid_of}
 use Rattle.pgm_grid.specs.Laws.{AreBytes, TextsAreRead, GridsHaveTexts, GridsHaveHeaders, CutTextsAreRefused}
 use Rattle.pgm_grid.specs.Laws.{TrailingBytesAreRefused, GreatSamplesAreRefused, BadSamplesAreRefused}
 use Rattle.pgm_grid.specs.Laws.{LongFilesAreRefused, OthersAreAbsent}
-use Rattle.pgm_grid.proofs.GridLemmas.{points_small}
+use Rattle.pgm_grid.proofs.GridLemmas.{file_points_small}
 use Rattle.pgm_grid.proofs.FaultLemmas.{apart, no_header-memory, header-truncated, same_header, no_raster-memory}
 use Rattle.pgm_grid.proofs.FaultLemmas.{same_raster}
 use Rattle.pgm_grid.proofs.ReaderLemmas.{raster-refused}
@@ -209,7 +209,7 @@ unfolding samples.raster_of
 raster-short short h at heights rest valid near many is e = by-form (form_of h.plain h.maxval) is e
   where
     few : length heights ≤ 4198401
-    few = omega (arith, many, points_small h.n valid.level.high)
+    few = omega (arith, many, file_points_small h.n valid.level.high)
 
     by-form : (f : RasterForm) → IsRaster f heights rest →
         samples.raster_of f (point_count h.n) h.maxval at rest ≡ Ok heights → at + length rest ≤ most_file_bytes
@@ -226,7 +226,7 @@ law-texts texts rasters g bytes valid is =
     let h : Header = record { plain = is.values.plain; n = g.n; maxval = g.maxval } in
     let accepts : Accepts is.values h = record {
       valid = record {
-        level = record { low = valid.n_low; high = valid.n_high };
+        level = record { low = valid.n_low; high = is.level };
         maxval = record { low = valid.maxval_low; high = valid.maxval_high };
       };
       plain = refl;
@@ -268,13 +268,14 @@ law-grids read rasters short g bytes all e =
     subst P (sym found.4) (
       record {
         n_low = has.accepts.valid.level.low;
-        n_high = has.accepts.valid.level.high;
+        n_high = omega (arith, has.accepts.valid.level.high);
         maxval_low = has.accepts.valid.maxval.low;
         maxval_high = has.accepts.valid.maxval.high;
         count = raster.1;
         bounded = raster.2;
       },
       record {
+        level = has.accepts.valid.level.high;
         header = has.text;
         raster = rest;
         values = has.values;

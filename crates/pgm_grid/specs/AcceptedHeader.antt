@@ -4,7 +4,7 @@
 use Rattle.std.specs.Prelude.{◌≡◌, ℕ, ◌≤◌, ◌==◌, ◌||◌, not, nat_lt, if◌then◌else◌, List, Option, Some, None, Result, Ok}
 use Rattle.std.specs.Prelude.{Err}
 use Rattle.pgm_grid.specs.declared.accepted_header.TheConstants.{GREATEST_MAXVAL}
-use Rattle.mesh_defs.specs.declared.level.TheConstants.{GREATEST_LEVEL}
+use Rattle.mesh_defs.specs.declared.level.TheConstants.{GREATEST_FILE_LEVEL}
 use Rattle.mesh_defs.specs.HeightField.{side_of}
 use Rattle.pgm_grid.specs.declared.header_machine.HeaderValues.{HeaderValues}
 use Rattle.pgm_grid.specs.declared.accepted_header.Header.{Header}
@@ -14,7 +14,7 @@ use Rattle.pgm_grid.specs.declared.header_fault.HeaderFault.TheVariants.{BadMaxv
 -- a grid may have this n: its side is 3, 5, 9, 17, 33, 65, 129, 257, 513, 1025 or 2049
 pub record IsLevel (n : ℕ) : Type 0 where
   pub low : 1 ≤ n
-  pub high : n ≤ GREATEST_LEVEL
+  pub high : n ≤ GREATEST_FILE_LEVEL
 
 -- a grid may have this maxval
 pub record IsMaxval (maxval : ℕ) : Type 0 where
@@ -41,7 +41,7 @@ side_level side =
     else if side == 33 then Some 5
     else if side == 65 then Some 6 else if side == 129 then Some 7 else if side == 257 then Some 8
     else if side == 513 then Some 9
-    else if side == 1025 then Some 10 else if side == 2049 then Some GREATEST_LEVEL else None
+    else if side == 1025 then Some 10 else if side == 2049 then Some GREATEST_FILE_LEVEL else None
 
 -- the header of these values with this n
 abbrev pub with_level : HeaderValues → Option ℕ → Result Header HeaderFault

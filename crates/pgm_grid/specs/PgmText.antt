@@ -5,6 +5,7 @@
 use Rattle.std.specs.Prelude.{◌≡◌, ℕ, ◌*◌, ◌≤◌, Bool, true, false, nat_lt, if◌then◌else◌, List, ◌++◌, length}
 use Rattle.pgm_grid.specs.declared.header_reader.TheConstants.{MOST_HEADER_BYTES}
 use Rattle.mesh_defs.specs.HeightField.{HeightField, side_of}
+use Rattle.mesh_defs.specs.declared.level.TheConstants.{GREATEST_FILE_LEVEL}
 use Rattle.pgm_grid.specs.declared.header_machine.HeaderValues.{HeaderValues}
 use Rattle.pgm_grid.specs.declared.accepted_header.Header.{Header}
 use Rattle.pgm_grid.specs.HeaderText.{IsHeaderText}
@@ -27,9 +28,10 @@ form_of false maxval = if nat_lt maxval 256 then form.Bytes else form.Words
 abbrev pub most_file_bytes : ℕ
 most_file_bytes = raster.most_bytes
 
--- The bytes are a file text of the grid: a header of at most `MOST_HEADER_BYTES` with its side and its maxval, and
--- a raster of its heights; and they are not too many.
+-- The bytes are a file text of the grid, which has one of the sides of a file: a header of at most `MOST_HEADER_BYTES` with
+-- its side and its maxval, and a raster of its heights; and they are not too many.
 pub record IsFileText (g : HeightField) (bytes : List ℕ) : Type 0 where
+  pub level : g.n ≤ GREATEST_FILE_LEVEL
   pub header : List ℕ
   pub raster : List ℕ
   pub values : HeaderValues

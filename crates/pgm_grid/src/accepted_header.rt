@@ -5,7 +5,7 @@ ghost use Rattle.pgm_grid.specs.AcceptedHeader.{side_level, judged};
 
 use crate::header_fault::HeaderFault;
 use crate::header_machine::HeaderValues;
-use mesh_defs::{GREATEST_HEIGHT, GREATEST_LEVEL};
+use mesh_defs::{GREATEST_FILE_LEVEL, GREATEST_HEIGHT};
 
 /// The greatest maxval: a sample has at most two bytes.
 pub const GREATEST_MAXVAL: u32 = GREATEST_HEIGHT;
@@ -36,7 +36,7 @@ fn level_for(side: u32) -> Option<u32>
         257 => Some(8),
         513 => Some(9),
         1025 => Some(10),
-        2049 => Some(GREATEST_LEVEL),
+        2049 => Some(GREATEST_FILE_LEVEL),
         _ => None,
     }
 }

@@ -10,8 +10,8 @@ use mesh_defs::NoMemory;
 use std::alloc::Global;
 use std::marker::Model;
 
-/// The most points of a side, 2^11 + 1.
-pub const MOST_SIDE: usize = 2049;
+/// The most points of a side, 2^14 + 1.
+pub const MOST_SIDE: usize = 16385;
 
 /// The most points of a grid.
 pub const MOST_POINTS: usize = MOST_SIDE * MOST_SIDE;

@@ -35,6 +35,6 @@ pub fn grids_and_texts()
 
 /// What each limit is, as a number. It does nothing.
 pub fn limit_laws()
-    ensures most_side { MOST_SIDE ≡ 2049 }
-    ensures most_points { MOST_POINTS ≡ 4198401 }
+    ensures most_side { MOST_SIDE ≡ 16385 }
+    ensures most_points { MOST_POINTS ≡ 268468225 }
 {}

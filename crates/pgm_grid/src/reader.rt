@@ -1,7 +1,8 @@
 //! The reader of file texts.
 
-ghost use Rattle.std.specs.Prelude.{◌≡◌, ◌≢◌, ◌⊎◌, ◌+◌, ◌^◌, ◌≤◌, [], ◌++◌, List, ℕ, length, OnOk, IfErr};
+ghost use Rattle.std.specs.Prelude.{◌≡◌, ◌≢◌, ◌⊎◌, ◌+◌, ◌^◌, ◌≤◌, [], ◌++◌, List, ℕ, length, OnOk, IfOk, IfErr};
 ghost use Rattle.std.specs.Result.{IsErrOf};
+ghost use Rattle.mesh_defs.specs.declared.level.TheConstants.{GREATEST_FILE_LEVEL};
 ghost use Rattle.pgm_grid.specs.declared.raster_plain.TheConstants.{MOST_BYTES};
 ghost use Rattle.pgm_grid.specs.Progress.{resume, grid_of, taken, StaysRefused, EndsHeader};
 
@@ -87,7 +88,8 @@ impl PgmReader {
 
     /// Ends the bytes of the file.
     pub fn finish(self) -> Result<Grid, PgmFault>
-        ensures { result ≡ resume self [] }
+        ensures value { result ≡ resume self [] }
+        ensures level { IfOk result (λ grid. grid.n ≤ GREATEST_FILE_LEVEL) }
     {
         last_answer(self.stage)
     }

@@ -1,6 +1,7 @@
 //! What the bytes so far have come to, and what further bytes make of it.
 
 ghost use Rattle.std.specs.Prelude.{◌≡◌, ◌≢◌, ◌<◌, ◌≤◌, ◌+◌, ◌++◌, ℕ, List, [], length, drop, IfOk, IfErr, Err};
+ghost use Rattle.mesh_defs.specs.declared.level.TheConstants.{GREATEST_FILE_LEVEL};
 ghost use Rattle.pgm_grid.specs.declared.header_reader.TheConstants.{MOST_HEADER_BYTES};
 ghost use Rattle.pgm_grid.specs.AcceptedHeader.{IsHeader};
 ghost use Rattle.pgm_grid.specs.PgmText.{form_of};
@@ -152,7 +153,8 @@ fn fault_of_raster(fault: RasterFault) -> PgmFault
 /// The answer if no byte comes any more.
 pub(crate) fn last_answer(stage: Stage) -> Result<Grid, PgmFault>
     requires { IsStage stage }
-    ensures { result ≡ resume (progress_of stage) [] }
+    ensures value { result ≡ resume (progress_of stage) [] }
+    ensures level { IfOk result (λ grid. grid.n ≤ GREATEST_FILE_LEVEL) }
 {
     match stage {
         Stage::InHeader(_) => Err(PgmFault::Truncated),
@@ -164,7 +166,8 @@ pub(crate) fn last_answer(stage: Stage) -> Result<Grid, PgmFault>
 /// The grid of a header and its raster, if the raster is whole.
 fn grid_from(header: Header, reader: RasterReader) -> Result<Grid, PgmFault>
     requires { IsReaderFor header reader }
-    ensures { result ≡ resume (InRaster header reader) [] }
+    ensures value { result ≡ resume (InRaster header reader) [] }
+    ensures level { IfOk result (λ grid. grid.n ≤ GREATEST_FILE_LEVEL) }
 {
     match reader.finish() {
         Ok(heights) => Ok(Grid {

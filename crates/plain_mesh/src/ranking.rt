@@ -81,5 +81,5 @@ fn rank_at(scene: &Scene<'_>, number: u32, meter: &mut Meter) -> Rank
 {
     level_laws();
     let _valid = scene.n();
-    scene.rank(Tri::new(number).unwrap(), meter)
+    scene.rank(Tri::at(number).unwrap(), meter)
 }

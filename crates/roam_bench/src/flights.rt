@@ -1,7 +1,7 @@
 //! Flights of an engine over made heights: its tables, the first frame, and the frames behind it.
 
 ghost use Rattle.std.specs.Prelude.{◌≡◌, ◌+◌, ◌<◌, ◌≤◌, IfSome, OnOk};
-ghost use Rattle.mesh_defs.specs.declared.level.TheConstants.{GREATEST_LEVEL};
+ghost use Rattle.mesh_defs.specs.declared.level.TheConstants.{GREATEST_FILE_LEVEL};
 ghost use Rattle.triangle_pool.specs.declared.pool.TheConstants.{MOST_LEAVES};
 ghost use Rattle.draw_buffer.specs.Buffer.{BufferState};
 ghost use Rattle.engine_uses.specs.Step.{IsInStep, IsBehind};

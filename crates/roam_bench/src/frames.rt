@@ -3,7 +3,7 @@
 ghost use Rattle.std.specs.Prelude.{◌≡◌, ℕ, ◌≤◌, None, IfSome, IfOk};
 ghost use Rattle.mesh_defs.specs.declared.counters.TheConstants.{LONGEST_WAY};
 ghost use Rattle.mesh_defs.specs.State.{move_length};
-ghost use Rattle.mesh_defs.specs.declared.level.TheConstants.{GREATEST_LEVEL};
+ghost use Rattle.mesh_defs.specs.declared.level.TheConstants.{GREATEST_FILE_LEVEL};
 ghost use Rattle.roam_mesh.specs.Mesh.{stamp_of};
 
 use crate::gauge::{SPACING, ViewGauge, gauge_laws};
@@ -52,7 +52,7 @@ pub struct Timed {
 /// The case of a word, if it has one.
 pub fn case_of(word: &str) -> Option<Case>
     ensures low { IfSome result (λ it. 1 ≤ it.n) }
-    ensures high { IfSome result (λ it. it.n ≤ GREATEST_LEVEL) }
+    ensures high { IfSome result (λ it. it.n ≤ GREATEST_FILE_LEVEL) }
 {
     let (n, step, second) = match word {
         "frame_first_9" => (9, 0, false),
@@ -69,7 +69,7 @@ pub fn case_of(word: &str) -> Option<Case>
 /// Makes heights, wedges and a mesh, and times a frame; None where memory runs out.
 pub fn frame(rt: &HostRuntime, case: Case) -> io::Result<Option<Timed>>
     requires low { 1 ≤ case.n }
-    requires high { case.n ≤ GREATEST_LEVEL }
+    requires high { case.n ≤ GREATEST_FILE_LEVEL }
 {
     let Ok(grid) = gen_grid(rt.alloc(), case.n, SEED) else {
         return Ok(None);
@@ -83,7 +83,7 @@ pub fn frame(rt: &HostRuntime, case: Case) -> io::Result<Option<Timed>>
 /// Makes a mesh over these wedges, and times a frame.
 fn frame_over(rt: &HostRuntime, case: Case, wedges: &Wedges) -> io::Result<Option<Timed>>
     requires low { 1 ≤ case.n }
-    requires high { case.n ≤ GREATEST_LEVEL }
+    requires high { case.n ≤ GREATEST_FILE_LEVEL }
     requires grid { wedges.now.n ≡ case.n }
 {
     let Some((from, to)) = cameras(case.n, case.step) else {
@@ -98,7 +98,7 @@ fn frame_over(rt: &HostRuntime, case: Case, wedges: &Wedges) -> io::Result<Optio
 /// A mesh on the heap, which is cheaper to prove than one that a function with several exits owns.
 fn mesh_on_heap(alloc: Global, n: u32) -> Result<Box<Mesh>, NoMemory>
     requires low { 1 ≤ n }
-    requires high { n ≤ GREATEST_LEVEL }
+    requires high { n ≤ GREATEST_FILE_LEVEL }
     ensures n { IfOk result (λ mesh. mesh.value.pool.n ≡ n) }
     ensures most { IfOk result (λ mesh. mesh.value.pool.most ≡ BUDGET) }
     ensures splits { IfOk result (λ mesh. mesh.value.pool.splits ≡ 0) }
@@ -111,7 +111,7 @@ fn mesh_on_heap(alloc: Global, n: u32) -> Result<Box<Mesh>, NoMemory>
 
 /// Two cameras, a third along the grid and half across it, the second one so much farther along x.
 fn cameras(n: u32, step: u32) -> Option<(Camera, Camera)>
-    requires high { n ≤ GREATEST_LEVEL }
+    requires high { n ≤ GREATEST_FILE_LEVEL }
     ensures way { IfSome result (λ pair. move_length pair.0 pair.1 ≤ step) }
 {
     let width = SPACING << n;

@@ -133,7 +133,7 @@ pub fn refined(alloc: Global, forced: bool) -> (u32, u32) {
                 found = found.saturating_add(s.0 & 1);
             } else if pool.is_live(s) && pool.is_leaf(s) && pool.tri(s).level() < 2 * pool.n() {
                 let chain = plan(&pool, s);
-                if chain.gain <= pool.room() && pool.splits() < (1 << 62) - 48 {
+                if chain.gain <= pool.room() && pool.splits() < (1 << 62) - 60 {
                     let born = carry_out(&mut pool, &chain);
                     found = found.saturating_add(born.len() as u32);
                 }

@@ -56,7 +56,7 @@ fn climb(flags: &mut [bool], n: u32)
 {
     for number in (2..end(n)).rev() {
         if flags[number as usize] {
-            flag_parent(flags, Tri::new(number).unwrap());
+            flag_parent(flags, Tri::at(number).unwrap());
         }
     }
 }
@@ -73,7 +73,7 @@ fn count_splits(flags: &[bool], n: u32) -> Option<u32>
     let mut count = 0;
     for number in 2..end(n) {
         if flags[number as usize] {
-            if !has_mate(flags, n, Tri::new(number).unwrap()) {
+            if !has_mate(flags, n, Tri::at(number).unwrap()) {
                 return None;
             }
             count += 1;

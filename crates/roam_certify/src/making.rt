@@ -70,7 +70,7 @@ fn push_wants(
         if reasons.len() >= limit {
             return Ok(());
         }
-        let t = Tri::new(number).unwrap();
+        let t = Tri::at(number).unwrap();
         push_wanted(reasons, flags, limit, n, scene, worst, t)?;
     }
     Ok(())

@@ -30,7 +30,7 @@ made-is_grid n seed low high =
     let P : ℕ → Type 0 = λ h. h ≤ 65535 in
     record {
       n_low = low;
-      n_high = high;
+      n_high = omega (arith, high);
       maxval_low = lit≤ tt;
       maxval_high = lit≤ tt;
       count = long;
@@ -74,6 +74,7 @@ made-is_text n seed high is_text =
     let few = points-small (side_of n) (side-small n high) in
     let short = header-short n high in
     record {
+      level = high;
       header = header_text n;
       raster = raster;
       values = generated_header n;

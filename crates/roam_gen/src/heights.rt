@@ -2,7 +2,7 @@
 
 ghost use Rattle.std.specs.Prelude.{◌≡◌, ◌≢◌, ◌+◌, ◌-◌, ◌/◌, ◌^◌, ◌<◌, ◌≤◌, ℕ, length, slice_index, IfOk};
 ghost use Rattle.mesh_defs.specs.HeightField.{height_at, side_of};
-ghost use Rattle.mesh_defs.specs.declared.level.TheConstants.{GREATEST_LEVEL};
+ghost use Rattle.mesh_defs.specs.declared.level.TheConstants.{GREATEST_FILE_LEVEL};
 ghost use Rattle.roam_gen.specs.Generated.{octave, octave_base, octaves, made_height, made_grid};
 ghost use Rattle.roam_gen.specs.Rows.{cell_at, IsCellSmall, HasOctaves, HasRow};
 
@@ -19,7 +19,7 @@ pub(crate) const GREATEST_HEIGHT: u16 = mesh_defs::GREATEST_HEIGHT as u16;
 /// Cost (not proved): 4 lattice values for each of n + 1 octaves. Takes no memory.
 pub fn gen_height(n: u32, seed: u32, x: u32, y: u32) -> u16
     requires n_low { 1 ≤ n }
-    requires n_high { n ≤ GREATEST_LEVEL }
+    requires n_high { n ≤ GREATEST_FILE_LEVEL }
     requires in_columns { x ≤ 2 ^ n }
     requires in_rows { y ≤ 2 ^ n }
     ensures { result ≡ made_height n seed x y }
@@ -34,7 +34,7 @@ pub fn gen_height(n: u32, seed: u32, x: u32, y: u32) -> u16
 
 /// What an octave adds to the height of a point, which lies in this square of its lattice.
 fn part(cell: &Cell, n: u32, k: u32, x: u32, y: u32) -> u16
-    requires n_high { n ≤ GREATEST_LEVEL }
+    requires n_high { n ≤ GREATEST_FILE_LEVEL }
     requires octave { k ≤ n }
     requires small { IsCellSmall cell.now }
     ensures value { (seed : ℕ) → cell.now ≡ cell_at (octave_base seed k) (x / 2 ^ k) (y / 2 ^ k)
@@ -49,7 +49,7 @@ fn part(cell: &Cell, n: u32, k: u32, x: u32, y: u32) -> u16
 ///
 /// Octave by octave, so that neighbours in a square of its lattice share its four values.
 pub(crate) fn fill_row(row: &mut [u16], n: u32, seed: u32, y: u32)
-    requires n_high { n ≤ GREATEST_LEVEL }
+    requires n_high { n ≤ GREATEST_FILE_LEVEL }
     requires short { length row.old ≤ side_of n }
     requires in_rows { y ≤ 2 ^ n }
     ensures { HasOctaves row.new (n + 1) n seed y }
@@ -71,7 +71,7 @@ fn clear(row: &mut [u16])
 
 /// Adds an octave to a row that has the ones before it.
 fn add_octave(row: &mut [u16], n: u32, seed: u32, k: u32, y: u32)
-    requires n_high { n ≤ GREATEST_LEVEL }
+    requires n_high { n ≤ GREATEST_FILE_LEVEL }
     requires octave { k ≤ n }
     requires short { length row.old ≤ side_of n }
     requires in_rows { y ≤ 2 ^ n }
@@ -92,7 +92,7 @@ fn add_octave(row: &mut [u16], n: u32, seed: u32, k: u32, y: u32)
 /// Cost (not proved): one step a point and octave. The one error is that memory runs out.
 pub fn gen_grid(alloc: Global, n: u32, seed: u32) -> Result<Grid, NoMemory>
     requires n_low { 1 ≤ n }
-    requires n_high { n ≤ GREATEST_LEVEL }
+    requires n_high { n ≤ GREATEST_FILE_LEVEL }
     ensures value { IfOk result (λ grid. grid ≡ made_grid n seed) }
     ensures heights { IfOk result (λ grid. (x y : ℕ) → x ≤ 2 ^ n → y ≤ 2 ^ n
         → height_at n grid.heights x y ≡ made_height n seed x y) }
@@ -106,7 +106,7 @@ pub fn gen_grid(alloc: Global, n: u32, seed: u32) -> Result<Grid, NoMemory>
 
 /// Makes the heights of a grid, each row in the same room.
 fn fill_grid(grid: &mut Grid, row: &mut [u16], n: u32, seed: u32)
-    requires n_high { n ≤ GREATEST_LEVEL }
+    requires n_high { n ≤ GREATEST_FILE_LEVEL }
     requires level { grid.old.n ≡ n }
     requires all { grid.old.maxval ≡ 65535 }
     requires length { length row.old ≡ side_of n }
@@ -126,7 +126,7 @@ fn fill_grid(grid: &mut Grid, row: &mut [u16], n: u32, seed: u32)
 fn put_row(grid: &mut Grid, row: &[u16], y: u32)
     requires length { length row.now ≡ side_of grid.old.n }
     requires in_rows { y ≤ 2 ^ grid.old.n }
-    requires n_high { grid.old.n ≤ GREATEST_LEVEL }
+    requires n_high { grid.old.n ≤ GREATEST_FILE_LEVEL }
     requires all { grid.old.maxval ≡ 65535 }
     ensures level { grid.new.n ≡ grid.old.n }
     ensures maxval { grid.new.maxval ≡ grid.old.maxval }

@@ -1,7 +1,7 @@
 //! An octave of the heights: values at the points of a lattice, and between them.
 
 ghost use Rattle.std.specs.Prelude.{◌≡◌, ◌+◌, ◌-◌, ◌*◌, ◌/◌, ◌%◌, ◌^◌, ◌<◌, ◌≤◌};
-ghost use Rattle.mesh_defs.specs.declared.level.TheConstants.{GREATEST_LEVEL};
+ghost use Rattle.mesh_defs.specs.declared.level.TheConstants.{GREATEST_FILE_LEVEL};
 ghost use Rattle.roam_gen.specs.Generated.{mixed, octave_base, lattice_from, between};
 ghost use Rattle.roam_gen.specs.Rows.{cell_at, IsCellSmall};
 
@@ -87,7 +87,7 @@ impl Cell {
 
     /// The value at (a, b) of the square, of which a side has 2^k grid steps.
     pub(crate) fn value(&self, k: u32, a: u64, b: u64) -> u64
-        requires octave { k ≤ GREATEST_LEVEL }
+        requires octave { k ≤ GREATEST_FILE_LEVEL }
         requires columns { a < 2 ^ k }
         requires lines { b < 2 ^ k }
         requires small { IsCellSmall self.now }
@@ -105,7 +105,7 @@ impl Cell {
 
 /// How many grid steps a square of octave k has, which is also how many squares the grid of level k has.
 pub(crate) fn width_of(k: u32) -> u64
-    requires { k ≤ GREATEST_LEVEL }
+    requires { k ≤ GREATEST_FILE_LEVEL }
     ensures value { result ≡ 2 ^ k }
     ensures small { result ≤ 2048 }
 {
@@ -114,7 +114,7 @@ pub(crate) fn width_of(k: u32) -> u64
 
 /// The last column and row of the grid of this level.
 pub(crate) fn last_of(n: u32) -> u32
-    requires { n ≤ GREATEST_LEVEL }
+    requires { n ≤ GREATEST_FILE_LEVEL }
     ensures value { result ≡ 2 ^ n }
     ensures small { result ≤ 2048 }
 {
@@ -123,7 +123,7 @@ pub(crate) fn last_of(n: u32) -> u32
 
 /// How far into a square of octave k this coordinate is.
 pub(crate) fn within(coordinate: u32, k: u32) -> u64
-    requires { k ≤ GREATEST_LEVEL }
+    requires { k ≤ GREATEST_FILE_LEVEL }
     ensures { result ≡ coordinate % 2 ^ k }
 {
     u64::from(coordinate) & ((1 << k) - 1)
@@ -132,8 +132,8 @@ pub(crate) fn within(coordinate: u32, k: u32) -> u64
 /// A value times two lengths.
 fn weighted(value: u64, across: u64, up: u64) -> u64
     requires small { value < 2 ^ 16 }
-    requires columns { across ≤ 2 ^ GREATEST_LEVEL }
-    requires lines { up ≤ 2 ^ GREATEST_LEVEL }
+    requires columns { across ≤ 2 ^ GREATEST_FILE_LEVEL }
+    requires lines { up ≤ 2 ^ GREATEST_FILE_LEVEL }
     ensures value { result ≡ value * across * up }
     ensures bounded { result ≤ 2 ^ 38 }
 {

@@ -1,7 +1,7 @@
 //! The generated script.
 
 ghost use Rattle.std.specs.Prelude.{◌≡◌, ◌-◌, ◌*◌, ◌/◌, ◌^◌, ◌≤◌, Some, pos, slice_get};
-ghost use Rattle.mesh_defs.specs.declared.level.TheConstants.{GREATEST_LEVEL};
+ghost use Rattle.mesh_defs.specs.declared.level.TheConstants.{GREATEST_FILE_LEVEL};
 ghost use Rattle.roam_gen.specs.Generated.{camera_line, edit_line, made_lines};
 ghost use Rattle.roam_gen.specs.LineAt.{line_at};
 
@@ -25,7 +25,7 @@ const CAMERA_HEIGHT: i64 = 40_000;
 /// Cost (not proved): a few steps. Takes no memory.
 pub fn gen_line(n: u32, seed: u32, i: u32) -> Line
     requires n_low { 1 ≤ n }
-    requires n_high { n ≤ GREATEST_LEVEL }
+    requires n_high { n ≤ GREATEST_FILE_LEVEL }
     requires first { 1 ≤ i }
     requires last { i ≤ 105 }
     ensures value { slice_get (made_lines n seed) (i - 1) ≡ Some result }
@@ -36,7 +36,7 @@ pub fn gen_line(n: u32, seed: u32, i: u32) -> Line
 
 /// The line of this number, by the tens of frames before it and its place among the next 21 lines.
 fn line_in_tens(n: u32, seed: u32, i: u32) -> Line
-    requires n_high { n ≤ GREATEST_LEVEL }
+    requires n_high { n ≤ GREATEST_FILE_LEVEL }
     requires first { 1 ≤ i }
     requires last { i ≤ 105 }
     ensures { result ≡ line_at n seed i }
@@ -61,7 +61,7 @@ fn line_in_tens(n: u32, seed: u32, i: u32) -> Line
 
 /// Where the camera is put before a frame.
 fn camera_of(n: u32, frame: u32) -> Line
-    requires n_high { n ≤ GREATEST_LEVEL }
+    requires n_high { n ≤ GREATEST_FILE_LEVEL }
     requires frame { frame ≤ 51 }
     ensures { result ≡ camera_line n frame }
 {
@@ -74,7 +74,7 @@ fn camera_of(n: u32, frame: u32) -> Line
 
 /// So many of the 51 parts of a side, in world units.
 fn way(n: u32, parts: u32) -> i64
-    requires n_high { n ≤ GREATEST_LEVEL }
+    requires n_high { n ≤ GREATEST_FILE_LEVEL }
     requires parts { parts ≤ 51 }
     ensures { result ≡ pos (2 ^ n * 30 * parts / 51) }
 {
@@ -84,7 +84,7 @@ fn way(n: u32, parts: u32) -> i64
 
 /// Which height is set before a tenth frame.
 fn edit_of(n: u32, seed: u32, frame: u32) -> Line
-    requires n_high { n ≤ GREATEST_LEVEL }
+    requires n_high { n ≤ GREATEST_FILE_LEVEL }
     requires frame { frame ≤ 51 }
     ensures { result ≡ edit_line n seed frame }
 {

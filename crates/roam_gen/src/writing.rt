@@ -7,7 +7,7 @@ ghost use Rattle.arrayvec.specs.ArrayVec.{array_vec_len};
 ghost use Rattle.roam_edge.specs.Fault.{HasCause, IsInTime};
 ghost use Rattle.roam_edge.specs.Sink.{Appends};
 ghost use Rattle.mesh_defs.specs.HeightField.{side_of};
-ghost use Rattle.mesh_defs.specs.declared.level.TheConstants.{GREATEST_LEVEL};
+ghost use Rattle.mesh_defs.specs.declared.level.TheConstants.{GREATEST_FILE_LEVEL};
 ghost use Rattle.text_laws.specs.Words.{two_bytes};
 ghost use Rattle.roam_gen.specs.Generated.{made_grid};
 ghost use Rattle.roam_gen.specs.Written.{line_text, spaced_number, script_text, header_text, grid_text};
@@ -32,7 +32,7 @@ const LONGEST_ROW: usize = 2 * MOST_SIDE;
 /// Takes no memory.
 pub fn write_script<S: Sink>(n: u32, seed: u32, out: &mut S) -> Result<(), Failed>
     requires n_low { 1 ≤ n }
-    requires n_high { n ≤ GREATEST_LEVEL }
+    requires n_high { n ≤ GREATEST_FILE_LEVEL }
     ensures bytes { Appends (S.contents out.old) (S.contents out.new) (script_text n seed) result }
     ensures faults { HasCause (S.faults out.old) (S.faults out.new) result }
     ensures in_time { IsInTime (S.late out.old) (S.faults out.old) (S.late out.new) }
@@ -89,7 +89,7 @@ fn text_of(word: &[u8], numbers: &[i64]) -> ArrayVec<u8, LONGEST_LINE>
 /// Takes no memory.
 pub fn write_grid<S: Sink>(n: u32, seed: u32, out: &mut S) -> Result<(), Failed>
     requires n_low { 1 ≤ n }
-    requires n_high { n ≤ GREATEST_LEVEL }
+    requires n_high { n ≤ GREATEST_FILE_LEVEL }
     ensures bytes { Appends (S.contents out.old) (S.contents out.new) (grid_text n seed) result }
     ensures faults { HasCause (S.faults out.old) (S.faults out.new) result }
     ensures in_time { IsInTime (S.late out.old) (S.faults out.old) (S.late out.new) }
@@ -102,7 +102,7 @@ pub fn write_grid<S: Sink>(n: u32, seed: u32, out: &mut S) -> Result<(), Failed>
 
 /// Writes the raster, each row from the same room.
 fn write_rows<S: Sink>(n: u32, seed: u32, row: &mut [u16], out: &mut S) -> Result<(), Failed>
-    requires n_high { n ≤ GREATEST_LEVEL }
+    requires n_high { n ≤ GREATEST_FILE_LEVEL }
     requires length { length row.old ≡ side_of n }
     ensures bytes { Appends (S.contents out.old) (S.contents out.new)
         (flat_map two_bytes (made_grid n seed).heights) result }
@@ -119,7 +119,7 @@ fn write_rows<S: Sink>(n: u32, seed: u32, row: &mut [u16], out: &mut S) -> Resul
 
 /// The header of a grid of this level.
 fn header_bytes(n: u32) -> ArrayVec<u8, LONGEST_LINE>
-    requires n_high { n ≤ GREATEST_LEVEL }
+    requires n_high { n ≤ GREATEST_FILE_LEVEL }
     ensures { result.items ≡ header_text n }
 {
     let side = i64::from(last_of(n) + 1);

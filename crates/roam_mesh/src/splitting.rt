@@ -27,7 +27,7 @@ use triangle_pool::Born;
 impl Parts {
     /// Splits a leaf with what it forces, and answers the slots of the children. The leaf keeps what it has, and so
     /// does its mate where that is a leaf.
-    pub fn split(&mut self, s: Slot) -> ArrayVec<Born, 24>
+    pub fn split(&mut self, s: Slot) -> ArrayVec<Born, 30>
         requires parts { IsParts self.old }
         requires settled { self.old.fresh ≡ [] }
         requires leaf { is_leaf_at self.old.pool.pairs s.0 ≡ true }
@@ -35,7 +35,7 @@ impl Parts {
         requires room { (gain : ℕ) →
             IsGainOf self.old.pool.n self.old.pool.pairs (address_at self.old.pool.pairs s.0) gain →
             gain ≤ room_of self.old.pool.pairs }
-        requires count { self.old.pool.splits + 48 < MOST_CHANGES }
+        requires count { self.old.pool.splits + (4 * self.old.pool.n + 4) < MOST_CHANGES }
         ensures parts { IsParts self.new }
         ensures split { IsSplitOf (seen_parts self.old) (seen_parts self.new) (address_at self.old.pool.pairs s.0) }
         ensures born { IsBornOfSplit self.old.pool self.new.pool result.items }
@@ -69,13 +69,13 @@ impl Parts {
     /// First all leaves that will be split leave their places, and the diamonds above them, which can be merged no
     /// longer. Then the pool splits the chain. Last the new leaves are fresh, and the diamond of the leaf itself, the
     /// one of the chain that can be merged, the leaf last.
-    fn split_at(&mut self, s: Slot) -> ArrayVec<Born, 24>
+    fn split_at(&mut self, s: Slot) -> ArrayVec<Born, 30>
         requires leaf { is_leaf_at self.old.pool.pairs s.0 ≡ true }
         requires coarse { level_of (address_at self.old.pool.pairs s.0) < 2 * self.old.pool.n }
         requires room { (gain : ℕ) →
             IsGainOf self.old.pool.n self.old.pool.pairs (address_at self.old.pool.pairs s.0) gain →
             gain ≤ room_of self.old.pool.pairs }
-        requires count { self.old.pool.splits + 48 < MOST_CHANGES }
+        requires count { self.old.pool.splits + (4 * self.old.pool.n + 4) < MOST_CHANGES }
         ensures split { IsSplitAt self.old self.new s.0 }
         ensures born { IsBornOfSplit self.old.pool self.new.pool result.items }
     {
@@ -88,14 +88,14 @@ impl Parts {
     }
 
     /// The splits of a chain in the pool.
-    fn split_pool(&mut self, chain: &Chain) -> ArrayVec<Born, 24>
+    fn split_pool(&mut self, chain: &Chain) -> ArrayVec<Born, 30>
         requires some { 1 ≤ length chain.now.slots.items }
         requires chain { IsChain self.old.pool.pairs (numbers chain.now.slots.items) }
         requires size { chain.now.gain ≡ chain_size self.old.pool.pairs (numbers chain.now.slots.items) }
         requires coarse { level_of
             (address_at self.old.pool.pairs (slice_index (numbers chain.now.slots.items) 0)) < 2 * self.old.pool.n }
         requires room { chain.now.gain ≤ room_of self.old.pool.pairs }
-        requires count { self.old.pool.splits + 48 < MOST_CHANGES }
+        requires count { self.old.pool.splits + (4 * self.old.pool.n + 4) < MOST_CHANGES }
         ensures pool { IsChainSplit self.old.pool self.new.pool (numbers chain.now.slots.items) result.items }
         ensures rest { self.new ≡ record self.old { pool = self.new.pool } }
     {

@@ -2,7 +2,7 @@
 
 ghost use Rattle.std.specs.Prelude.{◌≡◌, ◌≢◌, ◌-◌, ◌^◌, ◌<◌, ◌≤◌, ◌⊎◌, ◌↔◌, List, Option, map, option_map, Some, None};
 ghost use Rattle.std.specs.Prelude.{IsTrue, IsSome, false, if◌then◌else◌, string_bytes};
-ghost use Rattle.mesh_defs.specs.declared.level.TheConstants.{GREATEST_LEVEL};
+ghost use Rattle.mesh_defs.specs.declared.level.TheConstants.{GREATEST_FILE_LEVEL};
 ghost use Rattle.roam_edge.specs.Shelf.{NamedFile};
 ghost use Rattle.run_words.specs.Words.{OnGrid, Generated, Frames, command_of};
 ghost use Rattle.run_words.specs.Jobs.{MakesNoCertificate};
@@ -298,7 +298,7 @@ fn run_engine<O: Outside>(
 /// Carries out the command `try`, which opens no file and writes no mesh.
 fn run_try<O: Outside>(alloc: Global, n: u32, seed: u32, outside: &mut O) -> Run
     requires n_low { 1 ≤ n }
-    requires n_high { n ≤ GREATEST_LEVEL }
+    requires n_high { n ≤ GREATEST_FILE_LEVEL }
     ensures same { O.is_same outside.old outside.new }
     ensures runs { Runs (O.moment outside.old) (O.moment outside.new) (Some (Generated n seed))
         result.status (option_map engine_seen result.engine) }

@@ -15,7 +15,7 @@ pub fn most_points(n: u32) -> u32
     requires level { n ≤ GREATEST_LEVEL }
     ensures value { result ≡ most_points n }
     ensures some { 1 ≤ result }
-    ensures few { result ≤ 2 ^ 23 }
+    ensures few { result ≤ 2 ^ 29 }
 {
     let side = (1u32 << n) + 1;
     side * side

@@ -1,6 +1,7 @@
 //! The command `certify make-fit`: the certificate of a fitted mesh.
 
 ghost use Rattle.std.specs.Prelude.{◌^◌, ◌≤◌, None, Some, IfOk};
+ghost use Rattle.mesh_defs.specs.declared.level.TheConstants.{GREATEST_FILE_LEVEL};
 ghost use Rattle.cert_text.specs.FitCertText.{fit_cert_text};
 ghost use Rattle.run_words.specs.Words.{OnGrid, MakeFit};
 ghost use Rattle.run_laws.specs.Certify.{IsFitMade};
@@ -36,6 +37,7 @@ pub fn run_fit_make<O: Outside>(alloc: Global, words: &FitMakeWords<'_>, outside
 
 /// The certificate of the mesh of a grid that is fitted to the target of the words.
 fn certificate_of(alloc: Global, grid: &Grid, words: &FitMakeWords<'_>) -> Result<FitCert, NoMemory>
+    requires level { grid.now.n ≤ GREATEST_FILE_LEVEL }
     requires bounds { AreFitBounds words.now.target words.now.spacing }
     ensures { IfOk result (λ cert. IsFitMade (fit_making_seen words.now) grid.now cert) }
 {

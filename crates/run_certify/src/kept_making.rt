@@ -1,6 +1,7 @@
 //! The command `certify make-fit` where the mesh keeps points: the certificate of such a mesh.
 
 ghost use Rattle.std.specs.Prelude.{◌^◌, ◌≤◌, None, Some, All, IfOk, length};
+ghost use Rattle.mesh_defs.specs.declared.level.TheConstants.{GREATEST_FILE_LEVEL};
 ghost use Rattle.bintree_laws.specs.Corners.{IsInSquare};
 ghost use Rattle.roam_script.specs.PointText.{most_points as most_points_seen};
 ghost use Rattle.cert_text.specs.KeptCert.{kept_cert_text};
@@ -16,7 +17,6 @@ use certificate_laws::KeptCert;
 use fit_certify::make_kept;
 use pgm_grid::Grid;
 use roam_edge::NoMemory;
-use roam_script::most_points;
 use run_files::{Outside, grid_or_end};
 use run_laws::Status;
 use run_words::KeptMakeWords;
@@ -54,13 +54,13 @@ fn certificate_of(
     points: &[Point],
     words: &KeptMakeWords<'_>,
 ) -> Result<KeptCert, NoMemory>
+    requires level { grid.now.n ≤ GREATEST_FILE_LEVEL }
     requires bounds { AreKeptBounds words.now.thousandths words.now.spacing }
     requires inside { All (IsInSquare (2 ^ grid.now.n)) points.now }
     requires few { length points.now ≤ most_points_seen grid.now.n }
     ensures { IfOk result (λ cert. IsKeptMade (kept_making_seen words.now) points.now grid.now cert) }
 {
     let tolerance = tolerance(words.thousandths, grid.n());
-    let _most = most_points(grid.n());
     make_kept(alloc, grid, tolerance, points)
 }
 

@@ -4,7 +4,7 @@ use crate::forms::{has_goal, has_keep, label, write_goal_form, write_labels};
 use crate::quoted::Quoted;
 use roam_edge::LONGEST_PREFIX;
 use run_words::{
-    GREATEST_BUDGET, GREATEST_LEVEL, GREATEST_SEED, GREATEST_SPACING, GREATEST_TOLERANCE,
+    GREATEST_BUDGET, GREATEST_FILE_LEVEL, GREATEST_SEED, GREATEST_SPACING, GREATEST_TOLERANCE,
     LEAST_BUDGET, REACH, Row, Stage, Wanted, WordFault, commands, goals, row_of, tasks,
 };
 use std::fmt;
@@ -232,7 +232,7 @@ fn write_wanted<W: fmt::Write>(f: &mut fmt::Formatter<W>, wanted: Wanted) -> fmt
         Wanted::Error => f.write_str(
             "a number from 0 to 65535.999 with at most three places behind a point is wanted",
         ),
-        Wanted::Level => write_range(f, 1, u64::from(GREATEST_LEVEL)),
+        Wanted::Level => write_range(f, 1, u64::from(GREATEST_FILE_LEVEL)),
         Wanted::Seed => write_range(f, 0, u64::from(GREATEST_SEED)),
         Wanted::Budget => write_range(f, u64::from(LEAST_BUDGET), u64::from(GREATEST_BUDGET)),
         Wanted::Tolerance => write_range(f, 0, GREATEST_TOLERANCE),

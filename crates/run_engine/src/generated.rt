@@ -1,7 +1,7 @@
 //! The frames of a generated run, and what they sum up to.
 
 ghost use Rattle.std.specs.Prelude.{◌≡◌, ◌+◌, ◌*◌, ◌^◌, ◌<◌, ◌≤◌, max, is_some, [], if◌then◌else◌, IfOk};
-ghost use Rattle.mesh_defs.specs.declared.level.TheConstants.{GREATEST_LEVEL};
+ghost use Rattle.mesh_defs.specs.declared.level.TheConstants.{GREATEST_FILE_LEVEL};
 ghost use Rattle.run_engine.specs.declared.generated.TheConstants.{LINES};
 ghost use Rattle.run_engine.specs.SumView.{IsSumOf, HasGone, SumsUp};
 
@@ -71,7 +71,7 @@ impl Sums {
 /// taken before the first line.
 pub fn sums_of(alloc: Global, n: u32, seed: u32) -> Result<(Sums, Engine), NoMemory>
     requires n_low { 1 ≤ n }
-    requires n_high { n ≤ GREATEST_LEVEL }
+    requires n_high { n ≤ GREATEST_FILE_LEVEL }
     ensures { IfOk result (λ made. SumsUp n seed made.0 made.1) }
 {
     let grid = gen_grid(alloc, n, seed)?;
@@ -86,7 +86,7 @@ pub fn sums_of(alloc: Global, n: u32, seed: u32) -> Result<(Sums, Engine), NoMem
 /// Carries out the line behind the first k of the generated script. A frame line adds the engine's frame.
 fn take_line(n: u32, seed: u32, k: u32, engine: &mut Engine, sums: &mut Sums)
     requires n_low { 1 ≤ n }
-    requires n_high { n ≤ GREATEST_LEVEL }
+    requires n_high { n ≤ GREATEST_FILE_LEVEL }
     requires k { k < LINES }
     requires here { HasGone n seed k engine.old sums.old }
     ensures { HasGone n seed (k + 1) engine.new sums.new }

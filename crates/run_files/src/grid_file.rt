@@ -1,6 +1,7 @@
 //! The grid of a command.
 
 ghost use Rattle.std.specs.Prelude.{◌≡◌, ◌≢◌, ◌^◌, ◌≤◌, List, [], OnOk, IfOk, IfErr, Some, None, Ok, Err};
+ghost use Rattle.mesh_defs.specs.declared.level.TheConstants.{GREATEST_FILE_LEVEL};
 ghost use Rattle.roam_edge.specs.Fault.{Rose, next_count, IsInTime};
 ghost use Rattle.roam_edge.specs.Shelf.{NamedFile, bytes_of};
 ghost use Rattle.pgm_grid.specs.declared.fault.PgmFault.{PgmFault as Fault};
@@ -37,6 +38,7 @@ pub enum GridStop {
 pub fn read_grid<O: Outside>(alloc: Global, name: &str, outside: &mut O) -> Result<Grid, GridStop>
     ensures ok { IfOk result (λ grid. (files : List NamedFile) → (O.moment outside.old).shelf.files ≡ Some files →
         grid_of (bytes_of files name.now) ≡ Ok grid) }
+    ensures level { IfOk result (λ grid. grid.n ≤ GREATEST_FILE_LEVEL) }
     // A file that is read was read to its end, and begins with a whole header.
     ensures ended { OnOk result (HasEnded (O.moment outside.new).shelf) }
     ensures header { OnOk result ((files : List NamedFile) → (O.moment outside.old).shelf.files ≡ Some files →
@@ -88,6 +90,7 @@ pub fn grid_or_end<O: Outside>(alloc: Global, name: &str, outside: &mut O) -> Re
     requires opens { (O.moment outside.old).shelf.opens ≤ 2 ^ 63 }
     ensures same { O.is_same outside.old outside.new }
     ensures ok { IfOk result (λ grid. ReadsGrid (O.moment outside.old) (O.moment outside.new) name.now grid) }
+    ensures level { IfOk result (λ grid. grid.n ≤ GREATEST_FILE_LEVEL) }
     ensures err { IfErr result (λ status. (job : Job) →
         Runs (O.moment outside.old) (O.moment outside.new) (Some (OnGrid name.now job)) status None) }
 {
@@ -106,6 +109,7 @@ pub fn grid_or_end<O: Outside>(alloc: Global, name: &str, outside: &mut O) -> Re
 /// What the end of the file makes of the bytes.
 fn finished(reader: PgmReader) -> Result<Grid, GridStop>
     ensures ok { IfOk result (λ grid. resume reader [] ≡ Ok grid) }
+    ensures level { IfOk result (λ grid. grid.n ≤ GREATEST_FILE_LEVEL) }
     ensures refused { IfErr result (λ stop. (fault : Fault) × (stop ≡ GridStop.Refused fault)
         × (resume reader [] ≡ Err fault)) }
 {

@@ -114,7 +114,7 @@ check-exists c grid (Err line) mesh = (text_outcome (rejection (BadLine line)) R
 -- a certificate can be made
 abbrev pub CertificatesExist : Type 0
 CertificatesExist =
-    (m : Making) (grid : HeightField) → (1 ≤ grid.n) × (grid.n ≤ 11) → 2 ≤ m.budget →
+    (m : Making) (grid : HeightField) → (1 ≤ grid.n) × (grid.n ≤ 14) → 2 ≤ m.budget →
     (cert : Certificate) × IsMade m grid cert
 
 -- where priorities fall and each state has a frame, which is best, a certificate can be made
@@ -133,7 +133,7 @@ certificates-exist falling best frames m grid range low =
 
 -- then making a certificate has an outcome
 pub make-exists : CertificatesExist → (m : Making) (grid : HeightField) (files : List NamedFile) →
-    (1 ≤ grid.n) × (grid.n ≤ 11) → 2 ≤ m.budget →
+    (1 ≤ grid.n) × (grid.n ≤ 14) → 2 ≤ m.budget →
     (end : Outcome) × IsJobOutcome (Make m) grid files end
 make-exists made m grid files range low =
     let cert = made m grid range low in

@@ -149,7 +149,7 @@ module _ (s : Scripted) (grid : HeightField) where
   first_walk = start_walk s.budget (start_state grid s.spacing s.budget)
 
   -- what makes the frames follows it
-  pub first-begins : 2 ≤ s.budget → 1 ≤ grid.n → grid.n ≤ 11 → (follows : Show → Walk → List Picture → Type 0) →
+  pub first-begins : 2 ≤ s.budget → 1 ≤ grid.n → grid.n ≤ 14 → (follows : Show → Walk → List Picture → Type 0) →
       follows s.show first_walk [] → TellsFrames s.show → Begins s.show follows first_walk
   first-begins low n_low n_high follows followed alone = record {
     starts = record { keeps = record { level = refl; low = low; frames = tt }; n_low = n_low; n_high = n_high };

@@ -21,7 +21,6 @@ use Rattle.cert_text.specs.CertReader.{ReadSoFar, read_so_far, nothing_read, cer
 use Rattle.cert_text.specs.CertText.{cert_text, cert_lines}
 use Rattle.cert_text.specs.Laws.{IsCertificateOf, lines_read, WrittenLinesAreRead, WrittenLinesAreEnded}
 use Rattle.cert_text.specs.Laws.{WrittenLinesAreLines}
-use Rattle.mesh_laws.proofs.FlagLemmas.{end-high}
 use Rattle.certificate_laws.specs.declared.fit_reason.Off.{Off}
 use Rattle.certificate_laws.specs.FitCertificate.{FitCertificate, LeadsTo, IsFitSound}
 use Rattle.certificate_laws.specs.declared.limits.TheConstants.{MOST_REASONS}
@@ -144,7 +143,7 @@ module _ (read : WrittenLinesAreRead) (ended : WrittenLinesAreEnded) (whole : Wr
       (read_so_far (Some cert.camera) cert.leaves cert.reasons) (ended cert) (whole n cert is)
       (lines-one n nothing_read (cert_lines cert) ∙ read n cert is)
 
-  module _ (m : Making) (grid : HeightField) (cert : Certificate) (range : (1 ≤ grid.n) × (grid.n ≤ 11))
+  module _ (m : Making) (grid : HeightField) (cert : Certificate) (range : (1 ≤ grid.n) × (grid.n ≤ 14))
       (near : IsWithinReach m) (made : IsMade m grid cert) where
     abbrev state : State
     state = makes_at m grid
@@ -208,6 +207,10 @@ leads-of n heights tolerance has (r ∷ reasons) after leads = (
   leads-of n heights tolerance leads.0 reasons after leads.3,
 )
 
+-- a grid of a file has at most as many reasons as a certificate may
+file-end : (n : ℕ) → n ≤ 11 → 2 ^ (2 * n + 1) ≤ 2 ^ 23
+file-end n high = let few : 2 * n + 1 ≤ 23 = omega arith in pow_mono few
+
 -- its tolerance has 32 bits: that of an error is within the bound of words, and that of a budget is no height of a grid
 -- above 65535
 tolerance-small : (target : Target) (grid : HeightField) (cert : FitCertificate) (triangles : List ℕ) →
@@ -215,14 +218,14 @@ tolerance-small : (target : Target) (grid : HeightField) (cert : FitCertificate)
     IsFitSound grid.n grid.heights (goal_of grid.n target) cert triangles → cert.tolerance < 2 ^ 32
 tolerance-small (AtError thousandths) grid cert triangles valid high sound =
     let own : cert.tolerance ≡ thousandths * 2 ^ grid.n / 1000 = sound.own in
-    let side : 2 ^ grid.n ≤ 2 ^ 11 = pow_mono valid.n_high in
-    let units : thousandths * 2 ^ grid.n ≤ thousandths * 2 ^ 11 = mul-le-mul_left thousandths side in
+    let side : 2 ^ grid.n ≤ 2 ^ 14 = pow_mono valid.n_high in
+    let units : thousandths * 2 ^ grid.n ≤ thousandths * 2 ^ 14 = mul-le-mul_left thousandths side in
     let most : thousandths ≤ 65535999 = high in
     omega arith
 tolerance-small (InBudget budget) grid cert triangles valid low sound =
     let own : cert.tolerance ≤ 2 ^ grid.n * grid.maxval =
     sound-low grid.n grid.heights budget grid.maxval cert triangles valid.bounded sound in
-    let side : 2 ^ grid.n ≤ 2 ^ 11 = pow_mono valid.n_high in
+    let side : 2 ^ grid.n ≤ 2 ^ 14 = pow_mono valid.n_high in
     let top : 2 ^ grid.n * grid.maxval ≤ 2 ^ grid.n * 65535 = mul-le-mul_left (2 ^ grid.n) valid.maxval_high in
     omega arith
 
@@ -236,14 +239,15 @@ sound-fitted target grid cert triangles sound = record {
 
 module _ (read : written.WrittenFitLinesAreRead) (ended : written.WrittenFitLinesAreEnded)
     (whole : written.WrittenFitLinesAreLines) (m : FitMaking) (grid : HeightField) (cert : FitCertificate)
-    (valid : IsHeightField grid) (said : IsTargetOfWords m.target) (made : IsFitMade m grid cert) where
+    (valid : IsHeightField grid) (of_file : grid.n ≤ 11) (said : IsTargetOfWords m.target)
+    (made : IsFitMade m grid cert) where
   -- what is made is a certificate of the grid
   made-fit_certificate : written.IsFitCertificateOf grid.n cert
   made-fit_certificate =
       let n : ℕ = grid.n in
       let sound = made.sound in
       let few = made.few in
-      let end = end-high n valid.n_high in
+      let end = file-end n of_file in
       record {
         few = record {
           in_grid = (valid.n_low, valid.n_high);
@@ -277,7 +281,7 @@ module _ (read : written.WrittenFitLinesAreRead) (ended : written.WrittenFitLine
 
 module _ (read : WrittenKeptLinesAreRead) (ended : WrittenKeptLinesAreEnded) (whole : WrittenKeptLinesAreLines)
     (m : KeptMaking) (grid : HeightField) (points : List Point) (cert : KeptCertificate) (valid : IsHeightField grid)
-    (high : m.thousandths ≤ greatest_error) (inside : All (IsInSquare (2 ^ grid.n)) points)
+    (of_file : grid.n ≤ 11) (high : m.thousandths ≤ greatest_error) (inside : All (IsInSquare (2 ^ grid.n)) points)
     (most : length points ≤ most_points grid.n) (made : IsKeptMade m points grid cert) where
   -- a needed point is one of the grid
   need-point : (p : Point) → IsNeed grid.n points p → IsPointOf grid.n p
@@ -291,9 +295,9 @@ module _ (read : WrittenKeptLinesAreRead) (ended : WrittenKeptLinesAreEnded) (wh
       let n : ℕ = grid.n in
       let sound = made.sound in
       let few = made.few in
-      let end = end-high n valid.n_high in
+      let end = file-end n of_file in
       let leads = sound.fit.leads in
-      let side : 2 ^ n ≤ 2 ^ 11 = pow_mono valid.n_high in
+      let side : 2 ^ n ≤ 2 ^ 11 = pow_mono of_file in
       let units : m.thousandths * 2 ^ n ≤ m.thousandths * 2 ^ 11 = mul-le-mul_left m.thousandths side in
       let square : (2 ^ n + 1) * (2 ^ n + 1) ≤ (2 ^ n + 1) * (2 ^ 11 + 1) =
       mul-le-mul_left (2 ^ n + 1) (omega (arith, side)) in

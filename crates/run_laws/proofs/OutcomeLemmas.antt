@@ -391,9 +391,9 @@ made_walk-states n seed =
 
 -- an outcome exists
 
--- a script over a grid of a level from 1 to 11 has an outcome, from a budget of at least 2
+-- a script over a grid of a level from 1 to 14 has an outcome, from a budget of at least 2
 pub script_outcome-exists : BudgetsAreTwo → FramesExist → (s : Scripted) (grid : HeightField) (script : List ℕ) →
-    2 ≤ s.budget → (1 ≤ grid.n) × (grid.n ≤ 11)
+    2 ≤ s.budget → (1 ≤ grid.n) × (grid.n ≤ 14)
     → (end : Outcome) × IsFramesOutcome s.show 2 (script_walk s grid script) end
 script_outcome-exists two frames s grid script low range =
     let ps = pictures_of frames s.show grid.n [] (script_walk s grid script).frames (no-members grid.n range)
@@ -404,15 +404,15 @@ script_outcome-exists two frames s grid script low range =
 pub made_outcome-exists : FramesExist → (n seed : ℕ) → (1 ≤ n) × (n ≤ 11)
     → (end : Outcome) × IsFramesOutcome (as_sums n seed) 0 (made_walk n seed) end
 made_outcome-exists frames n seed range =
-    let P : ℕ → Type 0 = λ k. (1 ≤ k) × (k ≤ 11) in
+    let P : ℕ → Type 0 = λ k. (1 ≤ k) × (k ≤ 14) in
     let grid : HeightField = made_grid n seed in
     let ps = pictures_of frames (as_sums n seed) grid.n [] (made_walk n seed).frames
-    (no-members grid.n (subst P (sym (made_grid-level n seed)) range)) (made_walk-states n seed) in
+    (no-members grid.n (subst P (sym (made_grid-level n seed)) (range.0, omega (arith, range.1)))) (made_walk-states n seed) in
     (frames_outcome (as_sums n seed) 0 (made_walk n seed) ps.0, (ps.0, ps.1, refl))
 
 job-exists : BudgetsAreTwo → FramesExist → CertificatesExist →
     (job : Job) (r : Result HeightField PgmFault) (files : List NamedFile) → HasBudget job
-    → ((grid : HeightField) → r ≡ Ok grid → (1 ≤ grid.n) × (grid.n ≤ 11)) →
+    → ((grid : HeightField) → r ≡ Ok grid → (1 ≤ grid.n) × (grid.n ≤ 14)) →
     (end : Outcome) × IsGridOutcome job r files end
 job-exists two frames made (Frames s) (Ok grid) files low range =
     script_outcome-exists two frames s grid (bytes_of files s.script) low (range grid refl)
@@ -436,7 +436,7 @@ words-exist : BudgetsAreTwo → FramesExist → CertificatesExist → LevelsAreI
 words-exist two frames made levels None files low = (plain_outcome [] Usage 0, refl)
 words-exist two frames made levels (Some (OnGrid name job)) files low =
     job-exists two frames made job (grid_of (bytes_of files name)) files (low (OnGrid name job) refl)
-    (λ grid is. levels grid (bytes_of files name) is)
+    (λ grid is. let level = levels grid (bytes_of files name) is in (level.0, omega (arith, level.1)))
 words-exist two frames made levels (Some (Generated n seed)) files low =
     made_outcome-exists frames n seed (low (Generated n seed) refl)
 

@@ -236,7 +236,7 @@ last_members-set stays show n before (s ∷ states) (p ∷ ps) set are f =
     last_members-set stays show n p.members states ps (picture-set stays show n before s p are.0 set f.0) are.2 f.1
 
 -- the set of the two base triangles' mesh is closed
-pub no-members : (n : ℕ) → (1 ≤ n) × (n ≤ 11) → IsGridSet n []
+pub no-members : (n : ℕ) → (1 ≤ n) × (n ≤ 14) → IsGridSet n []
 no-members n range = record {
   n_low = range.0;
   n_high = range.1;

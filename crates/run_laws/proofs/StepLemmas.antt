@@ -217,7 +217,7 @@ module _ (before now : Told) (show : Show) (start : Walk) (read : List ℕ) (her
           (shown_acts show (1 + length here.walk.frames) new) come.stands stands));
     }
 
-    module _ (two : BudgetsAreTwo) (frames : FramesExist) (stays : SetsStayClosed) (n : ℕ) (range : (1 ≤ n) × (n ≤ 11))
+    module _ (two : BudgetsAreTwo) (frames : FramesExist) (stays : SetsStayClosed) (n : ℕ) (range : (1 ≤ n) × (n ≤ 14))
         (keeps : KeepsStates n start) (state : State) (shows : shown_by line here.walk.state ≡ state ∷ []) where
       -- a frame was cut short: the later frames need their pictures, though they were never made
       pub cuts-frame : (now' : Told) (files : ℕ) (p : Picture) → IsPicture show (last_members [] here.pictures) state p

@@ -12,7 +12,7 @@ use Rattle.bintree_laws.specs.Corners.{IsInSquare}
 use Rattle.mesh_defs.specs.State.{State, priority_in, text_in}
 use Rattle.mesh_defs.specs.ClosedSet.{IsClosed, among}
 use Rattle.mesh_defs.specs.GridSet.{IsGridSet}
-use Rattle.mesh_defs.specs.declared.level.TheConstants.{GREATEST_LEVEL}
+use Rattle.mesh_defs.specs.declared.level.TheConstants.{GREATEST_LEVEL, GREATEST_FILE_LEVEL}
 use Rattle.mesh_laws.specs.Frame.{IsFrame}
 use Rattle.mesh_laws.specs.Steps.{IsFrameRun}
 use Rattle.mesh_laws.specs.Strip.{strip_of}
@@ -91,7 +91,7 @@ SetsStayClosed = (n budget : ℕ) (priority : ℕ → ℕ) (before after : List 
 -- a grid that is read has a side of 3 to 2049
 abbrev pub LevelsAreInRange : Type 0
 LevelsAreInRange =
-    (grid : HeightField) (bytes : List ℕ) → grid_of bytes ≡ Ok grid → (1 ≤ grid.n) × (grid.n ≤ GREATEST_LEVEL)
+    (grid : HeightField) (bytes : List ℕ) → grid_of bytes ≡ Ok grid → (1 ≤ grid.n) × (grid.n ≤ GREATEST_FILE_LEVEL)
 
 -- an accepted line sets no budget below 2
 abbrev pub BudgetsAreTwo : Type 0
@@ -245,8 +245,8 @@ abbrev pub FitMadeIsAccepted : Type 0
 FitMadeIsAccepted =
     (words : List (List ℕ)) (name : List ℕ) (m : FitMaking) (grid : HeightField) (cert : FitCertificate)
     (c : FitChecking) (files : List NamedFile) (triangles : List ℕ)
-    → command_of words ≡ Some (OnGrid name (MakeFit m)) → IsHeightField grid → IsFitMade m grid cert →
-    c.target ≡ m.target → IsFitted m.target grid triangles
+    → command_of words ≡ Some (OnGrid name (MakeFit m)) → IsHeightField grid → grid.n ≤ GREATEST_FILE_LEVEL →
+    IsFitMade m grid cert → c.target ≡ m.target → IsFitted m.target grid triangles
     → bytes_of files c.certificate ≡ fit_cert_text cert → bytes_of files c.mesh ≡ fit_text c.spacing grid triangles →
     IsAcceptedFitCheck c grid files
 
@@ -256,7 +256,7 @@ abbrev pub KeptMadeIsAccepted : Type 0
 KeptMadeIsAccepted =
     (words : List (List ℕ)) (name : List ℕ) (m : KeptMaking) (grid : HeightField) (points : List Point)
     (cert : KeptCertificate) (c : KeptChecking) (files : List NamedFile) (triangles : List ℕ)
-    → command_of words ≡ Some (OnGrid name (MakeKept m)) → IsHeightField grid → IsKeptMade m points grid cert →
-    c.thousandths ≡ m.thousandths → IsKept m.thousandths points grid triangles
+    → command_of words ≡ Some (OnGrid name (MakeKept m)) → IsHeightField grid → grid.n ≤ GREATEST_FILE_LEVEL →
+    IsKeptMade m points grid cert → c.thousandths ≡ m.thousandths → IsKept m.thousandths points grid triangles
     → points_in grid.n (bytes_of files c.points) ≡ Ok points → bytes_of files c.certificate ≡ kept_cert_text cert
     → bytes_of files c.mesh ≡ fit_text c.spacing grid triangles → IsAcceptedKeptCheck c grid files

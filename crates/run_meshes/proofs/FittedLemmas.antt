@@ -38,7 +38,7 @@ pub record IsFramed (f : Fitted) (seen : HeightField) (tolerance budget : ℕ) :
   pub vertices : f.note.vertices ≡ length (vertices_of seen.n f.fit.leaves)
   pub within : length f.fit.leaves ≤ budget
 
-module _ (f : Fitted) (grid : HeightField) (low : grid.n ≤ 11) where
+module _ (f : Fitted) (grid : HeightField) (low : grid.n ≤ 14) where
   abbrev error : ℕ → ℕ
   error = error_of grid.n grid.heights
 
@@ -52,7 +52,7 @@ module _ (f : Fitted) (grid : HeightField) (low : grid.n ≤ 11) where
       let found = fit_found grid.n 0 error (error-finest grid.n grid.heights) in
       let mesh = fit_mesh grid.n 0 error found.0 found.1 in
       let most = leaves-most grid.n found.0 in
-      let finest : 4 ^ grid.n ≤ 4 ^ 11 = pow-le-pow_right (lit< tt) low in
+      let finest : 4 ^ grid.n ≤ 4 ^ 14 = pow-le-pow_right (lit< tt) low in
       let few : length (leaves_of grid.n found.0) ≤ 2 ^ 32 - 1 = omega (arith, most, finest) in
       let near = (is.best over).optimal (leaves_of grid.n found.0) mesh.conforming few in
       let none = mesh.within in
@@ -87,7 +87,7 @@ module _ (f : Fitted) (grid : HeightField) (low : grid.n ≤ 11) where
       ]
 
 -- of the grid that was read, at the tolerance and the budget of the target
-pub framed-fitted : (f : Fitted) (target : Target) (grid seen : HeightField) (tolerance budget : ℕ) → grid.n ≤ 11 →
+pub framed-fitted : (f : Fitted) (target : Target) (grid seen : HeightField) (tolerance budget : ℕ) → grid.n ≤ 14 →
     seen ≡ grid → f.grid ≡ grid → f.fit.n ≡ grid.n
     → tolerance ≡ tolerance_for grid.n target → budget ≡ budget_for target → IsFramed f seen tolerance budget →
     IsFittedTo f target grid

@@ -1,7 +1,7 @@
 -- What is read of words, in the words of a run, and the bounds of its values.
 -- Words: found_seen, IsFound.
 use Rattle.std.specs.Prelude.{◌≤◌, ◌^◌, unsigned_abs, option_map}
-use Rattle.mesh_defs.specs.declared.level.TheConstants.{GREATEST_LEVEL}
+use Rattle.mesh_defs.specs.declared.level.TheConstants.{GREATEST_FILE_LEVEL}
 use Rattle.wedgie_tree.specs.declared.wedges.TheConstants.{GREATEST_SPACING}
 use Rattle.run_words.specs.Words.{least_budget, greatest_budget, greatest_error}
 use Rattle.run_words.specs.Words as words
@@ -35,7 +35,7 @@ pub record IsFound (f : Found) : Type 0 where
   pub y_near : unsigned_abs f.y ≤ 2 ^ 30
   pub z_near : unsigned_abs f.z ≤ 2 ^ 30
   pub level_low : 1 ≤ f.level
-  pub level_high : f.level ≤ GREATEST_LEVEL
+  pub level_high : f.level ≤ GREATEST_FILE_LEVEL
   pub budget_low : least_budget ≤ f.budget
   pub budget_high : f.budget ≤ greatest_budget
   pub error_high : f.thousandths ≤ greatest_error

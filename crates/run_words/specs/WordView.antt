@@ -1,7 +1,7 @@
 -- The commands of the code in the words of a run, and what the code knows of them.
 -- Words: show_for, IsMeshing, scripted_seen, command_seen, IsFrameCommand, IsCommandInBounds.
 use Rattle.std.specs.Prelude.{◌≤◌}
-use Rattle.mesh_defs.specs.declared.level.TheConstants.{GREATEST_LEVEL}
+use Rattle.mesh_defs.specs.declared.level.TheConstants.{GREATEST_FILE_LEVEL}
 use Rattle.wedgie_tree.specs.declared.wedges.TheConstants.{GREATEST_SPACING}
 use Rattle.run_words.specs.declared.words.FrameWords.{FrameWords}
 use Rattle.run_words.specs.declared.words.Command.{Command}
@@ -61,7 +61,7 @@ pub record IsFrameCommand (command : FrameWords) : Type 0 where
 abbrev pub IsCommandInBounds : Command → Type 0
 IsCommandInBounds (Frames command) = IsFrameCommand command
 IsCommandInBounds (Info grid) = Unit {0}
-IsCommandInBounds (Try n seed) = (1 ≤ n) × (n ≤ GREATEST_LEVEL)
+IsCommandInBounds (Try n seed) = (1 ≤ n) × (n ≤ GREATEST_FILE_LEVEL)
 IsCommandInBounds (Make w) = AreInBounds w.budget w.spacing
 IsCommandInBounds (Check w) = AreInBounds w.budget w.spacing
 IsCommandInBounds (Fit w) = IsFitting w

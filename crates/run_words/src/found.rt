@@ -11,7 +11,9 @@ ghost use Rattle.run_words.specs.FoundView.{found_seen, IsFound};
 
 use crate::fit_words::Target;
 use crate::table::{Kind, Row, Stage, Wanted, commands, goals, row_of, tasks};
-use mesh_defs::{CAMERA_REACH, GREATEST_ERROR, GREATEST_LEVEL, LEAST_TRIANGLES, MOST_TRIANGLES};
+use mesh_defs::{
+    CAMERA_REACH, GREATEST_ERROR, GREATEST_FILE_LEVEL, LEAST_TRIANGLES, MOST_TRIANGLES,
+};
 use roam_edge::LONGEST_PREFIX;
 use roam_num::{read_dec, read_signed, read_thousandths};
 use wedgie_tree::GREATEST_SPACING;
@@ -146,7 +148,7 @@ fn fill<'a>(wanted: Wanted, word: &'a str, found: &mut Found<'a>) -> Option<()>
         Wanted::X => found.x = coordinate_in(word)?,
         Wanted::Y => found.y = coordinate_in(word)?,
         Wanted::Z => found.z = coordinate_in(word)?,
-        Wanted::Level => found.level = small_number(word, 1, GREATEST_LEVEL)?,
+        Wanted::Level => found.level = small_number(word, 1, GREATEST_FILE_LEVEL)?,
         Wanted::Seed => found.seed = small_number(word, 0, GREATEST_SEED)?,
         Wanted::Budget => {
             found.budget = small_number(word, LEAST_BUDGET, GREATEST_BUDGET)?;

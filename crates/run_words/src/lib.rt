@@ -21,7 +21,7 @@ pub use first_wrong::WordFault;
 pub use fit_words::{FitWords, KeepWords, Target};
 pub use found::{GREATEST_BUDGET, GREATEST_SEED, GREATEST_TOLERANCE, LEAST_BUDGET, REACH};
 pub use kept_words::{KeptCheckWords, KeptMakeWords};
-pub use mesh_defs::GREATEST_LEVEL;
+pub use mesh_defs::GREATEST_FILE_LEVEL;
 pub use role::Role;
 pub use showing::{Meshing, Showing};
 pub use table::{Kind, Row, Stage, Wanted, commands, goals, row_of, tasks};

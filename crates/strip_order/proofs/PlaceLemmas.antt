@@ -51,13 +51,13 @@ places_differ (x ∷ xs) (suc i) (suc j) d once less h =
 
 -- ---- how many leaves
 
-few-leaves_of : (n : ℕ) (has : ℕ → Bool) → n ≤ 11 →
-    (2 ≤ length (leaves_of n has)) × (length (leaves_of n has) ≤ 8388608)
+few-leaves_of : (n : ℕ) (has : ℕ → Bool) → n ≤ 14 →
+    (2 ≤ length (leaves_of n has)) × (length (leaves_of n has) ≤ 536870912)
 unfolding leaves_of
 few-leaves_of n has small =
     let x = leaves_under-some (2 * n) has 2 in
     let y = leaves_under-some (2 * n) has 3 in
-    let le : 4 ^ n ≤ 4 ^ 11 = pow-le-pow_right (omega arith) small in
+    let le : 4 ^ n ≤ 4 ^ 14 = pow-le-pow_right (omega arith) small in
     let most : length (leaves_under (2 * n) has 2 ++ leaves_under (2 * n) has 3) ≤ 2 * 4 ^ n = leaves-most n has in
     let l = length-append (leaves_under (2 * n) has 2) (leaves_under (2 * n) has 3) in
     (omega arith, omega arith)
@@ -68,14 +68,14 @@ few-leaves_of n has small =
 pub record IsStrip (n : ℕ) (has : ℕ → Bool) (order : List ℕ) : Type 0 where
   pub closed : IsClosed n has
   pub two : 2 ≤ length order
-  pub few : length order ≤ 8388608
+  pub few : length order ≤ 536870912
   pub listed : (i d : ℕ) → i < length order → Contains (leaves_of n has) (get_or order i d)
   pub level : (i d : ℕ) → i < length order → level_of (get_or order i d) ≤ 2 * n
   pub shared : (i d : ℕ) → i + 1 < length order → SharesEdge n (get_or order i d) (get_or order (i + 1) d)
   pub differ : (i j d : ℕ) → i < j → j < length order → get_or order i d ≢ get_or order j d
 
 -- the strip of a closed set has two entries or more, all leaves and all different, each sharing an edge with the next
-pub IsStrip-strip_of : (n : ℕ) (has : ℕ → Bool) → n ≤ 11 → IsClosed n has → IsStrip n has (strip_of n has)
+pub IsStrip-strip_of : (n : ℕ) (has : ℕ → Bool) → n ≤ 14 → IsClosed n has → IsStrip n has (strip_of n has)
 IsStrip-strip_of n has small closed =
     let ring = IsRing-strip_of n has closed in
     let few = few-leaves_of n has small in
@@ -99,7 +99,7 @@ IsStrip-strip_of n has small closed =
     }
 
 -- the same of a list that is that strip
-pub IsStrip-order : (n : ℕ) (has : ℕ → Bool) (order : List ℕ) → n ≤ 11 → IsClosed n has →
+pub IsStrip-order : (n : ℕ) (has : ℕ → Bool) (order : List ℕ) → n ≤ 14 → IsClosed n has →
     order ≡ strip_of n has → IsStrip n has order
 IsStrip-order n has order small closed is =
     subst (λ (xs : List ℕ). IsStrip n has xs) (sym is) (IsStrip-strip_of n has small closed)

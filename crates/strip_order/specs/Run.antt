@@ -17,7 +17,7 @@ facing levels has a = turned (has_even_level a) (strip_under levels has a)
 -- the run begins with the leaves at and below a, depth first
 pub record IsFront (levels : ℕ) (has : ℕ → Bool) (a : ℕ) (rest run : List ℕ) : Type 0 where
   pub low : 2 ≤ a
-  pub deep : levels + level_of a ≤ 22
+  pub deep : levels + level_of a ≤ 28
   pub is : run ≡ leaves_under levels has a ++ rest
 
 -- these count so many, and were put in the order that faces so

@@ -58,5 +58,5 @@ fn half(number: u32) -> Tri
     ensures level { level_of result ≡ 0 }
 {
     bintree_addr::level_laws();
-    Tri::new(number).unwrap()
+    Tri::at(number).unwrap()
 }

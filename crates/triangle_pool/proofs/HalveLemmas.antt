@@ -240,9 +240,9 @@ module _ (pairs : List ℕ) (before after : List Node) (s k a mate : ℕ) (h : A
     same = λ r e live own apart still outer. same r e live own still outer;
   }
 
-small_set : (pairs : List ℕ) (k a : ℕ) → ((i : ℕ) → get_or pairs i 0 < 2 ^ 23) → a < 2 ^ 23 →
+small_set : (pairs : List ℕ) (k a : ℕ) → ((i : ℕ) → get_or pairs i 0 < 2 ^ 29) → a < 2 ^ 29 →
     k < length pairs → (i : ℕ) →
-    get_or (set pairs k a) i 0 < 2 ^ 23
+    get_or (set pairs k a) i 0 < 2 ^ 29
 small_set pairs k a small high within i = elim (cases_eq i k) [
   | inl h ↦ let z : get_or (set pairs k a) i 0 ≡ a =
       ap (λ t. get_or (set pairs k a) t 0) h ∙ get_or-set_same pairs k a 0 within in

@@ -263,8 +263,8 @@ forest_joined pairs parents n0 n1 n2 n3 s k a f bare r1 r2 again same_count =
 
 -- ---- merging
 
--- in a closed set, a triangle that may be merged may be joined: its address is below 2 ^ 23
-pub bare_of : (n : ℕ) (pairs : List ℕ) (s k a : ℕ) → n ≤ 11 → IsClosed n (split_set pairs) →
+-- in a closed set, a triangle that may be merged may be joined: its address is below 2 ^ 29
+pub bare_of : (n : ℕ) (pairs : List ℕ) (s k a : ℕ) → n ≤ 14 → IsClosed n (split_set pairs) →
     MayMerge pairs s k a → MayJoin pairs s k a
 bare_of n pairs s k a high closed h =
     let low = h.low in
@@ -274,7 +274,7 @@ bare_of n pairs s k a high closed h =
     record {
       address = h.address;
       low = h.low;
-      high = (level_of-below a 22 h.low).0 (omega arith);
+      high = (level_of-below a 28 h.low).0 (omega arith);
       pair = h.pair;
       whole_left =
           h.whole_left;
@@ -443,7 +443,7 @@ leg_less n pairs parents less_parents nodes less s t k j a side small forest clo
     (owner-split (has_children (set pairs k 0)) (2 * mate_of a + side) less_up ∙ sym less_at))
 
 -- once a's children are gone, its mate may be joined
-pub bare_second : (n : ℕ) (pairs : List ℕ) (s t k j a : ℕ) → n ≤ 11 → IsClosed n (split_set pairs) → ArePairs pairs →
+pub bare_second : (n : ℕ) (pairs : List ℕ) (s t k j a : ℕ) → n ≤ 14 → IsClosed n (split_set pairs) → ArePairs pairs →
     MayMerge pairs s k a → 1 ≤ mate_of a → MayMerge pairs t j (mate_of a) →
     MayJoin (set pairs k 0) t j (mate_of a)
 bare_second n pairs s t k j a high closed sound h some g =

@@ -174,7 +174,7 @@ first_closed n pairs parents nodes h =
     }
 
 -- the first pairs, parents and nodes are a mesh
-pub first_mesh : (n : ℕ) (pairs parents : List ℕ) (nodes : List Node) → 1 ≤ n → n ≤ 11 → IsFirst pairs parents nodes →
+pub first_mesh : (n : ℕ) (pairs parents : List ℕ) (nodes : List Node) → 1 ≤ n → n ≤ 14 → IsFirst pairs parents nodes →
     IsMesh n pairs parents nodes
 first_mesh n pairs parents nodes low high h = record {
   n_low = low;

@@ -144,7 +144,7 @@ base_across n pairs parents nodes s h live =
     (read_link (net_of pairs nodes) s (address_at pairs s) whole h.forest.linked live own)
 
 -- a leaf that is not at the finest level may be split into the pair that is given out next
-pub may_split_of : (n : ℕ) (pairs : List ℕ) (free after : FreeState) (s k : ℕ) → n ≤ 11 →
+pub may_split_of : (n : ℕ) (pairs : List ℕ) (free after : FreeState) (s k : ℕ) → n ≤ 14 →
     IsFree pairs free → IsLive pairs s →
     has_children pairs (address_at pairs s) ≡ false → level_of (address_at pairs s) < 2 * n → 1 ≤ room_of pairs →
     IsGivenOut free after k → MaySplit n pairs s k (address_at pairs s)
@@ -244,7 +244,7 @@ next_small most pairs free after k h some next =
 
 -- the leaf at s may be split where the grid and the pairs that a caller sees allow it
 pub may_split_seen : (n most : ℕ) (pairs : List ℕ) (free after : FreeState) (s k : ℕ) (seen_n : ℕ) (seen : List ℕ) →
-    n ≡ seen_n → pairs ≡ seen → n ≤ 11 → HasPairs most pairs free → IsLive seen s →
+    n ≡ seen_n → pairs ≡ seen → n ≤ 14 → HasPairs most pairs free → IsLive seen s →
     has_children seen (address_at seen s) ≡ false → level_of (address_at seen s) < 2 * seen_n → 1 ≤ room_of seen →
     IsGivenOut free after k → MaySplit n pairs s k (address_at pairs s)
 may_split_seen n most pairs free after s k seen_n seen e_n e_pairs high h live leaf coarse room next =

@@ -64,8 +64,8 @@ right_across n pairs parents nodes s a forest closed is low leaf =
     (whole_of n pairs parents nodes forest closed) forest.linked (omega arith)
     (owner-whole (has_children pairs) (2 * a + 1) (ap (has_children pairs) half ∙ leaf) ∙ half ∙ sym is))
 
-below_23 : (a n : ℕ) → 2 ≤ a → n ≤ 11 → level_of a < 2 * n → a < 2 ^ 23
-below_23 a n low high coarse = (level_of-below a 22 low).0 (omega arith)
+below_23 : (a n : ℕ) → 2 ≤ a → n ≤ 14 → level_of a < 2 * n → a < 2 ^ 29
+below_23 a n low high coarse = (level_of-below a 28 low).0 (omega arith)
 
 -- the mate of a leaf is not split, nor are its children
 mate_shut : (n : ℕ) (pairs parents : List ℕ) (nodes : List Node) (s k a : ℕ) → IsForest pairs parents nodes →

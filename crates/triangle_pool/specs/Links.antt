@@ -55,7 +55,7 @@ with_link node false false to = record { children = node.children; base = node.b
 -- what is known of pairs where links are read
 pub record ArePairs (pairs : List ℕ) : Type 0 where
   pub tree : IsTree (record { at = λ s. address_at pairs s; split = λ p. has_children pairs p; link = λ r e. 0 })
-  pub small : (i : ℕ) → slice_index pairs i < 2 ^ 23
+  pub small : (i : ℕ) → slice_index pairs i < 2 ^ 29
   pub short : length pairs < 2 ^ 31
 
 -- the pair of a triangle's children, or nowhere where it is a leaf
@@ -78,7 +78,7 @@ pub record IsForest (pairs parents : List ℕ) (nodes : List Node) : Type 0 wher
 pub record MayHalve (pairs : List ℕ) (s k a mate : ℕ) : Type 0 where
   pub address : address_at pairs s ≡ a
   pub low : 2 ≤ a
-  pub high : a < 2 ^ 23
+  pub high : a < 2 ^ 29
   pub leaf : has_children pairs a ≡ false
   pub within : k < length pairs
   pub free : slice_index pairs k ≡ 0
@@ -145,7 +145,7 @@ pub record MaySplitMate (pairs : List ℕ) (t k j a : ℕ) : Type 0 where
 pub record MayJoin (pairs : List ℕ) (s k a : ℕ) : Type 0 where
   pub address : address_at pairs s ≡ a
   pub low : 2 ≤ a
-  pub high : a < 2 ^ 23
+  pub high : a < 2 ^ 29
   pub pair : slice_index pairs k ≡ a
   pub whole_left : has_children pairs (2 * a) ≡ false
   pub whole_right : has_children pairs (2 * a + 1) ≡ false

@@ -21,7 +21,7 @@ pub const NOWHERE: u32 = u32::MAX;
 
 pub fn address(pairs: &[u32], s: u32) -> u32
     requires live { IsLive pairs.now s }
-    requires small { slice_index pairs.now (s / 2) < 2 ^ 23 }
+    requires small { slice_index pairs.now (s / 2) < 2 ^ 29 }
     requires within { s / 2 < length pairs.now }
     ensures { result ≡ address_at pairs.now s }
 {
@@ -30,10 +30,10 @@ pub fn address(pairs: &[u32], s: u32) -> u32
 
 pub fn level(number: u32) -> u32
     requires low { 2 ≤ number }
-    requires high { number < 2 ^ 24 }
+    requires high { number < 2 ^ 30 }
     ensures { result ≡ level_of number }
 {
-    match Tri::new(number) {
+    match Tri::at(number) {
         Some(tri) => tri.level(),
         None => unreachable!(),
     }

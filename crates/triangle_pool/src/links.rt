@@ -32,7 +32,7 @@ fn turn(nodes: &mut [Node], x: u32, finer: bool, even: bool, to: u32)
 /// Links the edge across f, which is that of the leaf at x, to the slot `to`.
 pub fn relink(pairs: &[u32], nodes: &mut [Node], x: u32, f: u32, to: u32)
     requires low { 4 ≤ f }
-    requires high { f < 2 ^ 24 }
+    requires high { f < 2 ^ 30 }
     requires pairs { ArePairs pairs.now }
     requires length { length nodes.old ≡ 2 * length pairs.now }
     requires across { IsAcross pairs.now f x }

@@ -78,7 +78,7 @@ impl Nodes {
         requires live { IsLive self.now.pairs s }
         ensures { result ≡ address_at self.now.pairs s }
     {
-        Tri::new(address(&self.pairs, s)).unwrap()
+        Tri::at(address(&self.pairs, s)).unwrap()
     }
 
     /// Whether the slot is live.

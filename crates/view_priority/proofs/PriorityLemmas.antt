@@ -76,10 +76,10 @@ pub as_box-is : (c : Cuboid) (b : BoundingBox) → c.x0 ≡ b.x0 → c.x1 ≡ b.
     c.z1 ≡ b.z1 → as_box c ≡ b
 as_box-is c b x0 x1 y0 y1 z0 z1 = rw (x0, x1, y0, y1, z0, z1) refl
 
--- a cuboid from 0 to 2^21, whose ends are in order, lies within reach
+-- a cuboid from 0 to 2^24, whose ends are in order, lies within reach
 pub as_box-within_reach : (c : Cuboid) (b : BoundingBox) → as_box c ≡ b → IsOrdered b → pos 0 ≤ℤ c.x0 →
     pos 0 ≤ℤ c.y0 → pos 0 ≤ℤ c.z0 →
-    c.x1 ≤ℤ pos (2 ^ 21) → c.y1 ≤ℤ pos (2 ^ 21) → c.z1 ≤ℤ pos (2 ^ 21) → IsWithinReach (2 ^ 21) (as_box c)
+    c.x1 ≤ℤ pos (2 ^ 24) → c.y1 ≤ℤ pos (2 ^ 24) → c.z1 ≤ℤ pos (2 ^ 24) → IsWithinReach (2 ^ 24) (as_box c)
 as_box-within_reach c b is ordered x_from y_from z_from x_small y_small z_small =
     let order : IsOrdered (as_box c) = subst IsOrdered (sym is) ordered in
     let x = order.x in

@@ -13,7 +13,7 @@ use mesh_defs::roots;
 ///
 /// Cost (not proved): that of a square root.
 pub fn distance(c: &Cuboid, camera: &Camera) -> u64
-    requires reach { IsWithinReach (2 ^ 21) (as_box c.now) }
+    requires reach { IsWithinReach (2 ^ 24) (as_box c.now) }
     ensures value { result ≡ distance_of (as_box c.now) camera.now }
     ensures root { IsRoot (squared_distance (as_box c.now) camera.now) result }
     ensures bounded { result < 2 ^ 31 }
@@ -24,7 +24,7 @@ pub fn distance(c: &Cuboid, camera: &Camera) -> u64
 
 /// The sum of the squares of the gaps on the three axes.
 fn squared_gaps(c: &Cuboid, camera: &Camera) -> u64
-    requires { IsWithinReach (2 ^ 21) (as_box c.now) }
+    requires { IsWithinReach (2 ^ 24) (as_box c.now) }
     ensures value { result ≡ squared_distance (as_box c.now) camera.now }
     ensures bounded { result < 2 ^ 62 }
 {
@@ -37,10 +37,10 @@ fn squared_gaps(c: &Cuboid, camera: &Camera) -> u64
 /// How far a coordinate is from a range: 0 within it, else the distance to the nearer end.
 fn gap_to(coordinate: i64, low: i64, high: i64) -> u64
     requires coordinate_size { unsigned_abs coordinate ≤ 2 ^ 30 }
-    requires low_reach { unsigned_abs low ≤ 2 ^ 21 }
-    requires high_reach { unsigned_abs high ≤ 2 ^ 21 }
+    requires low_reach { unsigned_abs low ≤ 2 ^ 24 }
+    requires high_reach { unsigned_abs high ≤ 2 ^ 24 }
     ensures value { result ≡ gap coordinate low high }
-    ensures bounded { result ≤ 2 ^ 30 + 2 ^ 21 }
+    ensures bounded { result ≤ 2 ^ 30 + 2 ^ 24 }
 {
     if coordinate < low {
         (low - coordinate).unsigned_abs()

@@ -100,11 +100,11 @@ IsReadSoFar-none g x0 y row none =
     })
 
 -- there is room for one more
-pub IsReadSoFar-room : (g : HeightField) (x0 y : ℕ) (row : List ℕ) (x : ℕ) → g.n ≤ 11 → x ≤ 2 ^ g.n →
+pub IsReadSoFar-room : (g : HeightField) (x0 y : ℕ) (row : List ℕ) (x : ℕ) → g.n ≤ 14 → x ≤ 2 ^ g.n →
     IsReadSoFar g x0 y row x →
-    length row < 2049
+    length row < 16385
 IsReadSoFar-room g x0 y row x small fits so_far =
-    let most : 2 ^ g.n ≤ 2 ^ 11 = pow_mono small in
+    let most : 2 ^ g.n ≤ 2 ^ 14 = pow_mono small in
     let count : x0 + length row ≡ x = so_far.count in
     omega arith
 

@@ -1,9 +1,9 @@
 -- Thickness by the children, and a bound on it.
 use Rattle.std.proofs.Common.{◌≡◌, ℕ, zero, suc, ◌+◌, ◌-◌, ◌*◌, ◌<◌, ◌≤◌, max, List, length, get_or, refl, arith}
 use Rattle.std.proofs.Common.{⊎_elim}
-use Rattle.std.proofs.Math.Nat.{mul-le-mul_left}
 use Rattle.std.proofs.lemmas.Bool.{cases_lt}
 use Rattle.std.proofs.lemmas.List.{get_or_past}
+use Rattle.std.proofs.lemmas.Nat.{mul-le}
 use Rattle.std.specs.List.{All}
 use Rattle.mesh_defs.specs.declared.point.Point.{Point}
 use Rattle.mesh_defs.specs.declared.point.Corners.{Corners}
@@ -50,14 +50,15 @@ thickness_under-le (suc levels) n heights top a bounded = omega (
   deviation-le n heights top (corners_of n a) bounded,
 )
 
-thickness-limit : (top levels t : ℕ) → t ≤ 2 * top * levels → top ≤ 65535 → levels ≤ 22 → t ≤ 2883540
-thickness-limit top levels t h top_small few =
-    let wide : 2 * top * levels ≤ 2 * top * 22 = mul-le-mul_left (2 * top) few in omega arith
+thickness-limit : (top levels n t : ℕ) → t ≤ 2 * top * levels → top ≤ 65535 → levels ≤ 2 * n → t ≤ 262140 * n
+thickness-limit top levels n t h top_small few =
+    let wide : 2 * top * levels ≤ 131070 * (2 * n) = mul-le (2 * top) levels 131070 (2 * n) (omega arith) few in
+    omega arith
 
--- 22 levels, each of at most twice 65,535
-pub thickness_of-le : (g : HeightField) (a : ℕ) → IsHeightField g → thickness_of g.n g.heights a ≤ 2883540
+-- 2 n levels, each of at most twice 65,535
+pub thickness_of-le : (g : HeightField) (a : ℕ) → IsHeightField g → thickness_of g.n g.heights a ≤ 262140 * g.n
 unfolding thickness_of
 thickness_of-le g a valid =
-    thickness-limit g.maxval (2 * g.n - level_of a) (thickness_under (2 * g.n - level_of a) g.n g.heights a)
+    thickness-limit g.maxval (2 * g.n - level_of a) g.n (thickness_under (2 * g.n - level_of a) g.n g.heights a)
     (thickness_under-le (2 * g.n - level_of a) g.n g.heights g.maxval a valid.bounded) valid.maxval_high
-    (let small : g.n ≤ 11 = valid.n_high in omega arith)
+    (omega arith)

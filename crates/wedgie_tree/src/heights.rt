@@ -8,11 +8,8 @@ ghost use Rattle.wedgie_tree.specs.Edits.{with_row};
 
 use crate::Area;
 use arrayvec::ArrayVec;
-use pgm_grid::Grid;
+use pgm_grid::{Grid, MOST_SIDE};
 use roam_lanes::raise_row;
-
-/// The most points of a row of a grid.
-const ROW: usize = 2049;
 
 /// Puts a row of heights from the point (x, y) to the right.
 pub fn put_row(grid: &mut Grid, x: u32, y: u32, row: &[u16])
@@ -33,7 +30,7 @@ pub fn put_row(grid: &mut Grid, x: u32, y: u32, row: &[u16])
 }
 
 /// The heights of these columns of a row.
-fn row_of(grid: &Grid, x0: u32, x1: u32, y: u32) -> ArrayVec<u16, ROW>
+fn row_of(grid: &Grid, x0: u32, x1: u32, y: u32) -> ArrayVec<u16, MOST_SIDE>
     requires order { x0 ≤ x1 }
     requires in_columns { x1 ≤ 2 ^ grid.now.n }
     requires in_rows { y ≤ 2 ^ grid.now.n }

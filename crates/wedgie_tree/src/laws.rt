@@ -38,8 +38,8 @@ pub fn wedge_laws()
     ensures ordered { (n : ℕ) (heights : List ℕ) (a : ℕ) → 2 ≤ a → level_of a ≤ 2 * n →
         low_of n heights a ≤ high_of n heights a }
 
-    // A level adds at most twice the greatest height, and there are at most 22 levels below a triangle.
-    ensures bounded { (g : HeightField) (a : ℕ) → IsHeightField g → thickness_of g.n g.heights a ≤ 2883540 }
+    // A level adds at most twice the greatest height, and there are at most 2 n levels below a triangle.
+    ensures bounded { (g : HeightField) (a : ℕ) → IsHeightField g → thickness_of g.n g.heights a ≤ 262140 * g.n }
 {}
 
 /// What a change of heights leaves as it was: the thickness and the box of each triangle that holds no

@@ -45,8 +45,8 @@ pub fn box_around(corners: Corners, spacing: u32, low: u16, high: u16) -> Cuboid
     ensures y1 { result.y1 ≡ pos (spacing * greatest_of_3 corners.apex.y corners.v0.y corners.v1.y) }
     ensures z0 { result.z0 ≡ pos low }
     ensures z1 { result.z1 ≡ pos high }
-    ensures x_small { spacing * greatest_of_3 corners.apex.x corners.v0.x corners.v1.x ≤ 2 ^ 21 }
-    ensures y_small { spacing * greatest_of_3 corners.apex.y corners.v0.y corners.v1.y ≤ 2 ^ 21 }
+    ensures x_small { spacing * greatest_of_3 corners.apex.x corners.v0.x corners.v1.x ≤ 2 ^ 24 }
+    ensures y_small { spacing * greatest_of_3 corners.apex.y corners.v0.y corners.v1.y ≤ 2 ^ 24 }
 {
     let x0 = spacing * least(corners.apex.x, corners.v0.x, corners.v1.x);
     let x1 = spacing * greatest(corners.apex.x, corners.v0.x, corners.v1.x);

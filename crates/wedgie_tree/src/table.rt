@@ -156,5 +156,5 @@ fn base(number: u32) -> Tri
     ensures level { level_of result ≡ 0 }
 {
     level_laws();
-    Tri::new(number).unwrap()
+    Tri::at(number).unwrap()
 }

@@ -24,7 +24,7 @@ use pgm_grid::Grid;
 use std::alloc::Global;
 use std::marker::Model;
 
-/// The most world units that a grid step has: so no corner of a box lies beyond 2^21.
+/// The most world units that a grid step has: so no corner of a box lies beyond 2^24.
 pub const GREATEST_SPACING: u32 = 1024;
 
 /// A grid of heights with the thickness, the least and the greatest height of each of its triangles.
@@ -143,7 +143,7 @@ impl Wedges {
     pub fn thickness(&self, t: Tri) -> u32
         requires level { level_of t ≤ 2 * self.now.n }
         ensures value { result ≡ thickness_of self.now.n self.now.heights t }
-        ensures bounded { result ≤ 2883540 }
+        ensures bounded { result ≤ 262140 * self.now.n }
     {
         wedge_laws();
         if t.level() == 2 * self.grid.n() {
@@ -188,13 +188,13 @@ impl Wedges {
         ensures z0 { result.1.z0 ≡ (box_of self.now.n self.now.heights spacing t).z0 }
         ensures z1 { result.1.z1 ≡ (box_of self.now.n self.now.heights spacing t).z1 }
 
-        // Lower ends are at least 0, and at most the upper ends, which are at most 2^21.
+        // Lower ends are at least 0, and at most the upper ends, which are at most 2^24.
         ensures x_from_0 { pos 0 ≤ℤ result.1.x0 }
         ensures y_from_0 { pos 0 ≤ℤ result.1.y0 }
         ensures z_from_0 { pos 0 ≤ℤ result.1.z0 }
-        ensures x_small { result.1.x1 ≤ℤ pos (2 ^ 21) }
-        ensures y_small { result.1.y1 ≤ℤ pos (2 ^ 21) }
-        ensures z_small { result.1.z1 ≤ℤ pos (2 ^ 21) }
+        ensures x_small { result.1.x1 ≤ℤ pos (2 ^ 24) }
+        ensures y_small { result.1.y1 ≤ℤ pos (2 ^ 24) }
+        ensures z_small { result.1.z1 ≤ℤ pos (2 ^ 24) }
     {
         wedge_laws();
         let corners = t.corners(self.grid.n());
@@ -218,13 +218,13 @@ impl Wedges {
         ensures z0 { result.z0 ≡ (box_of self.now.n self.now.heights spacing t).z0 }
         ensures z1 { result.z1 ≡ (box_of self.now.n self.now.heights spacing t).z1 }
 
-        // Lower ends are at least 0, and at most the upper ends, which are at most 2^21.
+        // Lower ends are at least 0, and at most the upper ends, which are at most 2^24.
         ensures x_from_0 { pos 0 ≤ℤ result.x0 }
         ensures y_from_0 { pos 0 ≤ℤ result.y0 }
         ensures z_from_0 { pos 0 ≤ℤ result.z0 }
-        ensures x_small { result.x1 ≤ℤ pos (2 ^ 21) }
-        ensures y_small { result.y1 ≤ℤ pos (2 ^ 21) }
-        ensures z_small { result.z1 ≤ℤ pos (2 ^ 21) }
+        ensures x_small { result.x1 ≤ℤ pos (2 ^ 24) }
+        ensures y_small { result.y1 ≤ℤ pos (2 ^ 24) }
+        ensures z_small { result.z1 ≤ℤ pos (2 ^ 24) }
     {
         let (_, cuboid) = self.thickness_and_cuboid(t, spacing);
         cuboid

@@ -1,4 +1,4 @@
--- A grid has splittable triangles, and fewer than 2 ^ 23.
+-- A grid has splittable triangles, and fewer than 2 ^ 29.
 use Rattle.std.proofs.Common.{arith}
 use Rattle.mesh_laws.proofs.FlagLemmas.{end-low, end-high}
 use Rattle.address_flags.proofs.flags.end.Goals as goal

@@ -6,6 +6,6 @@ use Rattle.cert_text.proofs.cert_line.leaf_end.Goals as goal
 pub returns-clause-high : goal.returns-clause-high
 returns-clause-high c =
     let top = c.requires.in_grid.1 in
-    let small : 2 * c.args.n + 2 ≤ 24 = omega arith in
-    let below : 2 ^ (2 * c.args.n + 2) ≤ 2 ^ 24 = pow_mono small in
+    let small : 2 * c.args.n + 2 ≤ 30 = omega arith in
+    let below : 2 ^ (2 * c.args.n + 2) ≤ 2 ^ 30 = pow_mono small in
     omega arith

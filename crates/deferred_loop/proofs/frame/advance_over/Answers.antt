@@ -21,7 +21,8 @@ split_at-requires g c κs within =
     (sym c.in-Split.ensures.asked.set) c.steps.invariant.counters in
     let rising = counters_small (g.M.QueuedMesh.seen c.args.mesh.now).set
     (g.M.QueuedMesh.seen c.choose.new.mesh).set c.steps.splits
-    c.steps.merges counters c.requires.1.1.1.1.1.1.1.1.1.1.1 small.0 small.1 in
+    c.steps.merges counters c.requires.1.1.1.1.1.1.1.1.1.1.1 small.0 small.1
+    (omega (arith, c.in-Split.ensures.asked.settled.grid, c.in-Split.ensures.asked.settled.valid.n_high)) in
     let next = subst (λ (z : PoolSet). IsNextSplit g.w.n g.w.budget g.w.priority z.members c.in-Split.t.tri)
     (sym c.in-Split.ensures.asked.set) c.in-Split.ensures.next in
     let room = subst (λ z. HasRoom g.w.n z g.w.budget) (sym counters.most) c.requires.1.1.1.1.1.1.1.1.1.1.0 in
@@ -96,7 +97,8 @@ merge_at-requires g c κs within =
     (sym c.in-Merge.ensures.asked.set) c.steps.invariant.counters in
     let rising = counters_small (g.M.QueuedMesh.seen c.args.mesh.now).set
     (g.M.QueuedMesh.seen c.choose.new.mesh).set c.steps.splits
-    c.steps.merges counters c.requires.1.1.1.1.1.1.1.1.1.1.1 small.0 small.1 in
+    c.steps.merges counters c.requires.1.1.1.1.1.1.1.1.1.1.1 small.0 small.1
+    (omega (arith, c.in-Merge.ensures.asked.settled.grid, c.in-Merge.ensures.asked.settled.valid.n_high)) in
     let next = subst (λ (z : PoolSet). IsNextMerge g.w.n g.w.budget g.w.priority z.members c.in-Merge.t.tri)
     (sym c.in-Merge.ensures.asked.set) c.in-Merge.ensures.next in
     let hold = subst (λ (z : Readings). ReadingsHold g.w.n g.w.priority c.args.odometer z)

@@ -2,12 +2,12 @@ use Rattle.std.proofs.Common.{ℕ, ◌^◌, ◌≤◌, ◌<◌, arith}
 use Rattle.std.proofs.Math.Nat.{pow-le-pow_right}
 use Rattle.engine_uses.proofs.draw.room.Goals as goal
 
--- a power of 4 up to the eleventh
-within : (n : ℕ) → n ≤ 11 → (1 ≤ 4 ^ n) × (4 ^ n ≤ 4194304)
+-- a power of 4 up to the fourteenth
+within : (n : ℕ) → n ≤ 14 → (1 ≤ 4 ^ n) × (4 ^ n ≤ 268435456)
 within n small =
     let low : 4 ^ 0 ≤ 4 ^ n = pow-le-pow_right {n = 4} (let h : 0 < 4 = omega arith in
     h) {i = 0} {j = n} (let h : 0 ≤ n = omega arith in h) in
-    let high : 4 ^ n ≤ 4 ^ 11 = pow-le-pow_right {n = 4} (let h : 0 < 4 = omega arith in h) small in
+    let high : 4 ^ n ≤ 4 ^ 14 = pow-le-pow_right {n = 4} (let h : 0 < 4 = omega arith in h) small in
     (omega arith, omega arith)
 
 pub pow-requires : goal.pow-requires

@@ -1,12 +1,11 @@
 -- The triangle, and then what lies in its two halves.
-use Rattle.std.proofs.Common.{◌≡◌, ℕ, ◌*◌, ◌/◌, ◌≤◌, ◌<◌, ◌-◌, Bool, true, false, IsTrue, List, All, refl, sym, ◌∙◌, subst, arith}
+use Rattle.std.proofs.Common.{◌≡◌, ℕ, ◌*◌, ◌≤◌, ◌<◌, ◌-◌, Bool, true, false, List, All, sym, ◌∙◌, subst, arith}
 use Rattle.mesh_defs.specs.Triangle.{level_of}
 use Rattle.mesh_defs.specs.ClosedSet.{leaves_under}
 use Rattle.mesh_laws.specs.Sweep.{is_flagged}
-use Rattle.mesh_laws.proofs.DescentLemmas.{IsAddress-level}
 use Rattle.fit_laws.specs.Error.{error_of}
-use Rattle.fit_certify.proofs.SettleLemmas.{going-through, neither, either-more, under-both, under-whole}
-use Rattle.fit_certify.proofs.SettleLemmas.{under-finest, finest-none}
+use Rattle.fit_certify.proofs.SettleLemmas.{going-through, neither, either-split, ready-on, half-ready}
+use Rattle.fit_certify.proofs.SettleLemmas.{under-both, under-whole, under-finest, finest-none}
 use Rattle.fit_certify.proofs.settle.+sweep_under.Goals as goal
 
 pub returns-then-level-n-clause-none : goal.returns-then-level-n-clause-none
@@ -15,11 +14,9 @@ returns-then-level-n-clause-none m c _ =
     let e : ℕ → ℕ = error_of n c.args.grid.now.heights in
     let level = c.level.ensures.value in
     let value = c.n.ensures.value in
-    let fine : 2 * n ≤ level_of c.args.t = omega arith in (
-      refl,
-      under-finest n (is_flagged c.args.flags.now) (λ a. e a ≤ c.args.tolerance) c.args.t (2 * n - level_of c.args.t)
-          (omega arith) (finest-none n c.args.grid.now.heights c.args.tolerance c.args.t c.requires.address fine),
-    )
+    let fine : 2 * n ≤ level_of c.args.t = omega arith in
+    under-finest n (is_flagged c.args.flags.now) (λ a. e a ≤ c.args.tolerance) c.args.t (2 * n - level_of c.args.t)
+    (omega arith) (finest-none n c.args.grid.now.heights c.args.tolerance c.args.t c.requires.address fine)
 
 pub returns-then-not-is_set-clause-none : goal.returns-then-not-is_set-clause-none
 returns-then-not-is_set-clause-none m c not =
@@ -27,10 +24,8 @@ returns-then-not-is_set-clause-none m c not =
     let e : ℕ → ℕ = error_of n c.args.grid.now.heights in
     let has : ℕ → Bool = is_flagged c.split_leaf.new.flags in
     let unset : has c.args.t ≡ false = sym c.is_set.ensures.value ∙ c.if-not-is_set.true in
-    let own = c.in_ok-is_off.ensures.none not in (
-      own.0,
-      under-whole n has (λ a. e a ≤ c.args.tolerance) c.args.t (2 * n - level_of c.args.t) unset (own.1 unset),
-    )
+    under-whole n has (λ a. e a ≤ c.args.tolerance) c.args.t (2 * n - level_of c.args.t) unset
+    (c.in_ok-is_off.ensures.none not unset)
 
 pub sweep_under-requires : goal.sweep_under-requires
 sweep_under-requires m c =
@@ -40,25 +35,18 @@ sweep_under-requires m c =
     let coarse : level_of c.args.t < 2 * n = (let above = c.if-level-n.false in omega arith) in
     let own = c.left.ensures.value in
     let more = c.left.ensures.level in
-    let low = c.requires.address.low in
     let falls = c.decreases in
     let member : is_flagged c.split_leaf.new.flags c.args.t ≡ true = sym c.is_set.ensures.value ∙ c.if-not-is_set.false in
-    let half : c.args.t ≡ c.left.result / 2 = omega arith in (
+    let half = half-ready n c.split_leaf.new.flags c.args.t c.left.result c.requires.address.low coarse (omega arith)
+    c.left.ensures.level member in (
       omega arith,
       (
-        IsAddress-level n c.left.result (omega arith) (omega arith),
+        half.0,
         (
-          c.requires.lower,
-          (
-            c.split_leaf.ensures.flags ∙ c.requires.flags,
-            (
+          half.1,
+          ready-on n c.args.grid.now.heights c.args.tolerance c.args.lower c.args.flags.now
+              c.args.known.now c.split_leaf.new.flags c.split_leaf.new.known c.requires.ready c.split_leaf.ensures.kept
               c.in_ok-is_off.ensures.going.closed,
-              (
-                λ _. subst (λ z. IsTrue (is_flagged c.split_leaf.new.flags z)) half member,
-                (c.split_leaf.ensures.room ∙ c.requires.room, c.split_leaf.ensures.known),
-              ),
-            ),
-          ),
         ),
       ),
     )
@@ -66,34 +54,27 @@ sweep_under-requires m c =
 pub sweep_under-requires-2 : goal.sweep_under-requires-2
 sweep_under-requires-2 m c =
     let n : ℕ = c.args.grid.now.n in
+    let heights : List ℕ = c.args.grid.now.heights in
     let level = c.level.ensures.value in
     let value = c.n.ensures.value in
     let coarse : level_of c.args.t < 2 * n = (let above = c.if-level-n.false in omega arith) in
     let own = c.right.ensures.value in
     let more = c.right.ensures.level in
-    let low = c.requires.address.low in
     let falls = c.decreases in
     let member : is_flagged c.split_leaf.new.flags c.args.t ≡ true = sym c.is_set.ensures.value ∙ c.if-not-is_set.false in
-    let half : c.args.t ≡ c.right.result / 2 = omega arith in (
+    let half = half-ready n c.sweep_under.new.flags c.args.t c.right.result c.requires.address.low coarse (omega arith)
+    c.right.ensures.level (c.in_ok-left.ensures.going.kept c.args.t member) in
+    let ready = ready-on n heights c.args.tolerance c.args.lower c.args.flags.now c.args.known.now
+    c.split_leaf.new.flags c.split_leaf.new.known c.requires.ready c.split_leaf.ensures.kept
+    c.in_ok-is_off.ensures.going.closed in (
       omega arith,
       (
-        IsAddress-level n c.right.result (omega arith) (omega arith),
+        half.0,
         (
-          c.requires.lower,
-          (
-            c.sweep_under.ensures.flags ∙ c.split_leaf.ensures.flags ∙ c.requires.flags,
-            (
+          half.1,
+          ready-on n heights c.args.tolerance c.args.lower c.split_leaf.new.flags
+              c.split_leaf.new.known c.sweep_under.new.flags c.sweep_under.new.known ready c.sweep_under.ensures.kept
               c.in_ok-left.ensures.going.closed,
-              (
-                λ _. subst (λ z. IsTrue (is_flagged c.sweep_under.new.flags z)) half
-                    (c.in_ok-left.ensures.going.kept c.args.t member),
-                (
-                  c.sweep_under.ensures.room ∙ c.split_leaf.ensures.room ∙ c.requires.room,
-                  c.sweep_under.ensures.known,
-                ),
-              ),
-            ),
-          ),
         ),
       ),
     )
@@ -109,18 +90,14 @@ returns-clause-going m c =
     c.sweep_under-2.new.flags c.split_leaf.new.reasons.items c.sweep_under.new.reasons.items
     c.sweep_under-2.new.reasons.items c.in_ok-left.ensures.going c.in_ok-right.ensures.going)
 
-pub returns-clause-more : goal.returns-clause-more
-returns-clause-more m c =
+pub returns-clause-split : goal.returns-clause-split
+returns-clause-split m c =
     let n : ℕ = c.args.grid.now.n in
-    either-more n c.args.flags.now c.split_leaf.new.flags c.sweep_under-2.new.flags
-    c.in_ok-is_off.is_off c.either.result c.either-2.result c.either-2.ensures
-    c.in_ok-is_off.ensures.more (λ not. (c.in_ok-is_off.ensures.none not).0)
-    (either-more n c.split_leaf.new.flags c.sweep_under.new.flags c.sweep_under-2.new.flags
+    either-split n c.args.flags.now c.split_leaf.new.flags c.sweep_under-2.new.flags
+    c.in_ok-is_off.is_off c.either.result c.either-2.result c.either-2.ensures c.in_ok-is_off.ensures.split
+    (either-split n c.split_leaf.new.flags c.sweep_under.new.flags c.sweep_under-2.new.flags
     c.in_ok-left.left c.in_ok-right.right c.either.result c.either.ensures
-    c.in_ok-left.ensures.more (λ not. (c.in_ok-left.ensures.none not).0)
-    c.in_ok-right.ensures.more (λ not. (c.in_ok-right.ensures.none not).0))
-    (λ not. let both = neither c.in_ok-left.left c.in_ok-right.right c.either.result c.either.ensures not in
-    (c.in_ok-right.ensures.none both.1).0 ∙ (c.in_ok-left.ensures.none both.0).0)
+    c.in_ok-left.ensures.split c.in_ok-right.ensures.split)
 
 pub returns-clause-none : goal.returns-clause-none
 returns-clause-none m c not =
@@ -136,14 +113,10 @@ returns-clause-none m c not =
     c.in_ok-right.ensures.going.kept t (c.in_ok-left.ensures.going.kept t member) in
     let all = neither c.in_ok-is_off.is_off c.either.result c.either-2.result c.either-2.ensures not in
     let both = neither c.in_ok-left.left c.in_ok-right.right c.either.result c.either.ensures all.1 in
-    let own = c.in_ok-is_off.ensures.none all.0 in
-    let left = c.in_ok-left.ensures.none both.0 in
-    let right = c.in_ok-right.ensures.none both.1 in (
-      right.0 ∙ left.0 ∙ own.0,
-      under-both n (is_flagged c.sweep_under-2.new.flags) P t c.requires.address.low coarse last
-          (subst (λ (l : List Bool). All P (leaves_under (2 * n - level_of (2 * t)) (is_flagged l) (2 * t))) (sym right.0)
-          (subst (λ z. All P (leaves_under (2 * n - level_of z) (is_flagged c.sweep_under.new.flags) z))
-          c.left.ensures.value left.1))
-          (subst (λ z. All P (leaves_under (2 * n - level_of z) (is_flagged c.sweep_under-2.new.flags) z))
-          c.right.ensures.value right.1),
-    )
+    under-both n (is_flagged c.sweep_under-2.new.flags) P t c.requires.address.low coarse last
+    (subst (λ (l : List Bool). All P (leaves_under (2 * n - level_of (2 * t)) (is_flagged l) (2 * t)))
+    (sym (c.in_ok-right.ensures.split.same both.1))
+    (subst (λ z. All P (leaves_under (2 * n - level_of z) (is_flagged c.sweep_under.new.flags) z))
+    c.left.ensures.value (c.in_ok-left.ensures.none both.0)))
+    (subst (λ z. All P (leaves_under (2 * n - level_of z) (is_flagged c.sweep_under-2.new.flags) z))
+    c.right.ensures.value (c.in_ok-right.ensures.none both.1))

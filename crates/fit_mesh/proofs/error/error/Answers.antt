@@ -1,5 +1,5 @@
 -- A finest triangle has no error.
-use Rattle.std.proofs.Common.{◌≤◌, sym, ◌∙◌, arith}
+use Rattle.std.proofs.Common.{◌≤◌, sym, arith}
 use Rattle.mesh_laws.proofs.DescentLemmas.{IsAddress-level}
 use Rattle.fit_laws.proofs.ErrorLemmas.{error-finest}
 use Rattle.fit_mesh.proofs.error.error.Goals as goal

@@ -39,7 +39,7 @@ loop-number-preserved c =
     let xs : List ℕ = c.args.numbers.now in
     let t : ℕ = c.unwrap-t.result in
     let at : t ≡ get_or xs k 0 =
-    subst (λ o. IfSome o (λ t. t ≡ get_or xs k 0)) c.unwrap-t.ensures c.new.ensures.value in
+    subst (λ o. IfSome o (λ t. t ≡ get_or xs k 0)) c.unwrap-t.ensures c.at.ensures.value in
     let below : k < length xs = omega arith in
     let more : take (k + 1) xs ≡ take k xs ++ t ∷ [] =
     take_more xs k 0 below ∙ ap (λ a. take k xs ++ a ∷ []) (sym at) in
@@ -61,7 +61,7 @@ unwrap-t-requires c =
     let xs : List ℕ = c.args.numbers.now in
     let k : ℕ = c.loop-number.number-index in
     let high = c.requires.in_grid.1 in
-    c.new.ensures.valid.1 (address-small c.args.n (get_or xs k 0) (omega arith)
+    c.at.ensures.valid.1 (address-small c.args.n (get_or xs k 0) (omega arith)
     (address-at c.args.n xs k c.requires.addresses (omega arith)))
 
 pub split_above-requires-clause-address : goal.split_above-requires-clause-address
@@ -69,5 +69,5 @@ split_above-requires-clause-address c =
     let xs : List ℕ = c.args.numbers.now in
     let k : ℕ = c.loop-number.number-index in
     let at : c.unwrap-t.result ≡ get_or xs k 0 =
-    subst (λ o. IfSome o (λ t. t ≡ get_or xs k 0)) c.unwrap-t.ensures c.new.ensures.value in
+    subst (λ o. IfSome o (λ t. t ≡ get_or xs k 0)) c.unwrap-t.ensures c.at.ensures.value in
     subst (λ z. IsAddress c.args.n z) (sym at) (address-at c.args.n xs k c.requires.addresses (omega arith))

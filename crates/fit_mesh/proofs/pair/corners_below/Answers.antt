@@ -7,7 +7,7 @@ use Rattle.bintree_laws.proofs.CornerLemmas.{corners_of-left, corners_of-right, 
 use Rattle.fit_mesh.proofs.pair.corners_below.Goals as goal
 
 -- the corners of a triangle of the grid lie in the largest square
-within : (n t : ℕ) (d : Corners) → n ≤ 11 → d ≡ corners_of n t → IsWithin (2 ^ 11) d
+within : (n t : ℕ) (d : Corners) → n ≤ 14 → d ≡ corners_of n t → IsWithin (2 ^ 14) d
 within n t d few is = IsWithin-largest n d few (subst (IsWithin (2 ^ n)) (sym is) (IsWithin-corners_of n t))
 
 pub child_corners-requires : goal.child_corners-requires

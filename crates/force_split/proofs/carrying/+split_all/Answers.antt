@@ -1,4 +1,4 @@
-use Rattle.std.proofs.Common.{ap, sym, ◌∙◌, subst, ◌+◌, inl, inr, ◌∷◌, ◌++◌, [], arith}
+use Rattle.std.proofs.Common.{ap, sym, ◌∙◌, subst, inl, inr, ◌∷◌, ◌++◌, [], arith}
 use Rattle.mesh_laws.specs.Slots.{room_of}
 use Rattle.triangle_pool.specs.Answer.{numbers}
 use Rattle.force_split.specs.Chain.{IsChain, IsBornOf}

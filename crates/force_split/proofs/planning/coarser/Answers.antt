@@ -1,4 +1,4 @@
-use Rattle.std.proofs.Common.{arith, true, false, ap}
+use Rattle.std.proofs.Common.{arith, ap}
 use Rattle.std.proofs.lemmas.Bool.{true≢false}
 use Rattle.mesh_defs.specs.Triangle.{level_of}
 use Rattle.mesh_laws.proofs.SlotLemmas.{coarse_link}

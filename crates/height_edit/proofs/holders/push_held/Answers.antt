@@ -5,8 +5,8 @@ use Rattle.height_edit.proofs.holders.push_held.Goals as goal
 
 pub triangle-tri-requires-clause-high : goal.triangle-tri-requires-clause-high
 triangle-tri-requires-clause-high c =
-    let small : 2 * c.args.n + 2 ≤ 24 = omega arith in
-    let most : 2 ^ (2 * c.args.n + 2) ≤ 2 ^ 24 = pow_mono small in
+    let small : 2 * c.args.n + 2 ≤ 30 = omega arith in
+    let most : 2 ^ (2 * c.args.n + 2) ≤ 2 ^ 30 = pow_mono small in
     let high : c.args.number < 2 ^ (2 * c.args.n + 2) = c.requires.high in omega arith
 
 pub holds_point-requires-clause-level : goal.holds_point-requires-clause-level

@@ -18,13 +18,13 @@ unwrap-requires c =
     let most = c.loop-number.auto.number in
     let more = c.loop-number-test.true in
     let high = c.end-number.ensures.high in
-    c.new.ensures.valid.1 (omega arith, omega arith)
+    c.at.ensures.valid.1 (omega arith, omega arith)
 
 pub visit-requires : goal.visit-requires
 unfolding is_flagged
 visit-requires c =
     let visited : c.unwrap.result ≡ c.loop-number.number - 1 =
-    subst (λ o. IfSome o (λ t. t ≡ c.loop-number.number - 1)) c.unwrap.ensures c.new.ensures.value in
+    subst (λ o. IfSome o (λ t. t ≡ c.loop-number.number - 1)) c.unwrap.ensures c.at.ensures.value in
     record {
       in_grid = c.requires.in_grid;
       room = c.loop-number.invariant.room ∙ c.requires.room;
@@ -37,7 +37,7 @@ unfolding is_flagged
 loop-number-preserved-then-flags-number c =
     let more = c.loop-number-test.true in
     let visited : c.unwrap.result ≡ c.loop-number.number - 1 =
-    subst (λ o. IfSome o (λ t. t ≡ c.loop-number.number - 1)) c.unwrap.ensures c.new.ensures.value in
+    subst (λ o. IfSome o (λ t. t ≡ c.loop-number.number - 1)) c.unwrap.ensures c.at.ensures.value in
     record {
       room = c.visit.auto.flags ∙ c.loop-number.invariant.room;
       swept = swept_mark c.args.n (is_flagged c.args.flags.now) (is_flagged c.loop-number.flags)

@@ -18,15 +18,15 @@ returns-then-not-flags-number-clause-value c =
 pub unwrap-requires : goal.unwrap-requires
 unwrap-requires c =
     let n_high = c.n-valid.ensures.in_grid.1 in
-    let few : 2 * c.args.scene.now.grid.n + 1 ≤ 23 = omega arith in
-    let deepest : 2 ^ (2 * c.args.scene.now.grid.n + 1) ≤ 2 ^ 23 = pow_mono few in
-    c.new.ensures.valid.1 (c.requires.low, omega arith)
+    let few : 2 * c.args.scene.now.grid.n + 1 ≤ 29 = omega arith in
+    let deepest : 2 ^ (2 * c.args.scene.now.grid.n + 1) ≤ 2 ^ 29 = pow_mono few in
+    c.at.ensures.valid.1 (c.requires.low, omega arith)
 
 pub returns-clause-value : goal.returns-clause-value
 returns-clause-value c =
     let p = priority_seen c.args.scene.now in
     let is : c.unwrap.result ≡ c.args.number =
-    subst (λ o. IfSome o (λ t. t ≡ c.args.number)) c.unwrap.ensures c.new.ensures.value in
+    subst (λ o. IfSome o (λ t. t ≡ c.args.number)) c.unwrap.ensures c.at.ensures.value in
     ap (λ k. ltb c.args.tolerance k) (c.rank.ensures.value ∙ ap p is)
     ∙ sym (worse-splittable c.args.scene.now.grid.n c.args.tolerance p c.args.number
     (lt-splittable c.args.scene.now.grid.n c.args.number c.requires.low c.requires.splittable))

@@ -28,8 +28,8 @@ returns-then-not-is_held-clause-held c =
 
 pub overflow_mul-result : goal.overflow_mul-result
 overflow_mul-result c =
-    let small : c.side.result * c.gap-gap.result ≤ 2048 * 8796093022208 =
-    product c.side.result c.gap-gap.result 2048 8796093022208 c.side.ensures.small c.gap-gap.ensures.small in
+    let small : c.side.result * c.gap-gap.result ≤ 16384 * 281474976710656 =
+    product c.side.result c.gap-gap.result 16384 281474976710656 c.side.ensures.small c.gap-gap.ensures.small in
     omega arith
 
 pub nonzero_div-result : goal.nonzero_div-result

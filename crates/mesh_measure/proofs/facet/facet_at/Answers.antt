@@ -13,24 +13,24 @@ use Rattle.mesh_measure.proofs.facet.facet_at.Goals as goal
 inside : (n t : ℕ) (d : Corners) → d ≡ corners_of n t → IsWithin (2 ^ n) d
 inside n t d is = subst (IsWithin (2 ^ n)) (sym is) (IsWithin-corners_of n t)
 
-widely : (n t : ℕ) (d : Corners) → n ≤ 11 → d ≡ corners_of n t → IsWithin (2 ^ 11) d
+widely : (n t : ℕ) (d : Corners) → n ≤ 14 → d ≡ corners_of n t → IsWithin (2 ^ 14) d
 widely n t d few is = IsWithin-largest n d few (inside n t d is)
 
 pub of-requires-clause-r_in_grid : goal.of-requires-clause-r_in_grid
 of-requires-clause-r_in_grid c =
-    let few : c.args.grid.now.n ≤ 11 = omega (arith, c.n-level.ensures.high, c.n-level.ensures.value) in
+    let few : c.args.grid.now.n ≤ 14 = omega (arith, c.n-level.ensures.high, c.n-level.ensures.value) in
     let w = widely c.args.grid.now.n c.args.t c.args.corners few c.requires.corners in
     record { x = w.apex_x; y = w.apex_y }
 
 pub of-requires-clause-p_in_grid : goal.of-requires-clause-p_in_grid
 of-requires-clause-p_in_grid c =
-    let few : c.args.grid.now.n ≤ 11 = omega (arith, c.n-level.ensures.high, c.n-level.ensures.value) in
+    let few : c.args.grid.now.n ≤ 14 = omega (arith, c.n-level.ensures.high, c.n-level.ensures.value) in
     let w = widely c.args.grid.now.n c.args.t c.args.corners few c.requires.corners in
     record { x = w.v0_x; y = w.v0_y }
 
 pub of-requires-clause-q_in_grid : goal.of-requires-clause-q_in_grid
 of-requires-clause-q_in_grid c =
-    let few : c.args.grid.now.n ≤ 11 = omega (arith, c.n-level.ensures.high, c.n-level.ensures.value) in
+    let few : c.args.grid.now.n ≤ 14 = omega (arith, c.n-level.ensures.high, c.n-level.ensures.value) in
     let w = widely c.args.grid.now.n c.args.t c.args.corners few c.requires.corners in
     record { x = w.v1_x; y = w.v1_y }
 
@@ -38,7 +38,7 @@ pub returns-clause-valid : goal.returns-clause-valid
 returns-clause-valid c =
     let n : ℕ = c.args.grid.now.n in
     let d : Corners = c.args.corners in
-    let few : n ≤ 11 = omega (arith, c.n-level.ensures.high, c.n-level.ensures.value) in
+    let few : n ≤ 14 = omega (arith, c.n-level.ensures.high, c.n-level.ensures.value) in
     record {
       in_grid = few;
       within = widely n c.args.t d few c.requires.corners;

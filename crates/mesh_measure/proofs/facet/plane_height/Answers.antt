@@ -1,11 +1,13 @@
 -- The quotient is that of the definition, its divisor is not 0, and it is small.
 use Rattle.std.proofs.Common.{◌≡◌, ◌∙◌, ◌*◌, ◌/◌, ◌^◌, pos, w64, ap, subst, arith}
 use Rattle.std.proofs.lemmas.Int.{to_z_pos}
-use Rattle.mesh_defs.specs.HeightField.{HeightField}
+use Rattle.mesh_defs.specs.HeightField.{HeightField, IsHeightField}
 use Rattle.mesh_defs.specs.BoundingBox.{point}
 use Rattle.mesh_defs.specs.Triangle.{corners_of}
+use Rattle.mesh_laws.proofs.DescentLemmas.{IsAddress-level}
 use Rattle.mesh_measure.specs.Facet.{IsFacet}
 use Rattle.mesh_measure.proofs.AreaLemmas.{IsInSquare-largest, product-small, plane_height-facet, area-some}
+use Rattle.mesh_measure.proofs.RowLemmas.{plane-small}
 use Rattle.mesh_measure.proofs.facet.plane_height.Goals as goal
 
 pub of-areas-requires-clause-point_in_grid : goal.of-areas-requires-clause-point_in_grid
@@ -51,7 +53,12 @@ returns c =
     let quotient = plane_height-facet n heights c.args.t facet
     (point c.args.x c.args.y) c.of-areas.result c.side.result c.weighted.result
     valid corners c.of-areas.ensures.value (c.side.ensures.value ∙ ap (λ k. 2 ^ k) same) c.weighted.ensures.value in
-    let less = small.1 in record {
+    let less = small.1 in
+    let grid : IsHeightField c.args.w.now = c.grid.ensures.valid in
+    let low = c.number-address.ensures.low in
+    let address = IsAddress-level n c.args.t (omega (arith, c.number-address.ensures.value)) c.requires.level in
+    let plane = plane-small n heights c.args.t c.args.w.now.maxval (point c.args.x c.args.y) address grid.n_high
+    grid.maxval_high grid.bounded c.requires.held in record {
       value = to_z_pos w64 (c.side.result * c.weighted.result / facet.area) (omega arith) ∙ ap pos quotient;
       small = omega arith;
     }

@@ -14,11 +14,11 @@ loop-h-preserved c =
     let plane = i.plane in
     let fits = c.type_inv.heights k in
     let byte = c.from.ensures in
-    let side : 2 ^ c.args.n ≤ 2 ^ 11 = pow_mono c.requires.in_grid in
+    let side : 2 ^ c.args.n ≤ 2 ^ 14 = pow_mono c.requires.in_grid in
     let height : 2 ^ c.args.n * c.from.result ≡ 2 ^ c.args.n * slice_index c.args.heights.now k =
     ap (λ z. 2 ^ c.args.n * z) c.from.ensures in
-    let small : 2 ^ c.args.n * c.from.result ≤ 2048 * 65535 =
-    product (2 ^ c.args.n) c.from.result 2048 65535 side (omega (arith, fits)) in
+    let small : 2 ^ c.args.n * c.from.result ≤ 16384 * 65535 =
+    product (2 ^ c.args.n) c.from.result 16384 65535 side (omega (arith, fits)) in
     let gap = c.abs_diff.ensures in
     let value : c.abs_diff.result ≡ f k = omega arith in
     record {

@@ -10,7 +10,7 @@ use Rattle.mesh_measure.proofs.points.held_row.Goals as goal
 
 pub held_columns-columns-requires-clause-row : goal.held_columns-columns-requires-clause-row
 held_columns-columns-requires-clause-row c =
-    let side : 2 ^ c.args.grid.now.n ≤ 2 ^ 11 = pow_mono c.requires.facet.in_grid in
+    let side : 2 ^ c.args.grid.now.n ≤ 2 ^ 14 = pow_mono c.requires.facet.in_grid in
     let row = c.requires.y_in_grid in
     omega arith
 
@@ -29,14 +29,14 @@ line_in-line-requires-clause-x_in_grid c =
     let end =
     columns-within c.args.facet.corners c.args.y c.args.left c.args.right c.held_columns-columns.result
     c.if-columns.false c.held_columns-columns.ensures in
-    let side : 2 ^ c.args.grid.now.n ≤ 2 ^ 11 = pow_mono c.requires.facet.in_grid in
+    let side : 2 ^ c.args.grid.now.n ≤ 2 ^ 14 = pow_mono c.requires.facet.in_grid in
     let right = c.requires.right_in_grid in
     let less = c.if-columns.false in
     omega arith
 
 pub line_in-line-requires-clause-y_in_grid : goal.line_in-line-requires-clause-y_in_grid
 line_in-line-requires-clause-y_in_grid c =
-    let side : 2 ^ c.args.grid.now.n ≤ 2 ^ 11 = pow_mono c.requires.facet.in_grid in
+    let side : 2 ^ c.args.grid.now.n ≤ 2 ^ 14 = pow_mono c.requires.facet.in_grid in
     let row = c.requires.y_in_grid in
     omega arith
 
@@ -48,7 +48,7 @@ returns-clause-some c =
     let columns = c.held_columns-columns.result in
     let held = c.held_columns-columns.ensures in
     let end = columns-within c.args.facet.corners c.args.y c.args.left c.args.right columns c.if-columns.false held in
-    let side : 2 ^ c.args.grid.now.n ≤ 2 ^ 11 = pow_mono c.requires.facet.in_grid in
+    let side : 2 ^ c.args.grid.now.n ≤ 2 ^ 14 = pow_mono c.requires.facet.in_grid in
     let right = c.requires.right_in_grid in
     let row = c.requires.y_in_grid in
     let less = c.if-columns.false in

@@ -10,7 +10,7 @@ use Rattle.mesh_measure.proofs.points.row_off.Goals as goal
 
 pub held_columns-columns-requires-clause-row : goal.held_columns-columns-requires-clause-row
 held_columns-columns-requires-clause-row c =
-    let side : 2 ^ c.args.grid.now.n ≤ 2 ^ 11 = pow_mono c.requires.facet.in_grid in
+    let side : 2 ^ c.args.grid.now.n ≤ 2 ^ 14 = pow_mono c.requires.facet.in_grid in
     let row = c.requires.y_in_grid in
     omega arith
 

@@ -7,22 +7,6 @@ use Rattle.mesh_measure.proofs.RowLemmas.{plane-small}
 use Rattle.mesh_measure.proofs.SlopeLemmas.{height-by-steps}
 use Rattle.mesh_measure.proofs.slope.slopes_of.Goals as goal
 
-pub step-right-requires-clause-more : goal.step-right-requires-clause-more
-step-right-requires-clause-more c =
-    let w = c.requires.facet.within in c.weigh-rise.ensures.small 2048 w.v0_y w.v1_y w.apex_y
-
-pub step-right-requires-clause-less : goal.step-right-requires-clause-less
-step-right-requires-clause-less c =
-    let w = c.requires.facet.within in c.weigh-fall.ensures.small 2048 w.v1_y w.apex_y w.v0_y
-
-pub step-up-requires-clause-more : goal.step-up-requires-clause-more
-step-up-requires-clause-more c =
-    let w = c.requires.facet.within in c.weigh-gain.ensures.small 2048 w.v1_x w.apex_x w.v0_x
-
-pub step-up-requires-clause-less : goal.step-up-requires-clause-less
-step-up-requires-clause-less c =
-    let w = c.requires.facet.within in c.weigh-loss.ensures.small 2048 w.v0_x w.v1_x w.apex_x
-
 pub returns : goal.returns
 returns c x y held =
     let n : ℕ = c.args.grid.now.n in
@@ -35,18 +19,18 @@ returns c x y held =
     let low : 2 ≤ t = omega (arith, c.number-address.ensures.low, c.number-address.ensures.value) in
     let address = IsAddress-level n t (omega arith) c.requires.level in
     let grid = c.n-n.ensures.valid in
-    let rise : 2 ^ c.n-n.result * c.weigh-rise.result
+    let rise : 2 ^ c.n-n.result * c.weigh_coordinates-rise.result
     ≡ 2 ^ n * (d.v0.y * facet.apex + d.v1.y * facet.v0 + d.apex.y * facet.v1) =
-    ap₂ (λ k z. 2 ^ k * z) same c.weigh-rise.ensures.value in
-    let fall : 2 ^ c.n-n.result * c.weigh-fall.result
+    ap₂ (λ k z. 2 ^ k * z) same c.weigh_coordinates-rise.ensures.value in
+    let fall : 2 ^ c.n-n.result * c.weigh_coordinates-fall.result
     ≡ 2 ^ n * (d.v1.y * facet.apex + d.apex.y * facet.v0 + d.v0.y * facet.v1) =
-    ap₂ (λ k z. 2 ^ k * z) same c.weigh-fall.ensures.value in
-    let gain : 2 ^ c.n-n.result * c.weigh-gain.result
+    ap₂ (λ k z. 2 ^ k * z) same c.weigh_coordinates-fall.ensures.value in
+    let gain : 2 ^ c.n-n.result * c.weigh_coordinates-gain.result
     ≡ 2 ^ n * (d.v1.x * facet.apex + d.apex.x * facet.v0 + d.v0.x * facet.v1) =
-    ap₂ (λ k z. 2 ^ k * z) same c.weigh-gain.ensures.value in
-    let loss : 2 ^ c.n-n.result * c.weigh-loss.result
+    ap₂ (λ k z. 2 ^ k * z) same c.weigh_coordinates-gain.ensures.value in
+    let loss : 2 ^ c.n-n.result * c.weigh_coordinates-loss.result
     ≡ 2 ^ n * (d.v0.x * facet.apex + d.v1.x * facet.v0 + d.apex.x * facet.v1) =
-    ap₂ (λ k z. 2 ^ k * z) same c.weigh-loss.ensures.value in
+    ap₂ (λ k z. 2 ^ k * z) same c.weigh_coordinates-loss.ensures.value in
     height-by-steps n heights t d facet.apex facet.v0 facet.v1 facet.log_area address c.requires.corners
     valid.apex valid.v0 valid.v1 (sym valid.power ∙ valid.area) x y c.step-right.result c.step-up.result c.start.result
     (plane-small n heights t c.args.grid.now.maxval (point x y) address valid.in_grid grid.maxval_high grid.bounded held)

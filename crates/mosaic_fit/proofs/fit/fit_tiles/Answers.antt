@@ -93,7 +93,7 @@ loop-fitted-preserved g c =
     )
 
 -- the loop never comes to the end of its count
-never : (columns rows n steps : ℕ) (P : Type 0) → columns ≤ 65536 → rows ≤ 65536 → n ≤ 11 →
+never : (columns rows n steps : ℕ) (P : Type 0) → columns ≤ 65536 → rows ≤ 65536 → n ≤ 14 →
     18446744073709551615 ≤ steps → steps ≤ 2 * 4 ^ n * (columns * rows) → P
 never columns rows n steps P wide high deep end few =
     let most = few-steps columns rows n wide high deep in absurd (omega arith)

@@ -33,8 +33,8 @@ pub border_tri-requires-clause-place : goal.border_tri-requires-clause-place
 border_tri-requires-clause-place c =
     let all = side-places c.args.shape.n c.requires.shape.n_high in
     let less = c.loop-place-test.true in
-    let deep : c.args.shape.n ≤ 11 = c.requires.shape.n_high in
-    let most : 2 ^ c.args.shape.n ≤ 2 ^ 11 = pow_mono deep in
+    let deep : c.args.shape.n ≤ 14 = c.requires.shape.n_high in
+    let most : 2 ^ c.args.shape.n ≤ 2 ^ 14 = pow_mono deep in
     (c.loop-place.auto.place, omega arith)
 
 -- the bit at this place of the tile beyond

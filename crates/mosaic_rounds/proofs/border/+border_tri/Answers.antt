@@ -24,8 +24,8 @@ returns-then-place-eq1-clause-place i c =
     let one = c.if-place-eq1.true in omega arith
 
 -- the triangle above has half the place
-above-coarse : (b place : ℕ) → 4 ≤ b → IsTrue (is_border b) → place_of b ≡ place / 2 → place < 2048 → level_of b < 20
-above-coarse b place big is half small = border-coarse 10 b (omega arith) is (omega arith)
+above-coarse : (b place : ℕ) → 4 ≤ b → IsTrue (is_border b) → place_of b ≡ place / 2 → place < 16384 → level_of b < 26
+above-coarse b place big is half small = border-coarse 13 b (omega arith) is (omega arith)
 
 pub left-requires : goal.left-requires
 left-requires i c =

@@ -44,9 +44,9 @@ side_exceeds-requires-clause-others c =
 
 pub side_exceeds-requires-clause-small : goal.side_exceeds-requires-clause-small
 side_exceeds-requires-clause-small c =
-    let high : c.args.n ≤ 11 = c.requires.in_grid.1 in
-    let deep : c.args.n + 2 ≤ 13 = omega arith in
-    let most : 2 ^ (c.args.n + 2) ≤ 2 ^ 13 = pow_mono deep in
+    let high : c.args.n ≤ 14 = c.requires.in_grid.1 in
+    let deep : c.args.n + 2 ≤ 16 = omega arith in
+    let most : 2 ^ (c.args.n + 2) ≤ 2 ^ 16 = pow_mono deep in
     let within = c.side_bit-from.ensures.within in
     let small = c.requires.small in (omega arith, omega arith)
 

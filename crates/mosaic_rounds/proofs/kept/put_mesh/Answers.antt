@@ -9,7 +9,7 @@ use Rattle.mosaic_rounds.proofs.RoundsLemmas.{put-splits, put-others}
 use Rattle.mosaic_rounds.proofs.kept.put_mesh.Goals as goal
 
 -- the bits of the tile after all are added, by where it begins
-all-added : (old new fresh : List ℕ) (first k n bits : ℕ) → first ≡ k → n ≤ 11 → bits ≡ 1 * 2 ^ (n + 2) % 2 ^ 64 →
+all-added : (old new fresh : List ℕ) (first k n bits : ℕ) → first ≡ k → n ≤ 14 → bits ≡ 1 * 2 ^ (n + 2) % 2 ^ 64 →
     ((j : ℕ) → has_bit new (first + j)
     ≡ (has_bit old (first + j) || (nat_lt j bits && has_bit fresh (0 + j)))) →
     (j : ℕ) → has_bit new (k + j) ≡ (has_bit old (k + j) || (nat_lt j (2 ^ (n + 2)) && has_bit fresh j))

@@ -7,7 +7,7 @@ use Rattle.mosaic_rounds.proofs.shape.side_exceeds.Goals as goal
 pub returns : goal.returns
 returns c =
     let all : 1 * 2 ^ c.args.n % 2 ^ 64 ≡ 2 ^ c.args.n =
-    one_shl c.args.n 64 (let high : c.args.n ≤ 11 = c.requires.in_grid in omega arith) in
+    one_shl c.args.n 64 (let high : c.args.n ≤ 14 = c.requires.in_grid in omega arith) in
     let some = pow_pos c.args.n in record {
       value = (
         (λ e.

@@ -9,6 +9,6 @@ abbrev pub invariant-loop-leaf : goal.invariant-loop-leaf
 invariant-loop-leaf l = record {
   marks : l.numbers ≡ vertex_marks l.n (take l.leaf-index l.leaves);
   flagged : AreFlagged l.numbers l.used;
-  levels : length l.steps ≡ 23;
+  levels : length l.steps ≡ 29;
   known : AreCorners l.n l.steps;
 }

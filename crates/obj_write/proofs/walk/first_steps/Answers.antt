@@ -7,7 +7,7 @@ use Rattle.obj_write.proofs.walk.first_steps.Goals as goal
 
 pub returns-clause-known : goal.returns-clause-known
 returns-clause-known c =
-    All-replicate (λ (s : Step). s.corners ≡ corners_of c.args.n s.tri) 23 _ c.corners-corners.ensures.value
+    All-replicate (λ (s : Step). s.corners ≡ corners_of c.args.n s.tri) 29 _ c.corners-corners.ensures.value
 
 pub corners-corners-requires-clause-level : goal.corners-corners-requires-clause-level
 corners-corners-requires-clause-level c = level_of-half c.args.n c.default-half.result c.default-half.ensures

@@ -1,8 +1,9 @@
-use Rattle.std.proofs.Common.{◌≡◌, ℕ, List}
+use Rattle.std.proofs.Common.{◌≡◌, ℕ, List, arith}
 use Rattle.std.proofs.lemmas.Result.{IfOk-weaker, IfErr-weaker}
 use Rattle.pgm_grid.specs.RasterProgress as samples
 use Rattle.pgm_grid.specs.Progress.{samples_at}
 use Rattle.pgm_grid.specs.Stage.{progress_of}
+use Rattle.pgm_grid.proofs.GridLemmas.{file_points_small}
 use Rattle.pgm_grid.proofs.ReaderLemmas.{begins-raster, begins-refused, begun-means}
 use Rattle.pgm_grid.proofs.stage.raster_begun.Goals as goal
 
@@ -23,3 +24,7 @@ returns-in-Ok-clause-stops c =
     IfErr-weaker c.raster_after.result _ _
     (λ fault refusal other. begins-refused c.args.header c.args.at c.in-Ok.reader c.args.rest.now fault means refusal)
     c.raster_after.ensures.refusal
+
+pub new-requires-clause-count_small : goal.new-requires-clause-count_small
+new-requires-clause-count_small c =
+    omega (arith, c.points_for-count.ensures.value, file_points_small c.args.header.n c.requires.valid.level.high)

@@ -6,6 +6,6 @@ use Rattle.plain_mesh.proofs.ranking.rank_at.Goals as goal
 pub unwrap-requires : goal.unwrap-requires
 unwrap-requires c =
     let n_high = c.n-valid.ensures.in_grid.1 in
-    let few : 2 * c.args.scene.now.grid.n + 1 ≤ 23 = omega arith in
-    let deepest : 2 ^ (2 * c.args.scene.now.grid.n + 1) ≤ 2 ^ 23 = pow_mono few in
-    c.new.ensures.valid.1 (c.requires.low, omega arith)
+    let few : 2 * c.args.scene.now.grid.n + 1 ≤ 29 = omega arith in
+    let deepest : 2 ^ (2 * c.args.scene.now.grid.n + 1) ≤ 2 ^ 29 = pow_mono few in
+    c.at.ensures.valid.1 (c.requires.low, omega arith)

@@ -1,4 +1,4 @@
--- A grown set has fewer than 2 ^ 24 members, and two leaves more than members.
+-- A grown set has fewer than 2 ^ 30 members, and two leaves more than members.
 use Rattle.std.proofs.Common.{◌≡◌, ℕ, ◌+◌, ◌<◌, ◌≤◌, ◌^◌, List, length, ap, arith, rules}
 use Rattle.mesh_defs.specs.ClosedSet.{leaves_of, among}
 use Rattle.mesh_defs.specs.Greedy.{with_triangle}
@@ -11,7 +11,7 @@ use Rattle.plain_mesh.proofs.refining.admit.Goals as goal
 
 -- the size with the gain
 grown_few : (n : ℕ) (members : List ℕ) (t gain : ℕ) → IsGridSet n members → IsGain n members t gain →
-    length members + gain ≤ 2 ^ 24
+    length members + gain ≤ 2 ^ 30
 grown_few n members t gain valid g =
     let few = length-grown n (with_triangle (among members) t) g.after valid.n_low valid.n_high
     g.forced.ascending g.forced.least in

@@ -19,7 +19,7 @@ unfolding is_flagged
 loop-number-preserved-then-flags-number c =
     let more = c.loop-number-test.true in
     let visited : c.unwrap.result ≡ c.loop-number.number - 1 =
-    subst (λ o. IfSome o (λ t. t ≡ c.loop-number.number - 1)) c.unwrap.ensures c.new.ensures.value in
+    subst (λ o. IfSome o (λ t. t ≡ c.loop-number.number - 1)) c.unwrap.ensures c.at.ensures.value in
     record {
       room = c.flag_parent.ensures.room ∙ c.loop-number.invariant.room;
       climbed = λ triangles addresses entered. climbed-mark c.args.n triangles addresses

@@ -14,7 +14,7 @@ pub has_mate-requires-clause-splittable : goal.has_mate-requires-clause-splittab
 unfolding is_flagged
 has_mate-requires-clause-splittable c =
     let visited : c.unwrap.result ≡ c.loop-number.number =
-    subst (λ o. IfSome o (λ t. t ≡ c.loop-number.number)) c.unwrap.ensures c.new.ensures.value in
+    subst (λ o. IfSome o (λ t. t ≡ c.loop-number.number)) c.unwrap.ensures c.at.ensures.value in
     subst (λ t. IsSplittable c.args.n t) (sym visited)
     (c.requires.splittable c.loop-number.number c.if-flags-number.true)
 
@@ -22,7 +22,7 @@ pub returns-then-not-has_mate-clause-none : goal.returns-then-not-has_mate-claus
 unfolding is_flagged
 returns-then-not-has_mate-clause-none c =
     let visited : c.unwrap.result ≡ c.loop-number.number =
-    subst (λ o. IfSome o (λ t. t ≡ c.loop-number.number)) c.unwrap.ensures c.new.ensures.value in
+    subst (λ o. IfSome o (λ t. t ≡ c.loop-number.number)) c.unwrap.ensures c.at.ensures.value in
     let lacks = c.has_mate.ensures.lacks c.if-not-has_mate.true in (
       c.unwrap.result,
       lacks.0,
@@ -36,7 +36,7 @@ unfolding is_flagged
 loop-number-preserved c = elim c.if-flags-number.branch [
   | then-flags-number+else-not-has_mate w ↦
       let visited : w.unwrap.result ≡ c.loop-number.number =
-      subst (λ o. IfSome o (λ t. t ≡ c.loop-number.number)) w.unwrap.ensures w.new.ensures.value in
+      subst (λ o. IfSome o (λ t. t ≡ c.loop-number.number)) w.unwrap.ensures w.at.ensures.value in
       subst (λ z. IsCountedBelow c.args.n (is_flagged c.args.flags.now) (c.loop-number.number + 1) z) (sym w.count-is)
       (counted-more c.args.n (is_flagged c.args.flags.now) c.loop-number.number c.loop-number.count
       c.loop-number.invariant w.if-flags-number.true

@@ -11,7 +11,7 @@ use Rattle.roam_certify.proofs.making.push_wants.Goals as goal
 pub push_wanted-requires : goal.push_wanted-requires
 push_wanted-requires c =
     let visited : c.unwrap-t.result ≡ c.loop-number.number =
-    subst (λ o. IfSome o (λ t. t ≡ c.loop-number.number)) c.unwrap-t.ensures c.new.ensures.value in
+    subst (λ o. IfSome o (λ t. t ≡ c.loop-number.number)) c.unwrap-t.ensures c.at.ensures.value in
     let low : 2 ≤ c.loop-number.number = c.loop-number.auto.number in
     let more = c.loop-number-test.true in
     let end = c.end-number-end.ensures.value in
@@ -31,7 +31,7 @@ push_wanted-requires c =
 pub loop-number-preserved : goal.loop-number-preserved
 loop-number-preserved c =
     let visited : c.unwrap-t.result ≡ c.loop-number.number =
-    subst (λ o. IfSome o (λ t. t ≡ c.loop-number.number)) c.unwrap-t.ensures c.new.ensures.value in
+    subst (λ o. IfSome o (λ t. t ≡ c.loop-number.number)) c.unwrap-t.ensures c.at.ensures.value in
     record {
       listed = c.in_ok-push_wanted.ensures.listed;
       reasoned = c.in_ok-push_wanted.ensures.reasoned;

@@ -1,4 +1,4 @@
-use Rattle.std.proofs.Common.{◌≡◌, ◌&&◌, [], List, Some, Option, option_map, sym, ◌∙◌, ap, subst}
+use Rattle.std.proofs.Common.{◌≡◌, ◌&&◌, [], List, Some, Option, option_map, sym, ◌∙◌, ap, subst, arith}
 use Rattle.roam_edge.specs.Shelf.{NamedFile}
 use Rattle.run_words.specs.Words.{Show, Frames, Scripted}
 use Rattle.run_laws.specs.Outcome.{Outcome}
@@ -24,7 +24,7 @@ returns-in-Ok-made-clause-runs g c =
     let begins : (files : List NamedFile) → (g.O.Outside.moment c.args.outside.now).shelf.files ≡ Some files
     → Begins s.show (EngineHasFollowed frames.showing frames.engine) (first_walk s c.in-Ok.grid) =
     λ files told. (let range = c.state_laws.ensures.levels c.in-Ok.grid _ (read.is_grid files told) in
-    first-begins s c.in-Ok.grid c.requires.accepted.budget_low range.0 range.1
+    first-begins s c.in-Ok.grid c.requires.accepted.budget_low range.0 (omega (arith, range.1))
     (EngineHasFollowed frames.showing frames.engine)
     (subst P (sym shown) c.in-Ok-made.ensures.begins) (subst TellsFrames (sym shown) (sum-none c.args.showing))) in
     rw c.of_script.ensures.status (script-runs _ _ _ _ s c.in-Ok.grid c.requires.opens read

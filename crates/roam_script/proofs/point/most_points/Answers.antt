@@ -5,7 +5,7 @@ use Rattle.roam_script.proofs.point.most_points.Goals as goal
 
 pub returns-clause-few : goal.returns-clause-few
 returns-clause-few c =
-    let power : 2 ^ c.args.n ≤ 2 ^ 11 = pow-le-pow_right (lit< tt) c.requires.level in
-    let side : 1 * 2 ^ c.args.n % 4294967296 + 1 ≤ 2049 = omega (arith, power) in
+    let power : 2 ^ c.args.n ≤ 2 ^ 14 = pow-le-pow_right (lit< tt) c.requires.level in
+    let side : 1 * 2 ^ c.args.n % 4294967296 + 1 ≤ 16385 = omega (arith, power) in
     let square = mul-le _ _ _ _ side side in
     omega (arith, square)

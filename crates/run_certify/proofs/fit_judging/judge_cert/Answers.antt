@@ -6,7 +6,7 @@ use Rattle.run_certify.proofs.fit_judging.judge_cert.Goals as goal
 pub judge_mesh-requires-clause-few : goal.judge_mesh-requires-clause-few
 judge_mesh-requires-clause-few g c =
     let n : ℕ = c.args.grid.now.n in
-    let low : n ≤ 11 = omega (arith, c.n-level.ensures.high, c.n-level.ensures.value) in
+    let low : n ≤ 14 = omega (arith, c.n-level.ensures.high, c.n-level.ensures.value) in
     omega (arith, c.in-Ok.ensures.few, end-high n low, ap length c.deref.ensures.value)
 
 pub returns-in-Ok-clause-ok : goal.returns-in-Ok-clause-ok

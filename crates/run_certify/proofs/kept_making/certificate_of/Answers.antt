@@ -1,5 +1,7 @@
 -- A sound certificate for the error of the words and the points, with no more points than these, may be made.
-use Rattle.std.proofs.Common.{◌≡◌, ◌≤◌, ℕ, List, Result, Ok, Err, IfOk, length, ◌∙◌, ap, subst}
+use Rattle.std.proofs.Common.{◌≡◌, ◌+◌, ◌*◌, ◌^◌, ◌≤◌, ℕ, List, Result, Ok, Err, IfOk, length, ◌∙◌, ap, subst, arith}
+use Rattle.std.proofs.Math.Pow.{pow_mono}
+use Rattle.std.proofs.lemmas.Nat.{mul-le}
 use Rattle.mesh_defs.specs.declared.point.Point.{Point}
 use Rattle.mesh_defs.specs.HeightField.{HeightField}
 use Rattle.certificate_laws.specs.Keeping.{KeptCertificate, IsKeptSound}
@@ -31,3 +33,12 @@ returns c =
     made m c.args.grid.now c.args.points.now c.tolerance-tolerance.result c.make_kept.result
     (c.tolerance-tolerance.ensures ∙ ap (λ (n : ℕ). tolerance_of n m.thousandths) c.n.ensures.value)
     c.make_kept.ensures.sound c.make_kept.ensures.few
+
+pub make_kept-requires-clause-few : goal.make_kept-requires-clause-few
+make_kept-requires-clause-few c =
+    let n : ℕ = c.args.grid.now.n in
+    let side : 2 ^ n ≤ 2 ^ 11 = pow_mono c.requires.level in
+    let points : 2 ^ n + 1 ≤ 2049 = omega (arith, side) in
+    let square : (2 ^ n + 1) * (2 ^ n + 1) ≤ 2049 * 2049 = mul-le (2 ^ n + 1) (2 ^ n + 1) 2049 2049 points points in
+    let few = c.requires.few in
+    omega arith

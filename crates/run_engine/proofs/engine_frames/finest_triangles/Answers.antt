@@ -2,10 +2,10 @@ use Rattle.std.proofs.Common.{ℕ, ◌^◌, ◌≤◌, ◌<◌, arith}
 use Rattle.std.proofs.Math.Nat.{pow-le-pow_right}
 use Rattle.run_engine.proofs.engine_frames.finest_triangles.Goals as goal
 
--- a power of 4 up to the eleventh
-within : (n : ℕ) → n ≤ 11 → 4 ^ n ≤ 4194304
+-- a power of 4 up to the fourteenth
+within : (n : ℕ) → n ≤ 14 → 4 ^ n ≤ 268435456
 within n small =
-    let high : 4 ^ n ≤ 4 ^ 11 = pow-le-pow_right {n = 4} (let h : 0 < 4 = omega arith in h) small in
+    let high : 4 ^ n ≤ 4 ^ 14 = pow-le-pow_right {n = 4} (let h : 0 < 4 = omega arith in h) small in
     omega arith
 
 pub pow-requires : goal.pow-requires

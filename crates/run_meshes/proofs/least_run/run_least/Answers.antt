@@ -1,4 +1,4 @@
-use Rattle.std.proofs.Common.{◌≡◌, ◌&&◌, List, [], Some, refl, ap, sym, ◌∙◌, subst}
+use Rattle.std.proofs.Common.{◌≡◌, ◌&&◌, List, [], Some, refl, ap, sym, ◌∙◌, subst, arith}
 use Rattle.roam_edge.specs.Shelf.{NamedFile}
 use Rattle.run_words.specs.Words.{Show, OnGrid, Frames, Scripted, is_of_engine}
 use Rattle.run_laws.specs.Promise.{ends_script}
@@ -23,7 +23,7 @@ returns-in-Ok-made-clause-runs g c =
     let begins : (files : List NamedFile) → (g.O.Outside.moment c.args.outside.now).shelf.files ≡ Some files
     → Begins s.show (LeastFollows frames) (first_walk s c.in-Ok.grid) =
     λ files told. (let range = c.state_laws.ensures.levels c.in-Ok.grid _ (read.is_grid files told) in
-    first-begins s c.in-Ok.grid c.requires.accepted.budget_low range.0 range.1 (LeastFollows frames)
+    first-begins s c.in-Ok.grid c.requires.accepted.budget_low range.0 (omega (arith, range.1)) (LeastFollows frames)
     (subst P (sym shown) c.in-Ok-made.ensures.begins) (subst TellsFrames (sym shown) (λ ps. refl))) in
     script-runs _ _ _ _ s c.in-Ok.grid c.requires.opens read (LeastFollows run.new.frames) _ run.result
     run.ensures.status run.ensures.leaves (none-left (Some (OnGrid c.args.command.now.grid.now (Frames s))) run.result

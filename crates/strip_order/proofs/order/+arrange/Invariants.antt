@@ -3,4 +3,4 @@ use Rattle.mesh_defs.specs.Triangle.{level_of}
 use Rattle.strip_order.proofs.order.+arrange.Given as goal
 
 abbrev pub decreases-arrange : goal.decreases-arrange
-decreases-arrange l = 22 - level_of l.t
+decreases-arrange l = 28 - level_of l.t

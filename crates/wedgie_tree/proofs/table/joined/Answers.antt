@@ -20,9 +20,10 @@ overflow_add-result c =
     c.args.grid.now.heights (corners_of c.args.grid.now.n c.args.tri) =
     c.wedge_laws.ensures.thickness c.args.grid.now.n c.args.grid.now.heights c.args.tri
     (record { low = omega arith; coarse = c.requires.splittable }) in
-    let small : thickness_of c.args.grid.now.n c.args.grid.now.heights c.args.tri ≤ 2883540 =
+    let small : thickness_of c.args.grid.now.n c.args.grid.now.heights c.args.tri
+    ≤ 262140 * c.args.grid.now.n =
     c.wedge_laws.ensures.bounded c.args.grid.now c.args.tri c.maxval-bounded.ensures.valid in
-    omega (arith, c.requires.of_left.thickness, c.requires.of_right.thickness)
+    omega (arith, c.maxval-bounded.ensures.valid.n_high, c.requires.of_left.thickness, c.requires.of_right.thickness)
 
 pub returns : goal.returns
 returns c = grind (arith, common_steps)

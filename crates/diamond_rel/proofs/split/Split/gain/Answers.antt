@@ -1,4 +1,4 @@
--- The grown set has fewer than 2 ^ 24 members.
+-- The grown set has fewer than 2 ^ 30 members.
 use Rattle.std.proofs.Common.{◌-◌, ◌≤◌, ◌^◌, length, subst, rules}
 use Rattle.mesh_defs.specs.ClosedSet.{among}
 use Rattle.mesh_defs.specs.Greedy.{with_triangle}
@@ -9,7 +9,7 @@ use Rattle.diamond_rel.proofs.split.Split.gain.Goals as goal
 
 pub overflow_cast-result : goal.overflow_cast-result
 overflow_cast-result c =
-    let few : length c.force.new.members.items ≤ 2 ^ 24 =
+    let few : length c.force.new.members.items ≤ 2 ^ 30 =
     length-grown c.self.inside.n (with_triangle (among c.in_ok-scratch.scratch.items) c.args.t)
     c.force.new.members.items
     c.self.invariant.n_low c.self.invariant.n_high c.in_ok-force.ensures.ascending c.in_ok-force.ensures.least in

@@ -1,4 +1,4 @@
--- A closed set of a grid has at most 2 ^ 24 members, and two leaves more.
+-- A closed set of a grid has at most 2 ^ 30 members, and two leaves more.
 use Rattle.std.proofs.Common.{◌≡◌, ◌+◌, ◌≤◌, ◌^◌, ◌∙◌, length, ap, sym, subst, rules}
 use Rattle.mesh_defs.specs.GridSet.{GridSet, IsGridSet}
 use Rattle.mesh_laws.proofs.SizeLemmas.{length-members, length-leaves_of}
@@ -6,7 +6,7 @@ use Rattle.diamond_rel.proofs.split.Split.size.Goals as goal
 
 pub overflow_cast-result : goal.overflow_cast-result
 overflow_cast-result c =
-    let few : length c.self.inside.members.items ≤ 2 ^ 24 =
+    let few : length c.self.inside.members.items ≤ 2 ^ 30 =
     length-members c.self.inside.n c.self.inside.members.items c.self.invariant in
     search rules
 

@@ -11,6 +11,6 @@ overflow_cast-result c =
     let many = leaves-fit n (is_flagged c.self.inside.flags.items) in
     let same = ap (λ (l : List ℕ). length l) c.self.invariant.listed in
     let high = c.self.invariant.n_high in
-    let few : 2 * n + 1 ≤ 23 = omega arith in
-    let most : 2 ^ (2 * n + 1) ≤ 2 ^ 23 = pow_mono few in
+    let few : 2 * n + 1 ≤ 29 = omega arith in
+    let most : 2 ^ (2 * n + 1) ≤ 2 ^ 29 = pow_mono few in
     omega arith

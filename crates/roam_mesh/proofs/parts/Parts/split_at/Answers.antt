@@ -71,7 +71,7 @@ split_pool-answers-requires-clause-room c =
 
 pub split_pool-answers-requires-clause-count : goal.split_pool-answers-requires-clause-count
 split_pool-answers-requires-clause-count c =
-    subst (λ (z : PoolState). z.splits + 48 < 2 ^ 62) (sym (mid_pool c)) c.requires.count
+    subst (λ (z : PoolState). z.splits + (4 * z.n + 4) < 2 ^ 62) (sym (mid_pool c)) c.requires.count
 
 pub push_born-requires : goal.push_born-requires
 push_born-requires c = record {

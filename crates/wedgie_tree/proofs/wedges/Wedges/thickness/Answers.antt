@@ -21,4 +21,5 @@ returns-else-level-n-clause-bounded c =
     let small = c.wedge_laws.ensures.bounded c.self.inside.grid c.args.t c.self.invariant.valid in
     let own = c.wedge.ensures.thickness
     ∙ ap (λ (g : HeightField). thickness_of g.n g.heights c.args.t) (sym c.self.view_is) in
+    let level = ap (λ (g : HeightField). g.n) c.self.view_is in
     omega arith
