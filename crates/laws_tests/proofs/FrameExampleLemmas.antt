@@ -144,17 +144,17 @@ fits n xs a =
 
 -- a list in order each of whose entries fits is a closed set
 abbrev pub is_grid_set : ℕ → List ℕ → Bool
-is_grid_set n xs = (nat_le 1 n && nat_le n 11) && (rises xs && list_all (fits n xs) xs)
+is_grid_set n xs = (nat_le 1 n && nat_le n 14) && (rises xs && list_all (fits n xs) xs)
 
 -- a list that passes the test is a closed set of the grid
 pub grid_set : (n : ℕ) (xs : List ℕ) → is_grid_set n xs ≡ true → IsGridSet n xs
 grid_set n xs h =
-    let both = and_parts (nat_le 1 n && nat_le n 11) (rises xs && list_all (fits n xs) xs) h in
-    let bounds = and_parts (nat_le 1 n) (nat_le n 11) both.0 in
+    let both = and_parts (nat_le 1 n && nat_le n 14) (rises xs && list_all (fits n xs) xs) h in
+    let bounds = and_parts (nat_le 1 n) (nat_le n 14) both.0 in
     let list = and_parts (rises xs) (list_all (fits n xs) xs) both.1 in
     record {
       n_low = leb-true 1 n bounds.0;
-      n_high = leb-true n 11 bounds.1;
+      n_high = leb-true n 14 bounds.1;
       ascending = rises-ascending xs list.0;
       closed = closed list.1;
     }

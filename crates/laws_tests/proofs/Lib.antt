@@ -2,5 +2,6 @@ mod ClosedLists
 mod RankingExamples
 mod CornerExample
 mod TileNumbers
+mod PageNumbers
 mod FrameExampleLemmas
 mod FrameStepExamples

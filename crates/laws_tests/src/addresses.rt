@@ -21,7 +21,7 @@ fn corners_from(row: Row) -> Corners {
 /// The corners of a triangle, if the grid of side 2 ^ n has one with this address.
 fn corners_of(n: u32, number: u32) -> Option<Corners> {
     let tri = Tri::new(number)?;
-    if n < 1 || n > 11 || tri.level() > 2 * n {
+    if n < 1 || n > 14 || tri.level() > 2 * n {
         return None;
     }
     Some(tri.corners(n))
@@ -44,7 +44,7 @@ fn mate_of(number: u32) -> Option<u32> {
 /// The numbers of the children.
 fn children_of(number: u32) -> Option<(u32, u32)> {
     let tri = Tri::new(number)?;
-    if tri.level() >= 22 {
+    if tri.level() >= 28 {
         return None;
     }
     Some((tri.left().number(), tri.right().number()))
@@ -88,6 +88,22 @@ fn addresses_are_two_to_sixteen_million(rt: HostRuntime) {
     ];
     for (number, address) in cases {
         assert_eq!(rt; Tri::new(number).map(Tri::number), address, "{number}");
+    }
+}
+
+#[test]
+fn deep_addresses_are_two_to_a_thousand_million(rt: HostRuntime) {
+    let cases = [
+        (1, None),
+        (2, Some(0)),
+        (16_777_215, Some(22)),
+        (16_777_216, Some(23)),
+        (1_073_741_823, Some(28)),
+        (1_073_741_824, None),
+        (u32::MAX, None),
+    ];
+    for (number, level) in cases {
+        assert_eq!(rt; Tri::at(number).map(Tri::level), level, "{number}");
     }
 }
 

@@ -115,3 +115,12 @@ fn laws_of_mosaics_are_calls() {
     mosaic_laws::error_laws();
     mosaic_laws::terrain_laws();
 }
+
+#[test]
+fn laws_of_pages_are_calls() {
+    page_laws::open_laws();
+    page_laws::square_laws();
+    page_laws::point_laws();
+    page_laws::pyramid_laws();
+    page_laws::wedge_laws();
+}
