@@ -24,7 +24,7 @@ extern "C" {
 enum roam_answer {
     ROAM_OK = 0,
     ROAM_NO_MEMORY = 1,       /* out of memory */
-    ROAM_BAD_GRID = 2,        /* the count of heights is not (2^n + 1)^2 with n from 1 to 11 */
+    ROAM_BAD_GRID = 2,        /* the count of heights is not (2^n + 1)^2 with n from 1 to 14 */
     ROAM_BAD_BUDGET = 3,      /* below 2, above 1048576, or above the budget that the engine was opened with */
     ROAM_BAD_SPACING = 4,     /* 0, or above 1024 */
     ROAM_BAD_CAMERA = 5,      /* a coordinate beyond -2^30 .. 2^30 */
@@ -138,11 +138,11 @@ int32_t roam_frame(roam_handle *h, roam_frame_note *out);
  * every frame. `places` is the length of `out`; 3 times the greater of the budgets always suffices. */
 int32_t roam_indices(roam_handle *h, uint32_t *out, size_t places, size_t *triangles);
 
-/* Writes the address of each triangle, in the same order: a number from 2 to 2^24 - 1 that names it in every frame. */
+/* Writes the address of each triangle, in the same order: a number from 2 to 2^30 - 1 that names it in every frame. */
 int32_t roam_leaves(roam_handle *h, uint32_t *out, size_t places, size_t *triangles);
 
 /* Writes the vertices of the mesh alone, for who does not want all grid points on the card: x, y and z of each, in world units
- * and units of height, as whole numbers below 2^22 (a card takes them as floats without loss). They stand by y and then by x,
+ * and units of height, as whole numbers of at most 2^24 (a card takes them as floats without loss). They stand by y and then by x,
  * as the v lines of the mesh's OBJ file do. `places` is the length of `out`: three for each of a frame's `vertices`, of which
  * there are never more than triangles and 2. Costs a look at each grid point. */
 int32_t roam_positions(roam_handle *h, uint32_t *out, size_t places, size_t *vertices);

@@ -20,7 +20,7 @@ namespace roam {
 /// What an answer says, in words.
 inline const char *text_of(int32_t answer) noexcept {
     static const char *const texts[] = {
-        "done", "out of memory", "the count of heights is not (2^n + 1)^2 with n from 1 to 11",
+        "done", "out of memory", "the count of heights is not (2^n + 1)^2 with n from 1 to 14",
         "the budget is below 2, above 1048576, or above the budget at opening", "the spacing is not from 1 to 1024",
         "a coordinate of the camera is beyond 2^30", "a slope of the plane is beyond 2^20, or its offset beyond 2^50",
         "six planes are in force, or more than six are given", "a point is outside the grid, or the area is empty",

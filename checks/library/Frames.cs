@@ -46,6 +46,7 @@ static class Frames {
             good.Threshold(257002);
             Must(good.Frame().Triangles == 4, "what is not good enough is whole");
         }
+        Views(hill);
         Must(AnswerOf(() => new Engine(new ushort[8], 8, 10)) == Answer.BadGrid, "a grid of eight");
         Must(AnswerOf(() => new Engine(new ushort[0], 8, 10)) == Answer.BadGrid, "an empty grid");
         Must(AnswerOf(() => engine.Indices(new uint[0])) == Answer.NoRoom, "no room");
@@ -74,6 +75,26 @@ static class Frames {
         Must(AnswerOf(() => engine.Frame()) == Answer.IsEmpty, "a frame of none");
         Tiles(hill);
         Console.WriteLine("frames of C#");
+    }
+
+    static bool IsRefused(Action call) { try { call(); return false; } catch (ArgumentOutOfRangeException) { return true; } }
+
+    // The planes of a view from (2000, 2000, 1200) along (3, 4, 0), by hand up to a common factor.
+    static void Views(ushort[] hill) {
+        var wanted = new long[,] { { 7, 1, 0, -16000 }, { -1, 7, 0, -12000 }, { 9, 12, 20, -66000 }, { 9, 12, -20, -18000 } };
+        Plane[] planes = View.Frustum(2000, 2000, 1200, 3, 4, 0, 90);
+        for (int k = 0; k < 4; k++) {
+            long factor = planes[k].A / wanted[k, 0];
+            Must(factor > 0 && planes[k].A == factor * wanted[k, 0] && planes[k].B == factor * wanted[k, 1] && planes[k].C == factor * wanted[k, 2]
+                 && planes[k].D == factor * wanted[k, 3], "the planes of a view");
+        }
+        using (var one = new Engine(hill, 8, 30)) one.Look(planes);
+        Must(IsRefused(() => View.Frustum(0, 0, 9, 0, 0, -1, 90)) && IsRefused(() => View.Frustum(0, 0, 9, double.NaN, 0, 0, 90)), "a view of no direction");
+        Must(IsRefused(() => View.Frustum(0, 0, 9, 1, 0, 0, 171)) && IsRefused(() => View.Frustum(0, 0, 9, 1, 0, 0, 170, 1, 2)), "a view too wide");
+        Must(IsRefused(() => View.Frustum(long.MinValue, 0, 9, 1, 0, 0, 90)), "a view from too far");
+        Must(View.PixelThreshold(1, 60, 1080) == 140 && View.PixelThreshold(2, 60, 1080) == 280, "an error in pixels");
+        Must(IsRefused(() => View.PixelThreshold(double.NaN, 60, 1080)) && IsRefused(() => View.PixelThreshold(0, 60, 1080)), "no pixels");
+        Must(IsRefused(() => View.PixelThreshold(1, 171, 1080)) && IsRefused(() => View.PixelThreshold(1, 60, 0)), "no screen");
     }
 
     static void Tiles(ushort[] hill) {

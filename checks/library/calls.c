@@ -596,14 +596,14 @@ int LLVMFuzzerTestOneInput(const uint8_t *data, size_t size) {
 
 static void test_sides(void) {
     struct engine *e = &engines[0];
-    size_t most = (size_t)2049 * 2049;
+    size_t most = (size_t)8193 * 8193;
     uint16_t *large = calloc(most + 1, sizeof *large);
     must(large != NULL, "out of memory");
-    for (unsigned n = 1; n <= 11; n++) {
+    for (unsigned n = 1; n <= 13; n++) {
         size_t count = ((size_t)1 << n | 1) * ((size_t)1 << n | 1);
         do_open(e, large, count - 1, 2, 1);
         do_open(e, large, count + 1, 2, 1);
-        do_open(e, large, count, n == 11 ? 1048576 : 2, 1024);
+        do_open(e, large, count, n >= 11 ? 1048576 : 2, 1024);
         do_set(e, 1u << n, 1u << n, 65535), do_set(e, (1u << n) + 1, 0, 1), do_set(e, 0, (1u << n) + 1, 1);
         do_raise(e, 0, 0, 1u << n, 1u << n, 65535), do_raise(e, 0, 0, (1u << n) + 1, 1u << n, 1);
         do_budget(e, 2);

@@ -82,7 +82,7 @@ static int32_t or_no_memory(int32_t wanted) { left = -1; return wanted == ROAM_O
 
 /* The number of the grid's level, or 0. */
 static unsigned level_of(size_t count) {
-    for (unsigned n = 1; n <= 11; n++) if (count == ((size_t)1 << n | 1) * ((size_t)1 << n | 1)) return n;
+    for (unsigned n = 1; n <= 14; n++) if (count == ((size_t)1 << n | 1) * ((size_t)1 << n | 1)) return n;
     return 0;
 }
 

@@ -53,6 +53,46 @@ namespace Roam {
         public long A, B, C, D;
     }
 
+    /// What a renderer knows of its view, in the library's terms. A number out of range is an ArgumentOutOfRangeException.
+    public static class View {
+        /// The left, right, bottom and top plane, for Engine.Look: from where the camera stands, where it looks (a direction of any
+        /// length, neither straight up nor down), the degrees that it sees from left to right, and the picture's width and
+        /// height. Both fields of view go up to 170 degrees, a place to 2^30 on each axis.
+        public static Plane[] Frustum(long x, long y, long z, double dx, double dy, double dz, double degrees, double width = 4, double height = 3) {
+            double flat = Math.Sqrt(dx * dx + dy * dy), length = Math.Sqrt(flat * flat + dz * dz);
+            double across = Math.Tan(degrees * Math.PI / 360), along = across * height / width;
+            if (!IsNear(x) || !IsNear(y) || !IsNear(z)) throw new ArgumentOutOfRangeException("x, y or z");
+            if (!(flat > 0) || !(length <= double.MaxValue)) throw new ArgumentOutOfRangeException("dx, dy or dz");
+            if (!(degrees > 0 && degrees <= 170)) throw new ArgumentOutOfRangeException("degrees");
+            if (!(along > 0 && along <= Math.Tan(85 * Math.PI / 180))) throw new ArgumentOutOfRangeException("width or height");
+            double[] forward = { dx / length, dy / length, dz / length }, right = { dy / flat, -dx / flat, 0 };
+            double[] up = { -forward[0] * dz / flat, -forward[1] * dz / flat, flat / length };
+            var planes = new Plane[4];
+            for (int k = 0; k < 4; k++) {
+                double[] axis = k < 2 ? right : up;
+                double reach = k < 2 ? across : along, sign = k % 2 == 0 ? 1 : -1;
+                Func<int, long> slope = i => (long)Math.Round(50000 * (reach * forward[i] + sign * axis[i]), MidpointRounding.AwayFromZero);
+                planes[k] = new Plane { A = slope(0), B = slope(1), C = slope(2) };
+                planes[k].D = -(planes[k].A * x + planes[k].B * y + planes[k].C * z);
+            }
+            return planes;
+        }
+
+        /// The threshold of an error of so many pixels, for Engine.Threshold: on a screen of `rows` pixels that shows `degrees`, up to
+        /// 170, from bottom to top. The picture of a height error is so high where it is in the middle of the picture, and seen
+        /// from the side.
+        public static ulong PixelThreshold(double pixels, double degrees, double rows) {
+            if (!(pixels > 0)) throw new ArgumentOutOfRangeException("pixels");
+            if (!(degrees > 0 && degrees <= 170)) throw new ArgumentOutOfRangeException("degrees");
+            if (!(rows > 0)) throw new ArgumentOutOfRangeException("rows");
+            double ratio = 262144 * pixels * Math.Tan(degrees * Math.PI / 360) / rows;
+            if (!(ratio >= 0)) throw new ArgumentOutOfRangeException("rows");
+            return (ulong)Math.Min(ratio, 1e15);
+        }
+
+        static bool IsNear(long place) { return -(1L << 30) <= place && place <= 1L << 30; }
+    }
+
     [StructLayout(LayoutKind.Sequential)]
     struct Handle { ulong mark; IntPtr at; }
 

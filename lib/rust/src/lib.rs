@@ -107,7 +107,7 @@ impl fmt::Display for Error {
     fn fmt(&self, out: &mut fmt::Formatter<'_>) -> fmt::Result {
         out.write_str(match self {
             Error::NoMemory => "out of memory",
-            Error::BadGrid => "the count of heights is not (2^n + 1)^2 with n from 1 to 11",
+            Error::BadGrid => "the count of heights is not (2^n + 1)^2 with n from 1 to 14",
             Error::BadBudget => "the budget is below 2, above 1048576, or above the budget at opening",
             Error::BadSpacing => "the spacing is not from 1 to 1024",
             Error::BadCamera => "a coordinate of the camera is beyond 2^30",
@@ -173,6 +173,37 @@ pub struct Plane {
     pub d: i64,
 }
 
+/// The left, right, bottom and top plane of a view, for [`Engine::look`]: from where the camera stands, where it looks (a direction
+/// of any length, neither straight up nor down), the degrees that it sees from left to right, and the picture's width and
+/// height. None where a number is out of range: both fields of view go up to 170 degrees, a place to 2^30 on each axis.
+pub fn frustum(eye: [i64; 3], direction: [f64; 3], degrees: f64, width: f64, height: f64) -> Option<[Plane; 4]> {
+    let [dx, dy, dz] = direction;
+    let (flat, across) = (dx.hypot(dy), (degrees / 2.0).to_radians().tan());
+    let (length, along) = (flat.hypot(dz), across * height / width);
+    let is_near = eye.iter().all(|place| (-(1 << 30)..=1 << 30).contains(place));
+    let is_seen = 0.0 < degrees && degrees <= 170.0 && 0.0 < along && along <= 85f64.to_radians().tan();
+    if !(is_near && is_seen && flat > 0.0 && length.is_finite()) {
+        return None;
+    }
+    let forward = [dx / length, dy / length, dz / length];
+    let right = [dy / flat, -dx / flat, 0.0];
+    let up = [-forward[0] * dz / flat, -forward[1] * dz / flat, flat / length];
+    Some([(right, across, 1.0), (right, across, -1.0), (up, along, 1.0), (up, along, -1.0)].map(|(axis, reach, sign)| {
+        let slope = |k: usize| (50_000.0 * (reach * forward[k] + sign * axis[k])).round() as i64;
+        let (a, b, c) = (slope(0), slope(1), slope(2));
+        Plane { a, b, c, d: -(a * eye[0] + b * eye[1] + c * eye[2]) }
+    }))
+}
+
+/// The threshold of an error of so many pixels, for [`Engine::threshold`]: on a screen of `rows` pixels that shows `degrees` from
+/// bottom to top. The picture of a height error is so high where it is in the middle of the picture, and seen from the side.
+/// None where a number is out of range: the degrees go up to 170.
+pub fn pixel_threshold(pixels: f64, degrees: f64, rows: f64) -> Option<u64> {
+    let ratio = 262_144.0 * pixels * (degrees / 2.0).to_radians().tan() / rows;
+    let is_seen = pixels > 0.0 && degrees > 0.0 && degrees <= 170.0 && rows > 0.0 && ratio >= 0.0;
+    is_seen.then(|| ratio.min(1e15) as u64)
+}
+
 /// `off / over` units of height, exactly.
 #[repr(C)]
 #[derive(Clone, Copy, Debug, Default, PartialEq, Eq)]
@@ -226,7 +257,7 @@ pub struct Engine {
 unsafe impl Send for Engine {}
 
 impl Engine {
-    /// Opens an engine over (2^n + 1)^2 heights, n from 1 to 11: rows from the far side to the near one, each from left to
+    /// Opens an engine over (2^n + 1)^2 heights, n from 1 to 14: rows from the far side to the near one, each from left to
     /// right. `budget` is the most triangles of a mesh, from 2 to 1,048,576; all memory is taken here.
     pub fn open(heights: &[u16], budget: u32, spacing: u32) -> Result<Self, Error> {
         let mut it = Engine { handle: EMPTY, most: budget, side: 0 };
@@ -252,8 +283,7 @@ impl Engine {
         told(unsafe { c::roam_renew(&mut self.handle) })
     }
 
-    /// Puts a threshold in force: a triangle whose thickness over distance is no more has priority 0. 262,144 p tan(f / 2) / rows
-    /// is that of an error of p pixels, f the field of view from bottom to top, rows those of the screen.
+    /// Puts a threshold in force, as [`pixel_threshold`] gives one: a triangle whose thickness over distance is no more has priority 0.
     pub fn threshold(&mut self, ratio: u64) -> Result<(), Error> {
         told(unsafe { c::roam_threshold(&mut self.handle, ratio) })
     }
@@ -408,7 +438,7 @@ pub struct Fitter {
 unsafe impl Send for Fitter {}
 
 impl Fitter {
-    /// Copies (2^n + 1)^2 heights, n from 1 to 11: rows from the far side to the near one, each from left to right. All
+    /// Copies (2^n + 1)^2 heights, n from 1 to 14: rows from the far side to the near one, each from left to right. All
     /// memory is taken here; the mesh is the two halves of the square.
     pub fn open(heights: &[u16]) -> Result<Self, Error> {
         let side = (1..=11).map(|n| (1 << n) + 1).find(|side| side * side == heights.len()).unwrap_or(0);

@@ -1,6 +1,6 @@
 //! Numbers worked by hand for a hill of one point, and what every mesh is, over generated ground.
 
-use calfrewin::{Changes, Deviation, Engine, Error, Plane};
+use calfrewin::{frustum, pixel_threshold, Changes, Deviation, Engine, Error, Plane};
 
 const HILL: [u16; 9] = [0, 0, 0, 0, 100, 0, 0, 0, 0];
 
@@ -46,6 +46,35 @@ fn a_threshold_keeps_what_is_good_enough_whole() {
     }
 }
 
+/// The planes of a view from (2000, 2000, 1200) along (3, 4, 0), by hand up to a common factor.
+#[test]
+fn a_view_has_four_planes_and_a_pixel_a_threshold() {
+    let wanted = [[7, 1, 0, -16_000], [-1, 7, 0, -12_000], [9, 12, 20, -66_000], [9, 12, -20, -18_000]];
+    let planes = frustum([2000, 2000, 1200], [3.0, 4.0, 0.0], 90.0, 4.0, 3.0).unwrap();
+    for (plane, wanted) in planes.iter().zip(wanted) {
+        let factor = plane.a / wanted[0];
+        assert!(factor > 0);
+        assert_eq!([plane.a, plane.b, plane.c, plane.d], wanted.map(|number| factor * number));
+    }
+    Engine::open(&HILL, 8, 10).unwrap().look(&planes).unwrap();
+    let nan = f64::NAN;
+    for (eye, direction, degrees, width, height) in [
+        ([0, 0, 9], [0.0, 0.0, -1.0], 90.0, 4.0, 3.0),
+        ([0, 0, 9], [nan, 0.0, 0.0], 90.0, 4.0, 3.0),
+        ([0, 0, 9], [1.0, 0.0, 0.0], 171.0, 4.0, 3.0),
+        ([0, 0, 9], [1.0, 0.0, 0.0], nan, 4.0, 3.0),
+        ([0, 0, 9], [1.0, 0.0, 0.0], 170.0, 1.0, 2.0),
+        ([0, 0, 9], [1.0, 0.0, 0.0], 90.0, 1.0, 0.0),
+        ([i64::MIN, 0, 9], [1.0, 0.0, 0.0], 90.0, 4.0, 3.0),
+    ] {
+        assert_eq!(frustum(eye, direction, degrees, width, height), None);
+    }
+    assert_eq!((pixel_threshold(1.0, 60.0, 1080.0), pixel_threshold(2.0, 60.0, 1080.0)), (Some(140), Some(280)));
+    for (pixels, degrees, rows) in [(nan, 60.0, 1080.0), (0.0, 60.0, 1080.0), (1.0, 171.0, 1080.0), (1.0, 60.0, 0.0), (1.0, nan, 9.0)] {
+        assert_eq!(pixel_threshold(pixels, degrees, rows), None);
+    }
+}
+
 #[test]
 fn refusals_have_names_and_change_nothing() {
     assert_eq!(Engine::open(&[0; 8], 2, 1).err(), Some(Error::BadGrid));
@@ -61,7 +90,7 @@ fn refusals_have_names_and_change_nothing() {
     assert_eq!(engine.raise(0, 0, 1, 1, 65_536), Err(Error::BadChange));
     assert_eq!(engine.fit(65_536_000, None).err(), Some(Error::BadTolerance));
     assert_eq!(engine.state(), before);
-    assert_eq!(Error::BadGrid.to_string(), "the count of heights is not (2^n + 1)^2 with n from 1 to 11");
+    assert_eq!(Error::BadGrid.to_string(), "the count of heights is not (2^n + 1)^2 with n from 1 to 14");
 }
 
 #[test]
