@@ -15,6 +15,7 @@ import click
 from . import __version__
 from .export import GLOBE, KINDS
 from .formats import ENCODINGS
+from .heights import MOST_POINTS
 
 Progress = Callable[..., None]
 # Options that have no meaning for the other kind of OUT.
@@ -23,7 +24,6 @@ OF_A_FILE = {name: f"--{name}" for name in (
     "size")}
 OF_A_FOLDER = {"zoom": "--zoom", "skirts": "--skirts", "certify": "--certify"}
 OF_TILES = {"triangles": "--triangles", "skirts": "--skirts", "certify": "--certify"}  # and not of quantized-mesh
-MOST_POINTS = 2049  # a side, of one mesh
 MUCH_FILLED = 0.05  # of the points: above this it warns
 SETTINGS = {"help_option_names": ["-h", "--help"], "max_content_width": 120}
 # Words of more than one command.

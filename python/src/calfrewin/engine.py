@@ -26,7 +26,7 @@ __all__ = ["IS_EMPTY", "NO_MEMORY", "TOO_MANY_PLANES", "WORN", "Changes", "Engin
 Whole = Union[int, "np.integer[Any]"]
 
 # The ranges of roam.h.
-SIDES = tuple(2 ** n + 1 for n in range(1, 12))
+SIDES = tuple(2 ** n + 1 for n in range(1, 15))
 MOST_TRIANGLES, MOST_SPACING, MOST_COORDINATE, MOST_PLANES = 1_048_576, 1024, 1 << 30, 6
 MOST_SLOPE, MOST_OFFSET, MOST_HEIGHT, MOST_TOLERANCE, MOST_BUDGET = 1 << 20, 1 << 50, 65_535, 65_535_999, (1 << 32) - 1
 
@@ -131,7 +131,7 @@ class Engine(Owner):
     """An engine over a copy of a grid of heights, within a `with` block or until `close`.
 
     Args:
-        heights: side x side whole numbers from 0 to 65535, side 3, 5, 9, .. or 2049: rows from the far one (greatest y)
+        heights: side x side whole numbers from 0 to 65535, side 3, 5, 9, .. or 16385: rows from the far one (greatest y)
             to the near one, each from left to right. A C-contiguous uint16 array is read where it lies.
         budget: the most triangles of a mesh, from 2 to 1,048,576; it determines the memory, all of which is taken here.
             For `fit` alone 2 is enough.

@@ -53,7 +53,7 @@ class Fitter(Owner):
     """A copy of a grid of heights and a mesh of it, within a `with` block or until `close`.
 
     Args:
-        heights: side x side whole numbers from 0 to 65535, side 3, 5, 9, .. or 2049, rows from the far one to the near one.
+        heights: side x side whole numbers from 0 to 65535, side 3, 5, 9, .. or 16385, rows from the far one to the near one.
             All memory is taken here, some 16 bytes a point. At first the mesh is the two halves of the square.
 
     A tolerance is a number in units of height, whose thousandths count, or a uint32 array with one in thousandths for each

@@ -8,8 +8,9 @@ import numpy as np
 import numpy.typing as npt
 
 from ._types import Flags, Floats
-from .engine import MOST_HEIGHT, SIDES
+from .engine import MOST_HEIGHT
 
+MOST_POINTS = 2049  # a side, of one mesh: what is larger is made of tiles
 UNITS = tuple(float(f"{digit}e{power}") for power in range(-9, 0) for digit in (1, 2, 5)) + (1.0,)
 NO_PART = 1e-9  # of a unit: what is off by less is a multiple, but for the last bits of a float
 FINEST = 1e-9  # of the greatest height: finer units would be rounding of floats alone
@@ -136,8 +137,8 @@ def side_of(shape: tuple[int, ...]) -> int:
     >>> side_of((100, 129)), side_of((2, 130))
     (129, 257)
     """
-    if len(shape) != 2 or min(shape) < 2 or max(shape) > SIDES[-1]:
-        raise ValueError(f"heights have the shape {shape}, and have to be rows x columns, 2 to {SIDES[-1]} of each: "
+    if len(shape) != 2 or min(shape) < 2 or max(shape) > MOST_POINTS:
+        raise ValueError(f"heights have the shape {shape}, and have to be rows x columns, 2 to {MOST_POINTS} of each: "
                          "every second point is heights[::2, ::2], and calfrewin.tiles takes rasters of any size")
     return (1 << max(1, (max(shape) - 2).bit_length())) + 1
 

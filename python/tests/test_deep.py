@@ -1,0 +1,127 @@
+"""Engines of up to 8,193 points a side against plain greedy splitting: flat ground but for a window of rough heights, so
+that a triangle which does not meet the window needs no look."""
+import functools
+import heapq
+import math
+
+import numpy as np
+import pytest
+
+from calfrewin import Engine
+
+WINDOW = 24  # points a side
+
+
+class Plain:
+    """The triangles of such ground, each looked at when it is asked for, by what the words mean."""
+
+    def __init__(self, exponent, rough, at, spacing):
+        self.n, self.rough, self.at, self.spacing, self.camera = exponent, rough, at, spacing, (0, 0, 0)
+        self.wedge = functools.cache(self._wedge)
+        self.corners = functools.cache(self._corners)
+
+    def height(self, point):
+        x, y = point[0] - self.at[0], point[1] - self.at[1]
+        return int(self.rough[x][y]) if 0 <= x < WINDOW and 0 <= y < WINDOW else 0
+
+    def _corners(self, a):
+        m = 2 ** self.n
+        if a < 4:
+            return [((0, 0), (m, 0), (0, m)), ((m, m), (0, m), (m, 0))][a - 2]
+        apex, v0, v1 = self.corners(a // 2)
+        middle = ((v0[0] + v1[0]) // 2, (v0[1] + v1[1]) // 2)
+        return (middle, v1, apex) if a % 2 else (middle, apex, v0)
+
+    def level(self, a):
+        return a.bit_length() - 2
+
+    def mate(self, a):
+        """The triangle of the level that holds what lies beyond the base: counted in eighths of a step."""
+        apex, v0, v1 = self.corners(a)
+        ways = [v0[i] + v1[i] - 2 * apex[i] for i in (0, 1)]
+        beyond = [4 * (v0[i] + v1[i]) + (ways[i] > 0) - (ways[i] < 0) for i in (0, 1)]
+        if not all(0 <= it <= 8 * 2 ** self.n for it in beyond):
+            return None
+        b = 2 if sum(beyond) < 8 * 2 ** self.n else 3
+        while self.level(b) < self.level(a):
+            b = next(child for child in (2 * b, 2 * b + 1) if self.holds(child, beyond))
+        return b
+
+    def holds(self, a, point):
+        corners = [[8 * part for part in corner] for corner in self.corners(a)]
+        return all((q[0] - p[0]) * (point[1] - p[1]) - (q[1] - p[1]) * (point[0] - p[0]) >= 0
+                   for p, q in zip(corners, corners[1:] + corners[:1]))
+
+    def _wedge(self, a):
+        """Thickness, least and greatest height."""
+        corners = self.corners(a)
+        sides = list(zip(*corners))
+        if any(max(side) < low or min(side) >= low + WINDOW for side, low in zip(sides, self.at)):
+            return 0, 0, 0
+        if self.level(a) == 2 * self.n:
+            own = [self.height(corner) for corner in corners]
+            return 0, min(own), max(own)
+        (e, low, high), (f, low2, high2) = self.wedge(2 * a), self.wedge(2 * a + 1)
+        _, v0, v1 = corners
+        middle = self.corners(2 * a)[0]
+        return (max(e, f) + abs(2 * self.height(middle) - self.height(v0) - self.height(v1)), min(low, low2), max(high, high2))
+
+    def priority(self, a):
+        thickness, low, high = self.wedge(a)
+        box = [(self.spacing * min(side), self.spacing * max(side)) for side in zip(*self.corners(a))] + [(low, high)]
+        gaps = [max(least - at, at - most, 0) for (least, most), at in zip(box, self.camera)]
+        return 65536 * thickness // (math.isqrt(sum(gap * gap for gap in gaps)) + 1)
+
+    def leaves(self, budget):
+        """Those of the mesh for a budget, and the greatest priority of one."""
+        split, queue = set(), [(-self.priority(a), a) for a in (2, 3)]
+        while queue:
+            below, a = heapq.heappop(queue)
+            if below == 0:
+                break
+            more, left = set(), [a]
+            while left:
+                b = left.pop()
+                if b is not None and b not in split and b not in more:
+                    more.add(b)
+                    left += [self.mate(b)] + [b // 2] * (b >= 4)
+            if len(split) + len(more) + 2 > budget:
+                break
+            split |= more
+            if self.level(a) + 1 < 2 * self.n:
+                for child in (2 * a, 2 * a + 1):
+                    heapq.heappush(queue, (-self.priority(child), child))
+        found, left = [], [3, 2]
+        while left:
+            a = left.pop()
+            if a in split:
+                left += [2 * a + 1, 2 * a]
+            else:
+                found.append(a)
+        return found, max(map(self.priority, found))
+
+
+@pytest.mark.parametrize("exponent, at, spacing", [(12, (2048, 1000), 30), (13, (8150, 3), 90), (13, (4085, 4090), 1024)])
+def test_frames_of_deep_grids_are_those_of_greedy_splitting(exponent, at, spacing):
+    side = 2 ** exponent + 1
+    rough = np.random.default_rng(exponent).integers(0, 65536, (WINDOW, WINDOW))
+    heights = np.zeros((side, side), np.uint16)
+    for x in range(WINDOW):
+        for y in range(WINDOW):
+            heights[side - 1 - (at[1] + y), at[0] + x] = rough[x][y]
+    plain = Plain(exponent, rough, at, spacing)
+    with Engine(heights, 2000, spacing) as engine:
+        del heights
+        near = spacing * at[0], spacing * at[1], 200
+        for budget, camera in [(2000, (0, 0, 100_000)), (2000, near), (300, (2 ** 23, 5, 2 ** 20)),
+                               (1999, (2 ** 30, -2 ** 30, 2 ** 30)), (2000, (near[0] + 700, 0, 0))]:
+            plain.camera = camera
+            engine.camera(*camera)
+            engine.budget(budget)
+            note = engine.frame()
+            leaves, worst = plain.leaves(budget)
+            assert engine.leaves().tolist() == leaves
+            assert (note.triangles, note.worst) == (len(leaves), worst)
+            corners = [plain.corners(a) for a in leaves]
+            places = [[(side - 1 - y) * side + x for x, y in triangle] for triangle in corners]
+            assert engine.indices().tolist() == places
