@@ -74,7 +74,7 @@ int main(int argc, char **argv) {
     unsigned n = (unsigned)atoi(argv[is_memory ? 2 : 1]);
     uint32_t budget = (uint32_t)atol(argv[is_memory ? 3 : 2]);
     int64_t step = atol(argv[3]), width = (int64_t)30 << n, x = width / 3, y = width / 2, z = 40000;
-    if (n < 1 || n > 11) return 2;
+    if (n < 1 || n > 14) return 2;
     size_t side = ((size_t)1 << n) + 1, room = budget;
     uint16_t *heights = made_grid(n);
 
