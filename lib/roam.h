@@ -263,7 +263,7 @@ typedef struct roam_required_note {
 } roam_required_note;
 
 /* Opens a mosaic of columns x rows tiles of `side` points a side, of which none has a mesh. ROAM_BAD_GRID: side is not 2^n + 1 with n
- * from 1 to 11, or columns or rows are 0 or above 65536. All memory is taken here: a bit for each border point of each tile, and
+ * from 1 to 14, or columns or rows are 0 or above 65536. All memory is taken here: a bit for each border point of each tile, and
  * 5 bytes for each border point of one. A full handle lets go of what it had, unless the call fails. */
 int32_t roam_mosaic_open(roam_mosaic *m, uint32_t columns, uint32_t rows, uint32_t side);
 

@@ -7,7 +7,7 @@ import math
 import numpy as np
 import pytest
 
-from calfrewin import Engine
+from calfrewin import Engine, Fitter
 
 WINDOW = 24  # points a side
 
@@ -125,3 +125,31 @@ def test_frames_of_deep_grids_are_those_of_greedy_splitting(exponent, at, spacin
             corners = [plain.corners(a) for a in leaves]
             places = [[(side - 1 - y) * side + x for x, y in triangle] for triangle in corners]
             assert engine.indices().tolist() == places
+
+
+def worst_of(heights, triangles):
+    """How far the triangles are from the heights at most, point by point, and twice their area."""
+    side, worst, area = len(heights), 0.0, 0
+    for places in triangles.tolist():
+        (ax, ay), (bx, by), (cx, cy) = ((place % side, place // side) for place in places)
+        columns, rows = slice(min(ax, bx, cx), max(ax, bx, cx) + 1), slice(min(ay, by, cy), max(ay, by, cy) + 1)
+        y, x = np.mgrid[rows, columns]
+        twice = (bx - ax) * (cy - ay) - (cx - ax) * (by - ay)
+        at_b, at_c = ((x - ax) * (cy - ay) - (cx - ax) * (y - ay)) / twice, ((bx - ax) * (y - ay) - (x - ax) * (by - ay)) / twice
+        inside = (at_b >= 0) & (at_c >= 0) & (at_b + at_c <= 1)
+        own = float(heights[ay, ax])
+        surface = own + at_b * (float(heights[by, bx]) - own) + at_c * (float(heights[cy, cx]) - own)
+        worst, area = max(worst, float(np.abs(surface - heights[rows, columns])[inside].max())), area + abs(twice)
+    return worst, area
+
+
+def test_a_fit_of_a_deep_grid_is_as_far_off_as_it_says():
+    side = 4097
+    y, x = np.mgrid[0:side, 0:side]
+    rough = np.random.default_rng(5).integers(0, 60, (side, side))
+    heights = (20_000 + 9_000 * np.sin(x / 301) * np.cos(y / 217) + rough).astype(np.uint16)
+    with Fitter(heights) as fitter:
+        fitter.fit(400)
+        off, triangles = fitter.deviation(), fitter.indices()
+    assert 2 < len(triangles) and off <= 400
+    assert worst_of(heights, triangles) == (float(off), 2 * (side - 1) ** 2)  # exact: all numbers have few binary digits
