@@ -7,6 +7,7 @@ use Rattle.mesh_defs.specs.Triangle.{corners_of, child}
 use Rattle.mesh_defs.specs.BoundingBox.{BoundingBox, CameraAt, IsRoot, gap, squared_distance, root_of, distance_of}
 use Rattle.mesh_defs.specs.BoundingBox.{box_of, least, greatest, low_of, high_of, least_of_3, greatest_of_3}
 use Rattle.cull_marks.specs.Nesting.{IsInside, IsOrdered}
+use Rattle.view_priority.specs.Bounds.{box_over}
 use Rattle.view_priority.proofs.RootLemmas.{root-order}
 use Rattle.view_priority.proofs.MoveLemmas.{squares}
 
@@ -64,14 +65,41 @@ IsNarrower-child (suc _) c = record { left = omega arith; right = omega arith; b
 
 -- ---- boxes
 
+pub box_over-ordered : (s : ℕ) (c : Corners) (low high : ℕ) → low ≤ high → IsOrdered (box_over s c low high)
+box_over-ordered s c low high order = record {
+  x = range-order s c.apex.x c.v0.x c.v1.x;
+  y = range-order s c.apex.y c.v0.y c.v1.y;
+  z = omega (arith, ints);
+}
+
+-- the box over a narrower triangle, whose heights lie between those of the other
+box_over-narrower : (s : ℕ) (c d : Corners) (low high inner_low inner_high : ℕ) → IsNarrower c d → low ≤ inner_low →
+    inner_low ≤ inner_high → inner_high ≤ high →
+    IsInside (box_over s d inner_low inner_high) (box_over s c low high)
+box_over-narrower s c d low high inner_low inner_high within from order to =
+    let ordered = box_over-ordered s d inner_low inner_high order in record {
+      x_low = scaled s _ _ within.left;
+      x_order = ordered.x;
+      x_high = scaled s _ _ within.right;
+      y_low = scaled s _ _ within.bottom;
+      y_order = ordered.y;
+      y_high = scaled s _ _ within.top;
+      z_low = omega (arith, ints);
+      z_order = ordered.z;
+      z_high = omega (arith, ints);
+    }
+
+-- that over a child
+pub box_over-child : (s side : ℕ) (c : Corners) (low high inner_low inner_high : ℕ) → low ≤ inner_low →
+    inner_low ≤ inner_high → inner_high ≤ high →
+    IsInside (box_over s (child side c) inner_low inner_high) (box_over s c low high)
+box_over-child s side c low high inner_low inner_high from order to =
+    box_over-narrower s c (child side c) low high inner_low inner_high (IsNarrower-child side c) from order to
+
 pub box_of-ordered : (n : ℕ) (heights : List ℕ) (s a : ℕ) → IsOrdered (box_of n heights s a)
 unfolding box_of
 box_of-ordered n heights s a =
-    let c : Corners = corners_of n a in record {
-      x = range-order s c.apex.x c.v0.x c.v1.x;
-      y = range-order s c.apex.y c.v0.y c.v1.y;
-      z = let order = low_of-high_of n heights a in omega (arith, ints);
-    }
+    box_over-ordered s (corners_of n a) (low_of n heights a) (high_of n heights a) (low_of-high_of n heights a)
 
 -- the box of a child
 pub box_of-child : (n : ℕ) (heights : List ℕ) (s a b side : ℕ) → low_of n heights a ≤ low_of n heights b →
@@ -79,15 +107,5 @@ pub box_of-child : (n : ℕ) (heights : List ℕ) (s a b side : ℕ) → low_of 
     IsInside (box_of n heights s b) (box_of n heights s a)
 unfolding box_of
 box_of-child n heights s a b side low high corners =
-    let within : IsNarrower (corners_of n a) (corners_of n b) = rw corners (IsNarrower-child side (corners_of n a)) in
-    let order = box_of-ordered n heights s b in record {
-      x_low = scaled s _ _ within.left;
-      x_order = order.x;
-      x_high = scaled s _ _ within.right;
-      y_low = scaled s _ _ within.bottom;
-      y_order = order.y;
-      y_high = scaled s _ _ within.top;
-      z_low = omega (arith, ints);
-      z_order = order.z;
-      z_high = omega (arith, ints);
-    }
+    rw corners (box_over-child s side (corners_of n a) _ _ (low_of n heights b) (high_of n heights b) low
+    (low_of-high_of n heights b) high)

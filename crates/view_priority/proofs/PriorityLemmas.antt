@@ -17,11 +17,20 @@ use Rattle.cull_marks.specs.Nesting.{IsInside, IsOrdered}
 use Rattle.bintree_addr.specs.declared.cuboid.Cuboid.{Cuboid}
 use Rattle.mesh_defs.specs.State.{SceneState, priority_seen, move_length}
 use Rattle.view_priority.specs.Scene.{distance_seen, seen_from}
-use Rattle.view_priority.specs.Bounds.{priority_at}
+use Rattle.view_priority.specs.Bounds.{box_priority_at, box_priority, viewed_from, priority_at}
 use Rattle.view_priority.proofs.RatioLemmas.{seen_ratio-order, seen_ratio-inherited}
 use Rattle.view_priority.proofs.NestLemmas.{distance_of-inside}
 
 -- what all laws on marks and roots say, for one pair of boxes
+pub box_priority-inside : ((s : ℕ) → IsRoot s (root_of s)) → (view : View) (inner outer : BoundingBox)
+    (thin thick : ℕ) → IsInside inner outer →
+    (mark_of view.planes outer ≡ Outside → mark_of view.planes inner ≡ Outside) → thin ≤ thick →
+    box_priority view inner thin ≤ box_priority view outer thick
+box_priority-inside roots view inner outer thin thick inside stays thinner =
+    above-order view.threshold _ _ (seen_ratio-inherited _ _ _ _ _ _ stays thinner
+    (distance_of-inside roots inner outer view.camera inside))
+
+-- and of two triangles
 pub priority_of-inside : ((s : ℕ) → IsRoot s (root_of s)) → (n : ℕ) (heights : List ℕ) (view : View) (a b : ℕ) →
     IsInside (box_of n heights view.spacing b) (box_of n heights view.spacing a) →
     (mark_of view.planes (box_of n heights view.spacing a) ≡ Outside →
@@ -30,8 +39,8 @@ pub priority_of-inside : ((s : ℕ) → IsRoot s (root_of s)) → (n : ℕ) (hei
     priority_of n heights view b ≤ priority_of n heights view a
 unfolding priority_of
 priority_of-inside roots n heights view a b inside stays thinner =
-    above-order view.threshold _ _ (seen_ratio-inherited _ _ _ _ _ _ stays thinner
-    (distance_of-inside roots (box_of n heights view.spacing b) (box_of n heights view.spacing a) view.camera inside))
+    box_priority-inside roots view (box_of n heights view.spacing b) (box_of n heights view.spacing a) _ _ inside stays
+    thinner
 
 -- no thickness, no priority
 seen_ratio-none : (mark : Mark) (d : ℕ) → seen_ratio mark 0 d ≡ 0
@@ -41,6 +50,9 @@ seen_ratio-none Outside d = refl
 
 above-nothing : (t p : ℕ) → p ≡ 0 → above t p ≡ 0
 above-nothing t p none = grind arith
+
+pub box_priority_at-flat : (view : View) (box : BoundingBox) (d : ℕ) → box_priority_at view box 0 d ≡ 0
+box_priority_at-flat view box d = above-nothing view.threshold _ (seen_ratio-none _ d)
 
 pub priority_of-none : (n : ℕ) (heights : List ℕ) (view : View) (a : ℕ) → thickness_of n heights a ≡ 0 →
     priority_of n heights view a ≡ 0
@@ -119,27 +131,38 @@ back i j = omega (arith, ints)
 move_length-swapped : (from to : CameraAt) → move_length from to ≡ move_length to from
 move_length-swapped from to = rw (back from.x to.x, back from.y to.y, back from.z to.z) refl
 
+module _ (view : View) (to : CameraAt) (box : BoundingBox) (e slack : ℕ)
+    (farther : (box : BoundingBox) (from to : CameraAt) → IsOrdered box →
+    distance_of box to ≤ distance_of box from + move_length from to) (ordered : IsOrdered box) where
+  -- within the slack the priority is at most that at the distance less the slack
+  pub box_priority-below_hi : move_length view.camera to ≤ slack →
+      box_priority (viewed_from to view) box e ≤ box_priority_at view box e (distance_of box view.camera - slack)
+  box_priority-below_hi within =
+      let back = farther box to view.camera ordered in
+      let same = move_length-swapped view.camera to in
+      above-order view.threshold _ _ (seen_ratio-order (mark_of view.planes box) _ _ _ _ (omega arith) (omega arith))
+
+  -- and at least that at the distance and the slack
+  pub box_priority-above_lo : move_length view.camera to ≤ slack →
+      box_priority_at view box e (distance_of box view.camera + slack) ≤ box_priority (viewed_from to view) box e
+  box_priority-above_lo within =
+      let there = farther box view.camera to ordered in
+      above-order view.threshold _ _ (seen_ratio-order (mark_of view.planes box) _ _ _ _ (omega arith) (omega arith))
+
 module _ (s : SceneState) (to : CameraAt) (t slack : ℕ)
     (farther : (box : BoundingBox) (from to : CameraAt) → IsOrdered box →
     distance_of box to ≤ distance_of box from + move_length from to)
     (ordered : IsOrdered (box_of s.grid.n s.grid.heights s.view.spacing t)) where
-  -- within the slack the priority is at most that at the distance less the slack
   pub priority_seen-below_hi : move_length s.view.camera to ≤ slack →
       priority_seen (seen_from to s) t ≤ priority_at s.grid.n s.grid.heights s.view t (distance_seen s t - slack)
   unfolding priority_of priority_at
   priority_seen-below_hi within =
-      let back = farther (box_of s.grid.n s.grid.heights s.view.spacing t) to s.view.camera ordered in
-      let same = move_length-swapped s.view.camera to in
-      above-order s.view.threshold _ _
-      (seen_ratio-order (mark_of s.view.planes (box_of s.grid.n s.grid.heights s.view.spacing t)) _ _ _ _
-      (omega arith) (omega arith))
+      box_priority-below_hi s.view to (box_of s.grid.n s.grid.heights s.view.spacing t)
+      (thickness_of s.grid.n s.grid.heights t) slack farther ordered within
 
-  -- and at least that at the distance and the slack
   pub priority_seen-above_lo : move_length s.view.camera to ≤ slack →
       priority_at s.grid.n s.grid.heights s.view t (distance_seen s t + slack) ≤ priority_seen (seen_from to s) t
   unfolding priority_of priority_at
   priority_seen-above_lo within =
-      let there = farther (box_of s.grid.n s.grid.heights s.view.spacing t) s.view.camera to ordered in
-      above-order s.view.threshold _ _
-      (seen_ratio-order (mark_of s.view.planes (box_of s.grid.n s.grid.heights s.view.spacing t)) _ _ _ _
-      (omega arith) (omega arith))
+      box_priority-above_lo s.view to (box_of s.grid.n s.grid.heights s.view.spacing t)
+      (thickness_of s.grid.n s.grid.heights t) slack farther ordered within

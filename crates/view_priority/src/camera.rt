@@ -1,6 +1,7 @@
 //! Where the viewer is.
 
-ghost use Rattle.std.specs.Prelude.{◌≡◌, ◌≤◌, ◌^◌, ◌↔◌, IsSome, IfSome, IsTrue, unsigned_abs};
+ghost use Rattle.std.specs.Prelude.{◌≡◌, ◌≤◌, ◌^◌, ◌↔◌, ◌-ℤ◌, IsSome, IfSome, IsTrue, unsigned_abs};
+ghost use Rattle.mesh_defs.specs.State.{move_length};
 ghost use Rattle.view_priority.specs.Camera.{IsCamera};
 
 use mesh_defs::CAMERA_REACH;
@@ -63,6 +64,27 @@ impl Camera {
     {
         self.z
     }
+
+    /// How long the way to another place is: the sum of its lengths along the three axes.
+    pub fn way_to(self, camera: Camera) -> u64
+        ensures value { result ≡ move_length self camera }
+        ensures small { result ≤ 2 ^ 33 }
+    {
+        let x = length_along(self.x(), camera.x());
+        let y = length_along(self.y(), camera.y());
+        let z = length_along(self.z(), camera.z());
+        x + y + z
+    }
+}
+
+/// How far it is from one coordinate of a camera to another.
+fn length_along(from: i64, to: i64) -> u64
+    requires from_size { unsigned_abs from ≤ 2 ^ 30 }
+    requires to_size { unsigned_abs to ≤ 2 ^ 30 }
+    ensures value { result ≡ unsigned_abs (to -ℤ from) }
+    ensures small { result ≤ 2 ^ 31 }
+{
+    to.abs_diff(from)
 }
 
 /// Whether a number is small enough for a coordinate.

@@ -10,38 +10,57 @@ use cull_marks::Mark;
 
 /// What decides a triangle's priority.
 #[derive(Clone, Copy, Debug)]
-pub(crate) struct Factors {
+pub struct Factors {
     /// How its box lies to the view planes.
-    pub(crate) mark: Mark,
+    pub mark: Mark,
     /// Its thickness, in half units of height.
-    pub(crate) thickness: u32,
+    pub thickness: u32,
     /// How far its box is from the camera, in world units.
-    pub(crate) distance: u64,
+    pub distance: u64,
     /// The greatest ratio of both that is good enough.
-    pub(crate) threshold: u64,
+    pub threshold: u64,
 }
 
-/// The ranks at the distance less the slack, at least 0, and at the distance plus the slack.
-pub(crate) fn bounds_within(factors: &Factors, t: Tri, slack: u64) -> Bounds
-    requires distance { factors.now.distance < 2 ^ 31 }
-    requires slack { slack ≤ 2 ^ 32 }
-    ensures hi_tri { result.hi.tri ≡ t }
-    ensures lo_tri { result.lo.tri ≡ t }
-    ensures hi { result.hi.p ≡ above factors.now.threshold
-        (seen_ratio factors.now.mark factors.now.thickness (factors.now.distance - slack)) }
-    ensures lo { result.lo.p ≡ above factors.now.threshold
-        (seen_ratio factors.now.mark factors.now.thickness (factors.now.distance + slack)) }
-{
-    let near = factors.distance.saturating_sub(slack);
-    let far = factors.distance + slack;
-    Bounds {
-        hi: Rank {
-            p: seen_priority(factors.threshold, factors.mark, factors.thickness, near),
+impl Factors {
+    /// The triangle with its priority.
+    pub fn rank(&self, t: Tri) -> Rank
+        requires distance { self.now.distance < 2 ^ 31 }
+        ensures tri { result.tri ≡ t }
+        ensures value { result.p ≡ above self.now.threshold
+            (seen_ratio self.now.mark self.now.thickness self.now.distance) }
+    {
+        self.rank_at(t, self.distance)
+    }
+
+    /// The ranks at the distance less the slack, at least 0, and at the distance plus the slack.
+    pub fn bounds(&self, t: Tri, slack: u64) -> Bounds
+        requires distance { self.now.distance < 2 ^ 31 }
+        requires slack { slack ≤ 2 ^ 32 }
+        ensures hi_tri { result.hi.tri ≡ t }
+        ensures lo_tri { result.lo.tri ≡ t }
+        ensures hi { result.hi.p ≡ above self.now.threshold
+            (seen_ratio self.now.mark self.now.thickness (self.now.distance - slack)) }
+        ensures lo { result.lo.p ≡ above self.now.threshold
+            (seen_ratio self.now.mark self.now.thickness (self.now.distance + slack)) }
+    {
+        let near = self.distance.saturating_sub(slack);
+        let far = self.distance + slack;
+        Bounds {
+            hi: self.rank_at(t, near),
+            lo: self.rank_at(t, far),
+        }
+    }
+
+    /// The rank at another distance.
+    fn rank_at(&self, t: Tri, distance: u64) -> Rank
+        requires near { distance ≤ 2 ^ 33 }
+        ensures tri { result.tri ≡ t }
+        ensures value { result.p ≡ above self.now.threshold
+            (seen_ratio self.now.mark self.now.thickness distance) }
+    {
+        Rank {
+            p: seen_priority(self.threshold, self.mark, self.thickness, distance),
             tri: t,
-        },
-        lo: Rank {
-            p: seen_priority(factors.threshold, factors.mark, factors.thickness, far),
-            tri: t,
-        },
+        }
     }
 }

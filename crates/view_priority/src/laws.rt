@@ -1,18 +1,45 @@
 //! Laws of priorities, as clauses of functions with empty bodies.
 
-ghost use Rattle.std.specs.Prelude.{◌≡◌, ℕ, ◌+◌, ◌*◌, ◌/◌, ◌≤◌, List};
-ghost use Rattle.mesh_defs.specs.Triangle.{level_of, IsSplittable};
+ghost use Rattle.std.specs.Prelude.{◌≡◌, ℕ, ◌+◌, ◌-◌, ◌*◌, ◌/◌, ◌≤◌, List};
+ghost use Rattle.mesh_defs.specs.declared.point.Corners.{Corners};
+ghost use Rattle.mesh_defs.specs.Triangle.{level_of, child, IsSplittable};
 ghost use Rattle.mesh_defs.specs.BoundingBox.{BoundingBox, CameraAt, box_of, distance_of};
 ghost use Rattle.mesh_defs.specs.State.{move_length};
 ghost use Rattle.mesh_defs.specs.View.{View, ViewPlane, mark_of};
 ghost use Rattle.mesh_defs.specs.Priority.{priority_of};
 ghost use Rattle.mesh_defs.specs.Ranking.{RanksBefore};
 ghost use Rattle.cull_marks.specs.Nesting.{IsInside, IsOrdered};
+ghost use Rattle.view_priority.specs.Bounds.{box_over, box_priority_at, box_priority, viewed_from};
 
 use bintree_addr::{corner_laws, level_laws};
 use cull_marks::mark_laws;
 use mesh_defs::{Mark, roots};
 use wedgie_tree::wedge_laws;
+
+/// Priorities by boxes and thicknesses, whatever these are of.
+///
+/// `ordered` the box over a triangle has its ends in order, and `child` that over a child lies in it where its heights
+/// do. `nested` what lies in a box and is no thicker has no greater priority; `flat` without thickness it is 0. `above`,
+/// `below` from each place within the slack it lies between those at the two distances.
+pub fn box_laws()
+    ensures ordered { (spacing : ℕ) (c : Corners) (low high : ℕ) → low ≤ high →
+        IsOrdered (box_over spacing c low high) }
+    ensures child { (spacing side : ℕ) (c : Corners) (low high inner_low inner_high : ℕ) → low ≤ inner_low →
+        inner_low ≤ inner_high → inner_high ≤ high →
+        IsInside (box_over spacing (child side c) inner_low inner_high) (box_over spacing c low high) }
+    ensures nested { (view : View) (inner outer : BoundingBox) (thin thick : ℕ) → IsInside inner outer →
+        thin ≤ thick → box_priority view inner thin ≤ box_priority view outer thick }
+    ensures flat { (view : View) (box : BoundingBox) (distance : ℕ) → box_priority_at view box 0 distance ≡ 0 }
+    ensures above { (view : View) (to : CameraAt) (box : BoundingBox) (thickness slack : ℕ) → IsOrdered box →
+        move_length view.camera to ≤ slack → box_priority (viewed_from to view) box thickness
+        ≤ box_priority_at view box thickness (distance_of box view.camera - slack) }
+    ensures below { (view : View) (to : CameraAt) (box : BoundingBox) (thickness slack : ℕ) → IsOrdered box →
+        move_length view.camera to ≤ slack → box_priority_at view box thickness (distance_of box view.camera + slack)
+        ≤ box_priority (viewed_from to view) box thickness }
+{
+    mark_laws();
+    roots();
+}
 
 /// Priorities do not rise from a triangle to its children, since a child's box lies in its parent's.
 ///

@@ -22,8 +22,9 @@ mod scene;
 
 pub use camera::Camera;
 pub use evaluation::{bounds, bounds_by_part, rank};
+pub use factors::Factors;
 pub use gap::distance;
-pub use laws::{distance_laws, priority_laws, view_laws};
+pub use laws::{box_laws, distance_laws, priority_laws, view_laws};
 pub use meter::Meter;
 pub use outlook::Outlook;
 pub use ranks::Bounds;

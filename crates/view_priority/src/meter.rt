@@ -35,7 +35,7 @@ impl Meter {
     }
 
     /// Counts one more.
-    pub(crate) fn tick(&mut self)
+    pub fn tick(&mut self)
         ensures { self.new ≡ counted self.old }
     {
         self.count = self.count.saturating_add(1);

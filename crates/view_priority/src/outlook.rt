@@ -1,6 +1,6 @@
 //! A scene that its owner changes.
 
-ghost use Rattle.std.specs.Prelude.{◌≡◌, ◌<◌, ◌≤◌, ◌^◌, ◌-ℤ◌, [], ◌∷◌, ◌++◌, length, unsigned_abs};
+ghost use Rattle.std.specs.Prelude.{◌≡◌, ◌<◌, ◌≤◌, ◌^◌, [], ◌∷◌, ◌++◌, length};
 ghost use Rattle.mesh_defs.specs.View.{start_view};
 ghost use Rattle.mesh_defs.specs.State.{move_length};
 ghost use Rattle.cull_marks.specs.declared.planes.TheConstants.{MOST_PLANES};
@@ -74,10 +74,7 @@ impl Outlook {
         ensures value { result ≡ move_length self.now.view.camera camera }
         ensures small { result ≤ 2 ^ 33 }
     {
-        let x = length_along(self.camera.x(), camera.x());
-        let y = length_along(self.camera.y(), camera.y());
-        let z = length_along(self.camera.z(), camera.z());
-        x + y + z
+        self.camera.way_to(camera)
     }
 
     /// Puts the camera to a place, and answers how long the way there was.
@@ -119,14 +116,4 @@ impl Outlook {
     {
         self.threshold = threshold;
     }
-}
-
-/// How far it is from one coordinate of a camera to another.
-fn length_along(from: i64, to: i64) -> u64
-    requires from_size { unsigned_abs from ≤ 2 ^ 30 }
-    requires to_size { unsigned_abs to ≤ 2 ^ 30 }
-    ensures value { result ≡ unsigned_abs (to -ℤ from) }
-    ensures small { result ≤ 2 ^ 31 }
-{
-    to.abs_diff(from)
 }

@@ -11,7 +11,7 @@ ghost use Rattle.view_priority.specs.Bounds.{priority_at};
 ghost use Rattle.view_priority.specs.Meter.{counted};
 ghost use Rattle.view_priority.specs.Scene.{distance_seen, seen_from};
 
-use crate::factors::{Factors, bounds_within};
+use crate::factors::Factors;
 use crate::ratio::seen_priority;
 use crate::{Bounds, Camera, Meter, distance, distance_laws, priority_laws};
 use bintree_addr::{Rank, Tri};
@@ -123,7 +123,7 @@ impl<'a> Scene<'a> {
         distance_laws();
         meter.tick();
         let factors = self.factors(t);
-        bounds_within(&factors, t, slack)
+        factors.bounds(t, slack)
     }
 
     /// The bounds of a slack that is the distance over `part`, rounded down, and that slack. The meter counts one more.
@@ -145,7 +145,7 @@ impl<'a> Scene<'a> {
         meter.tick();
         let factors = self.factors(t);
         let slack = factors.distance / part;
-        (slack, bounds_within(&factors, t, slack))
+        (slack, factors.bounds(t, slack))
     }
 
     /// What decides the priority of a triangle.

@@ -5,13 +5,13 @@ use Rattle.view_priority.proofs.scene.Scene.bounds.Goals as goal
 pub returns-clause-hi : goal.returns-clause-hi
 returns-clause-hi c =
     let parts = c.factors-factors.ensures in
-    priority_at-by_parts c.args.self.now c.args.t c.bounds_within.result.hi.p _ _ _ _ _ c.bounds_within.ensures.hi
+    priority_at-by_parts c.args.self.now c.args.t c.bounds.result.hi.p _ _ _ _ _ c.bounds.ensures.hi
     parts.threshold parts.mark parts.thickness (ap (λ d. d - c.args.slack) parts.distance)
 
 pub returns-clause-lo : goal.returns-clause-lo
 returns-clause-lo c =
     let parts = c.factors-factors.ensures in
-    priority_at-by_parts c.args.self.now c.args.t c.bounds_within.result.lo.p _ _ _ _ _ c.bounds_within.ensures.lo
+    priority_at-by_parts c.args.self.now c.args.t c.bounds.result.lo.p _ _ _ _ _ c.bounds.ensures.lo
     parts.threshold parts.mark parts.thickness (ap (λ d. d + c.args.slack) parts.distance)
 
 pub returns-clause-above : goal.returns-clause-above
