@@ -12,17 +12,15 @@ use Rattle.mesh_defs.specs.Priority.{above, seen_ratio, priority_of}
 use Rattle.bintree_laws.proofs.LevelLemmas.{level_of-parent}
 use Rattle.mesh_laws.proofs.ConformityLemmas.{IsUnder, self, below}
 use Rattle.mesh_laws.proofs.SizeLemmas.{under-true}
-use Rattle.roam_mesh.specs.Mesh.{MeshState}
+use Rattle.roam_mesh.specs.Mesh.{MeshState, OnlyEntriesStamped}
 use Rattle.mesh_arrays.specs.Below.{is_at_or_below}
 use Rattle.mesh_defs.specs.State.{SceneState}
-use Rattle.frame_loop.specs.Outlook.{IsSamePriority}
+use Rattle.frame_loop.specs.Outlook.{IsSamePriority, AreBracketed}
 use Rattle.frame_loop.specs.Changes.{LeafChanges}
-use Rattle.frame_loop.specs.Engine.{IsEngine, IsExpired, engine_of}
+use Rattle.frame_loop.specs.Engine.{IsEngine, engine_of}
 use Rattle.view_priority.specs.Scene.{seen_within}
 use Rattle.frame_loop.specs.Turn.{mark_under, is_turn, is_settled, is_turned}
 use Rattle.frame_loop.proofs.EditLemmas.{edited_engine}
-use Rattle.frame_loop.proofs.ExpiryLemmas.{OnlyEntriesStamped-expired}
-use Rattle.frame_loop.proofs.KeepLemmas.{bracketed-edited}
 
 -- ---- what lies below
 
@@ -98,16 +96,15 @@ IsSamePriority-unturned o planes a none to =
 
 -- ---- engines
 
--- Other planes, where the stamps are expired of all triangles that are turned.
+-- other planes, where the stamps that are left bracket the priorities under these
 pub planes_engine : (o other : SceneState) (planes : List ViewPlane) (budget most : ℕ) (before after : MeshState)
     (odometer frames evaluations : ℕ) (changes : LeafChanges) →
-    other ≡ seen_within planes o → IsExpired before after (is_turned o planes) →
+    other ≡ seen_within planes o → after.pool ≡ before.pool →
+    AreBracketed (seen_within planes o) odometer after → OnlyEntriesStamped after →
     IsEngine (engine_of o budget most before odometer frames evaluations changes) →
     IsEngine (engine_of other budget most after odometer frames evaluations changes)
-planes_engine o other planes budget most before after odometer frames evaluations changes same is engine =
+planes_engine o other planes budget most before after odometer frames evaluations changes same pool kept only engine =
     subst (λ (z : SceneState). IsEngine (engine_of z budget most after odometer frames evaluations changes)) (sym same)
     (edited_engine (engine_of o budget most before odometer frames evaluations changes)
-    (record { grid = o.grid; view = (seen_within planes o).view; budget = budget }) after engine is.pool refl refl refl
-    (bracketed-edited o (seen_within planes o) odometer before after (is_turned o planes) refl engine.n engine.only is
-    (λ a address out. IsSamePriority-unturned o planes a out) engine.kept)
-    (OnlyEntriesStamped-expired before after (is_turned o planes) is engine.only))
+    (record { grid = o.grid; view = (seen_within planes o).view; budget = budget }) after engine pool refl refl refl
+    kept only)

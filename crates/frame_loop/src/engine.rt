@@ -15,7 +15,6 @@ ghost use Rattle.frame_loop.specs.Outlook.{AreBracketed};
 ghost use Rattle.frame_loop.specs.Changes.{no_changes};
 ghost use Rattle.frame_loop.specs.Engine.{is_split, mesh_seen};
 
-use crate::laws::scene_laws;
 use crate::listing::number_leaves;
 use crate::lists::Lists;
 use crate::note::FrameNote;
@@ -27,6 +26,7 @@ use roam_mesh::Mesh;
 use std::alloc::Global;
 use std::marker::Model;
 use triangle_pool::Pool;
+use view_mesh::{expiry_laws, sight_laws};
 use view_priority::{Camera, Meter, Outlook};
 use wedgie_tree::Wedges;
 
@@ -104,6 +104,8 @@ impl Engine {
         ensures splits { IfOk result (λ e. e.mesh.pool.splits ≡ 0) }
         ensures merges { IfOk result (λ e. e.mesh.pool.merges ≡ 0) }
     {
+        sight_laws();
+        expiry_laws();
         let n = grid.n();
         let wedges = Wedges::build(alloc, grid)?;
         let room = room(n, budget);
@@ -154,7 +156,7 @@ impl Engine {
           odometer = self.old.odometer + move_length self.old.state.view.camera camera;
         } }
     {
-        scene_laws();
+        sight_laws();
         if self.outlook.way_to(camera) == 0 {
             return;
         }

@@ -46,7 +46,7 @@ list_changed-vertices-requires-clause-known c =
     rw (c.pool-pool.ensures.pool)
     (known_before n after.pool.n before (split_set after.pool.pairs) c.self.inside.numbers c.self.inside.list.leaves
     after.log.changed c.changed.result (c.advance_mesh-steps.ensures.n ∙ is.0.n)
-    (subst (λ (k : ℕ). IsClosed k before) is.0.n c.advance_mesh-steps.ensures.closed)
+    (subst (λ (k : ℕ). IsClosed k before) is.0.n c.pool-before.ensures.valid.closed)
     is.1.vertex_numbers is.1.leaf_list c.advance_mesh-steps.ensures.changed c.changed.ensures)
 
 pub count_marks-marks-requires-clause-n : goal.count_marks-marks-requires-clause-n
@@ -73,8 +73,8 @@ returns-clause-done c =
       run = c.advance_mesh-steps.ensures.run;
       frame = c.advance_mesh-steps.ensures.frame;
       sparing = c.advance_mesh-steps.ensures.sparing;
-      most_asked = c.advance_mesh-steps.ensures.most;
-      least_asked = c.advance_mesh-steps.ensures.least;
+      most_asked = c.advance_mesh-steps.ensures.most_asked;
+      least_asked = c.advance_mesh-steps.ensures.least_asked;
       stamps = c.advance_mesh-steps.ensures.stamps;
       triangles = c.leaf_count.ensures.leaves ∙ ap length set;
       vertices = call.ensures.listing.vertex_total ∙ ap (λ k.

@@ -1,0 +1,5 @@
+pub mod ExpiryLemmas
+pub mod SightLemmas
+pub mod BelowLemmas
+pub mod WalkLemmas
+pub mod CountLemmas
