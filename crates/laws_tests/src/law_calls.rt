@@ -123,4 +123,8 @@ fn laws_of_pages_are_calls() {
     page_laws::point_laws();
     page_laws::pyramid_laws();
     page_laws::wedge_laws();
+    page_laws::page_wedge_laws();
+    page_laws::finding_laws();
+    page_laws::height_laws();
+    page_laws::change_laws();
 }

@@ -1,7 +1,8 @@
 -- Mates and the squares that they lie in: one square, or two that have a side in common.
-use Rattle.std.proofs.Common.{◌≡◌, ◌≢◌, ℕ, zero, suc, ◌+◌, ◌-◌, ◌*◌, ◌/◌, ◌%◌, ◌^◌, ◌<◌, ◌≤◌, inl, inr, refl, sym}
+use Rattle.std.proofs.Common.{◌≡◌, ◌≢◌, ℕ, zero, suc, ◌+◌, ◌-◌, ◌*◌, ◌/◌, ◌%◌, ◌^◌, ◌<◌, ◌≤◌, ◌⊎◌, inl, inr, refl, sym}
 use Rattle.std.proofs.Common.{◌∙◌, ap, ap₂, subst, arith, ⊎_elim}
 use Rattle.std.proofs.Math.Pow.{pow_pos}
+use Rattle.std.proofs.lemmas.Bool.{cases_lt}
 use Rattle.mesh_defs.specs.declared.point.Point.{Point}
 use Rattle.mesh_defs.specs.declared.point.Corners.{Corners}
 use Rattle.mesh_defs.specs.Triangle.{level_of, corners_of, midpoint, IsAddress, IsMate, OnOneSide, HasBorderBase}
@@ -20,7 +21,7 @@ use Rattle.mosaic_laws.proofs.MateLemmas.{beyond-border}
 use Rattle.mosaic_laws.proofs.SideLemmas.{mates-beyond}
 use Rattle.mesh_laws.proofs.DescentLemmas.{IsAddress-level}
 use Rattle.mesh_laws.specs.Vertex.{centre_of}
-use Rattle.page_laws.specs.Pages.{AreBeside}
+use Rattle.page_laws.specs.Pages.{square_above, AreBeside}
 
 -- the centre of a square
 
@@ -142,3 +143,31 @@ mates-beside n p x y deep address mate other =
           inside other),
       omega arith,
     )
+
+-- squares of the next resolution
+
+half-next : (i j : ℕ) → i ≡ j + 1 → (i / 2 ≡ j / 2) ⊎ (i / 2 ≡ j / 2 + 1)
+half-next i j next = ⊎_elim
+    (λ (same : i / 2 < j / 2 + 1). inl (omega arith))
+    (λ (more : j / 2 + 1 ≤ i / 2). inr (omega arith))
+    (cases_lt (i / 2) (j / 2 + 1))
+
+-- squares that are beside each other lie in one square of twice the side, or in two that are
+pub beside-above : (t u : Point) → AreBeside t u →
+    (square_above t ≡ square_above u) ⊎ AreBeside (square_above t) (square_above u)
+beside-above t u (inl (row, inl next)) = let e : t.y / 2 ≡ u.y / 2 = ap (λ k. k / 2) row in ⊎_elim
+    (λ (same : t.x / 2 ≡ u.x / 2). inl (same_point (t.x / 2) (t.y / 2) (u.x / 2) (u.y / 2) same e))
+    (λ (more : t.x / 2 ≡ u.x / 2 + 1). inr (inl (e, inl more)))
+    (half-next t.x u.x next)
+beside-above t u (inl (row, inr next)) = let e : t.y / 2 ≡ u.y / 2 = ap (λ k. k / 2) row in ⊎_elim
+    (λ (same : u.x / 2 ≡ t.x / 2). inl (same_point (t.x / 2) (t.y / 2) (u.x / 2) (u.y / 2) (sym same) e))
+    (λ (more : u.x / 2 ≡ t.x / 2 + 1). inr (inl (e, inr more)))
+    (half-next u.x t.x next)
+beside-above t u (inr (column, inl next)) = let e : t.x / 2 ≡ u.x / 2 = ap (λ k. k / 2) column in ⊎_elim
+    (λ (same : t.y / 2 ≡ u.y / 2). inl (same_point (t.x / 2) (t.y / 2) (u.x / 2) (u.y / 2) e same))
+    (λ (more : t.y / 2 ≡ u.y / 2 + 1). inr (inr (e, inl more)))
+    (half-next t.y u.y next)
+beside-above t u (inr (column, inr next)) = let e : t.x / 2 ≡ u.x / 2 = ap (λ k. k / 2) column in ⊎_elim
+    (λ (same : u.y / 2 ≡ t.y / 2). inl (same_point (t.x / 2) (t.y / 2) (u.x / 2) (u.y / 2) e (sym same)))
+    (λ (more : u.y / 2 ≡ t.y / 2 + 1). inr (inr (e, inr more)))
+    (half-next u.y t.y next)

@@ -44,57 +44,48 @@ step-apart whole (suc zero) (suc zero) a b same = omega arith
 step-apart whole (suc (suc _)) row a b same = omega (arith, a)
 step-apart whole column (suc (suc _)) a b same = omega (arith, b)
 
-step-left : (whole : ℕ → ℕ) (i j which : ℕ) → i < 2 → j < 2 → which < 2 →
-    2 * (quarter_step whole i j (2 * which) / 2)
-    ≡ quarter_step whole i j (left_quarter (nat_eq ((i + j) % 2) 0) which)
-step-left whole zero zero zero a b c = omega arith
-step-left whole zero zero (suc zero) a b c = omega arith
-step-left whole (suc zero) zero zero a b c = omega arith
-step-left whole (suc zero) zero (suc zero) a b c = omega arith
-step-left whole zero (suc zero) zero a b c = omega arith
-step-left whole zero (suc zero) (suc zero) a b c = omega arith
-step-left whole (suc zero) (suc zero) zero a b c = omega arith
-step-left whole (suc zero) (suc zero) (suc zero) a b c = omega arith
-step-left whole (suc (suc _)) row which a b c = absurd (omega (arith, a))
-step-left whole column (suc (suc _)) which a b c = absurd (omega (arith, b))
-step-left whole i j (suc (suc _)) a b c = absurd (omega (arith, c))
-
-step-right : (whole : ℕ → ℕ) (i j which : ℕ) → i < 2 → j < 2 → which < 2 →
-    2 * (quarter_step whole i j (2 * which) / 2) + 1
-    ≡ quarter_step whole i j (right_quarter (nat_eq ((i + j) % 2) 0) which)
-step-right whole zero zero zero a b c = omega arith
-step-right whole zero zero (suc zero) a b c = omega arith
-step-right whole (suc zero) zero zero a b c = omega arith
-step-right whole (suc zero) zero (suc zero) a b c = omega arith
-step-right whole zero (suc zero) zero a b c = omega arith
-step-right whole zero (suc zero) (suc zero) a b c = omega arith
-step-right whole (suc zero) (suc zero) zero a b c = omega arith
-step-right whole (suc zero) (suc zero) (suc zero) a b c = omega arith
-step-right whole (suc (suc _)) row which a b c = absurd (omega (arith, a))
-step-right whole column (suc (suc _)) which a b c = absurd (omega (arith, b))
-step-right whole i j (suc (suc _)) a b c = absurd (omega (arith, c))
+step-children : (whole : ℕ → ℕ) (i j which : ℕ) → i < 2 → j < 2 → which < 2 →
+    (2 * (quarter_step whole i j (2 * which) / 2)
+    ≡ quarter_step whole i j (left_quarter (nat_eq ((i + j) % 2) 0) which))
+    × (2 * (quarter_step whole i j (2 * which) / 2) + 1
+    ≡ quarter_step whole i j (right_quarter (nat_eq ((i + j) % 2) 0) which))
+step-children whole zero zero zero a b c = (omega arith, omega arith)
+step-children whole zero zero (suc zero) a b c = (omega arith, omega arith)
+step-children whole (suc zero) zero zero a b c = (omega arith, omega arith)
+step-children whole (suc zero) zero (suc zero) a b c = (omega arith, omega arith)
+step-children whole zero (suc zero) zero a b c = (omega arith, omega arith)
+step-children whole zero (suc zero) (suc zero) a b c = (omega arith, omega arith)
+step-children whole (suc zero) (suc zero) zero a b c = (omega arith, omega arith)
+step-children whole (suc zero) (suc zero) (suc zero) a b c = (omega arith, omega arith)
+step-children whole (suc (suc _)) row which a b c = absurd (omega (arith, a))
+step-children whole column (suc (suc _)) which a b c = absurd (omega (arith, b))
+step-children whole i j (suc (suc _)) a b c = absurd (omega (arith, c))
 
 turned-bits : (i j : ℕ) → nat_eq ((i + j) % 2) 0 ≡ nat_eq ((i % 2 + j % 2) % 2) 0
 turned-bits i j = let e : (i + j) % 2 ≡ (i % 2 + j % 2) % 2 = omega arith in ap (λ k. nat_eq k 0) e
 
 -- the children of a half
+half-children : (p : ℕ) (t : Point) (which : ℕ) → which < 2 →
+    (2 * half p t which ≡ quarter p t.x t.y (left_quarter (is_turned p t) which))
+    × (2 * half p t which + 1 ≡ quarter p t.x t.y (right_quarter (is_turned p t) which))
+half-children zero t zero less = (refl, refl)
+half-children zero t (suc zero) less = (refl, refl)
+half-children zero t (suc (suc _)) less = absurd (omega (arith, less))
+half-children (suc p) t which less =
+    let turned = sym (turned-bits t.x t.y) in
+    let step = step-children (quarter p (t.x / 2) (t.y / 2)) (t.x % 2) (t.y % 2) which (omega arith) (omega arith) less
+    in (
+      step.0 ∙ ap (λ b. quarter (suc p) t.x t.y (left_quarter b which)) turned,
+      step.1 ∙ ap (λ b. quarter (suc p) t.x t.y (right_quarter b which)) turned,
+    )
+
 pub half-left : (p : ℕ) (t : Point) (which : ℕ) → which < 2 →
     2 * half p t which ≡ quarter p t.x t.y (left_quarter (is_turned p t) which)
-half-left zero t zero less = refl
-half-left zero t (suc zero) less = refl
-half-left zero t (suc (suc _)) less = absurd (omega (arith, less))
-half-left (suc p) t which less =
-    step-left (quarter p (t.x / 2) (t.y / 2)) (t.x % 2) (t.y % 2) which (omega arith) (omega arith) less
-    ∙ ap (λ b. quarter (suc p) t.x t.y (left_quarter b which)) (sym (turned-bits t.x t.y))
+half-left p t which less = (half-children p t which less).0
 
 pub half-right : (p : ℕ) (t : Point) (which : ℕ) → which < 2 →
     2 * half p t which + 1 ≡ quarter p t.x t.y (right_quarter (is_turned p t) which)
-half-right zero t zero less = refl
-half-right zero t (suc zero) less = refl
-half-right zero t (suc (suc _)) less = absurd (omega (arith, less))
-half-right (suc p) t which less =
-    step-right (quarter p (t.x / 2) (t.y / 2)) (t.x % 2) (t.y % 2) which (omega arith) (omega arith) less
-    ∙ ap (λ b. quarter (suc p) t.x t.y (right_quarter b which)) (sym (turned-bits t.x t.y))
+half-right p t which less = (half-children p t which less).1
 
 pub left_quarter-small : (turned : Bool) (which : ℕ) → left_quarter turned which < 4
 left_quarter-small false zero = omega arith

@@ -5,3 +5,6 @@ pub mod PyramidLemmas
 pub mod HalfLemmas
 pub mod PointLemmas
 pub mod LoadedLemmas
+pub mod ChangeLemmas
+pub mod SharedLemmas
+pub mod AreaLemmas

@@ -2,13 +2,11 @@
 use Rattle.std.proofs.Common.{◌≡◌, ℕ, zero, suc, ◌+◌, ◌-◌, ◌*◌, ◌/◌, ◌%◌, ◌^◌, ◌<◌, ◌≤◌, Bool, true, false, IsTrue}
 use Rattle.std.proofs.Common.{inl, inr}
 use Rattle.std.proofs.Common.{nat_lt, min, max, List, refl, sym, ◌∙◌, ap, ap₂, subst, arith, ⊎_elim}
-use Rattle.std.proofs.Math.Nat.{pow-succ'}
 use Rattle.std.proofs.lemmas.Bool.{cases_Bool, cases_lt, lt-ltb, le-ltb, false≢true}
 use Rattle.mesh_defs.specs.declared.point.Point.{Point}
 use Rattle.mesh_defs.specs.declared.point.Corners.{Corners}
 use Rattle.mesh_defs.specs.Triangle.{level_of, corners_of, midpoint, IsAddress, IsSplittable}
 use Rattle.mesh_defs.specs.Thickness.{height_of, deviation, thickness_under, thickness_of}
-use Rattle.mesh_defs.specs.BoundingBox.{least_of_3, greatest_of_3}
 use Rattle.bintree_laws.specs.Corners.{IsWithin, HasEvenBase}
 use Rattle.bintree_laws.proofs.LevelLemmas.{level_of-left, level_of-right, level_of-parent, level_of-first, level-le}
 use Rattle.bintree_laws.proofs.CornerLemmas.{IsWithin-base, IsWithin-corners_of}
@@ -22,12 +20,32 @@ use Rattle.mosaic_laws.proofs.MateLemmas.{level-big}
 use Rattle.mosaic_laws.specs.Glue.{tile_of}
 use Rattle.page_laws.specs.declared.wedge.KnownWedge.{KnownWedge}
 use Rattle.page_laws.specs.Pages.{Pages, half, is_turned, half_corners, cuts_to, square_at, is_known, page_point}
-use Rattle.page_laws.specs.Pages.{page_corners, IsPyramid}
+use Rattle.page_laws.specs.Pages.{page_corners, IsPyramid, IsLoadedPoint}
 use Rattle.page_laws.specs.Loaded.{bend, corner_wedge, joined_wedge, known_wedge_under, known_wedge, AreSamples}
 use Rattle.page_laws.specs.Loaded.{IsAtOrUnder}
-use Rattle.page_laws.proofs.PointLemmas.{page-corners, half-page}
+use Rattle.page_laws.proofs.PointLemmas.{side-even, page-corners, half-page, AreLoaded, children-loaded, known-centre, known-corners}
 use Rattle.page_laws.proofs.PyramidLemmas.{size, cut-more, page-alone}
 use Rattle.page_laws.proofs.SquareLemmas.{tile-parent}
+
+-- two surfaces
+
+-- one has the heights at these corners that the other has at those
+record HaveSame (height other : Point → ℕ) (c d : Corners) : Type 0 where
+  apex : height c.apex ≡ other d.apex
+  v0 : height c.v0 ≡ other d.v0
+  v1 : height c.v1 ≡ other d.v1
+
+corner-same : (height other : Point → ℕ) (c d : Corners) → HaveSame height other c d →
+    corner_wedge height c ≡ corner_wedge other d
+corner-same height other c d same = let e = same.apex in let f = same.v0 in let g = same.v1 in rw (e, f, g) refl
+
+joined-same : (height other : Point → ℕ) (c d : Corners) (x y : KnownWedge) → bend height c ≡ bend other d →
+    joined_wedge height c x y ≡ joined_wedge other d x y
+joined-same height other c d x y same = ap (λ k. record {
+  thickness = max x.thickness y.thickness + k;
+  low = min x.low y.low;
+  high = max x.high y.high;
+}) same
 
 -- by children
 
@@ -99,11 +117,11 @@ wedge-bounded n height known top a small = under-bounded (2 * n - level_of a) n 
 
 -- two terrains that agree
 
-at-under : (a b : ℕ) → IsAtOrUnder a b → IsUnder a b
+pub at-under : (a b : ℕ) → IsAtOrUnder a b → IsUnder a b
 at-under a b (inl same) = subst (IsUnder a) (sym same) self
 at-under a b (inr above) = let u = under-above a b above in below b u.1 u.2
 
-under-at : (a b : ℕ) → 2 ≤ a → IsUnder a b → IsAtOrUnder a b
+pub under-at : (a b : ℕ) → 2 ≤ a → IsUnder a b → IsAtOrUnder a b
 under-at a b low self = inl refl
 under-at a _ low (below b big u) = inr (above-under a b low big u)
 
@@ -127,6 +145,47 @@ pub wedge-same : (n : ℕ) (height : Point → ℕ) (known other : ℕ → Bool)
 unfolding known_wedge
 wedge-same n height known other a low agree =
     under-same (2 * n - level_of a) n height known other a low (λ b u. agree b (under-at a b low u))
+
+-- two surfaces that agree where heights are loaded
+
+module _ (w : Pages) (s : IsPyramid w) (height other : Point → ℕ)
+    (agree : (p : Point) → IsLoadedPoint w p → height p ≡ other p) where
+  at-loaded : (c : Corners) → AreLoaded w c → HaveSame height other c c
+  at-loaded c l = record { apex = agree c.apex l.apex; v0 = agree c.v0 l.v0; v1 = agree c.v1 l.v1 }
+
+  bend-loaded : (x : ℕ) → IsTrue (is_known w x) →
+      bend height (corners_of w.large x) ≡ bend other (corners_of w.large x)
+  bend-loaded x h =
+      let c = known-corners w s x h in
+      let e = agree (midpoint (corners_of w.large x).v0 (corners_of w.large x).v1) (known-centre w s x h) in
+      let f = agree (corners_of w.large x).v0 c.v0 in
+      let g = agree (corners_of w.large x).v1 c.v1 in
+      rw (e, f, g) refl
+
+  under-heights : (levels x : ℕ) → AreLoaded w (corners_of w.large x) →
+      known_wedge_under levels w.large height (is_known w) x ≡ known_wedge_under levels w.large other (is_known w) x
+  under-heights zero x l =
+      corner-same height other (corners_of w.large x) (corners_of w.large x) (at-loaded (corners_of w.large x) l)
+  under-heights (suc levels) x l = ⊎_elim
+      (λ is.
+      let c = children-loaded w s x is in
+      under-known w.large height (is_known w) levels x is
+      ∙ joined-same height other (corners_of w.large x) (corners_of w.large x)
+      (known_wedge_under levels w.large height (is_known w) (2 * x))
+      (known_wedge_under levels w.large height (is_known w) (2 * x + 1)) (bend-loaded x is)
+      ∙ ap₂ (joined_wedge other (corners_of w.large x)) (under-heights levels (2 * x) c.0)
+      (under-heights levels (2 * x + 1) c.1)
+      ∙ sym (under-known w.large other (is_known w) levels x is))
+      (λ none. under-unknown w.large height (is_known w) (suc levels) x none
+      ∙ corner-same height other (corners_of w.large x) (corners_of w.large x) (at-loaded (corners_of w.large x) l)
+      ∙ sym (under-unknown w.large other (is_known w) (suc levels) x none))
+      (cases_Bool (is_known w x))
+
+  -- give a known triangle the same wedge
+  pub wedge-heights : (x : ℕ) → IsTrue (is_known w x) →
+      known_wedge w.large height (is_known w) x ≡ known_wedge w.large other (is_known w) x
+  unfolding known_wedge
+  wedge-heights x h = under-heights (2 * w.large - level_of x) x (known-corners w s x h)
 
 -- a terrain that is known everywhere
 
@@ -162,17 +221,11 @@ module _ (n q p : ℕ) (t : Point) (tile : IsTile (2 ^ p) (2 ^ p) t) (height : P
   corner-heights a big address =
       let within = IsWithin-corners_of n a in
       ap (corner_wedge height) (page-corners n q p a t tile big address)
-      ∙ three (height (page_point n q t (corners_of n a).apex)) (height (page_point n q t (corners_of n a).v0))
-      (height (page_point n q t (corners_of n a).v1)) (height_of n heights (corners_of n a).apex)
-      (height_of n heights (corners_of n a).v0) (height_of n heights (corners_of n a).v1)
-      (samples (corners_of n a).apex record { x = within.apex_x; y = within.apex_y })
-      (samples (corners_of n a).v0 record { x = within.v0_x; y = within.v0_y })
-      (samples (corners_of n a).v1 record { x = within.v1_x; y = within.v1_y })
-    where
-      three : (i j k f g h : ℕ) → f ≡ i → g ≡ j → h ≡ k →
-          ◌≡◌ {A = KnownWedge} (record { thickness = 0; low = least_of_3 i j k; high = greatest_of_3 i j k })
-          (record { thickness = 0; low = least_of_3 f g h; high = greatest_of_3 f g h })
-      three i j k f g h d e l = rw (d, e, l) refl
+      ∙ corner-same height (height_of n heights) (page_corners n q t (corners_of n a)) (corners_of n a) record {
+        apex = sym (samples (corners_of n a).apex record { x = within.apex_x; y = within.apex_y });
+        v0 = sym (samples (corners_of n a).v0 record { x = within.v0_x; y = within.v0_y });
+        v1 = sym (samples (corners_of n a).v1 record { x = within.v1_x; y = within.v1_y });
+      }
 
   -- how far the surface is from the middle of a base that has a point of the page in its middle
   page-midpoint : (i j : ℕ) (a b : ℕ) → (a + b) % 2 ≡ 0 → (i * (j + a) + i * (j + b)) / 2 ≡ i * (j + (a + b) / 2)
@@ -202,20 +255,12 @@ module _ (n q p : ℕ) (t : Point) (tile : IsTile (2 ^ p) (2 ^ p) t) (height : P
       sym (samples c.v1 record { x = x1; y = y1 }) in
       rw (centre, first, second) refl
 
-  joined-same : (c d : Corners) (x y : KnownWedge) → bend height c ≡ bend (height_of n heights) d →
-      joined_wedge height c x y ≡ joined_wedge (height_of n heights) d x y
-  joined-same c d x y same = ap (λ k. record {
-    thickness = max x.thickness y.thickness + k;
-    low = min x.low y.low;
-    high = max x.high y.high;
-  }) same
-
   -- a triangle of the page is joined as in the page's own grid
   pub joined-page : (a : ℕ) (x y : KnownWedge) → 4 ≤ a → IsSplittable n a →
       joined_wedge height (corners_of (n + q + p) (in_tile p t a)) x y
       ≡ joined_wedge (height_of n heights) (corners_of n a) x y
   joined-page a x y big split =
-      joined-same (corners_of (n + q + p) (in_tile p t a)) (corners_of n a) x y
+      joined-same height (height_of n heights) (corners_of (n + q + p) (in_tile p t a)) (corners_of n a) x y
       (ap (bend height) (page-corners n q p a t tile big (IsAddress-splittable n a split))
       ∙ bend-page (corners_of n a) (IsWithin-corners_of n a) (HasEvenBase-corners_of n a split.coarse))
 
@@ -244,21 +289,15 @@ module _ (n q p : ℕ) (t : Point) (tile : IsTile (2 ^ p) (2 ^ p) t) (height : P
   even-half m true zero even = record { x = omega arith; y = omega arith }
   even-half m true (suc _) even = record { x = omega arith; y = omega arith }
 
-  side-even : 1 ≤ n → 2 ^ n % 2 ≡ 0
-  side-even some =
-      let e : n ≡ suc (n - 1) = omega arith in
-      let f : 2 ^ n ≡ 2 * 2 ^ (n - 1) = ap (λ k. 2 ^ k) e ∙ pow-succ' 2 (n - 1) in
-      omega arith
-
   -- and so is a half
   pub joined-half : (which : ℕ) (x y : KnownWedge) → 1 ≤ n → which < 2 →
       joined_wedge height (corners_of (n + q + p) (half p t which)) x y
       ≡ joined_wedge (height_of n heights) (half_corners (2 ^ n) (is_turned p t) which) x y
   joined-half which x y some less =
-      joined-same (corners_of (n + q + p) (half p t which)) (half_corners (2 ^ n) (is_turned p t) which) x y
+      joined-same height (height_of n heights) (corners_of (n + q + p) (half p t which)) (half_corners (2 ^ n) (is_turned p t) which) x y
       (ap (bend height) (half-page n q p t which some less tile)
       ∙ bend-page (half_corners (2 ^ n) (is_turned p t) which) (within-half (is_turned p t) which)
-      (even-half (2 ^ n) (is_turned p t) which (side-even some)))
+      (even-half (2 ^ n) (is_turned p t) which (let e = side-even n some in omega arith)))
 
   -- so has all that lies below it, if what is known there are the page's own triangles
   under-page : (known : ℕ → Bool) (levels more a : ℕ) → 4 ≤ a → IsAddress n a → level_of a + levels ≡ 2 * n →

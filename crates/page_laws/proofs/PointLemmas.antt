@@ -10,7 +10,7 @@ use Rattle.mesh_defs.specs.declared.point.Corners.{Corners}
 use Rattle.mesh_defs.specs.Triangle.{level_of, corners_of, IsAddress}
 use Rattle.mesh_defs.specs.ClosedSet.{IsSubset, leaves_of}
 use Rattle.bintree_laws.specs.Corners.{IsInSquare}
-use Rattle.bintree_laws.proofs.LevelLemmas.{level_of-left, level_of-first, level-le}
+use Rattle.bintree_laws.proofs.LevelLemmas.{level_of-left, level_of-right, level_of-first, level-le}
 use Rattle.bintree_laws.proofs.CornerLemmas.{corners_of-left, corners_of-right, IsWithin-corners_of}
 use Rattle.bintree_laws.proofs.LatticeLemmas.{same_point, three, same_by_coordinates, scaled, lattice, halved}
 use Rattle.bintree_laws.proofs.LatticeLemmas.{halved-half}
@@ -24,9 +24,14 @@ use Rattle.mosaic_laws.proofs.AddressLemmas.{tile-is, local-big, local-level, in
 use Rattle.mosaic_laws.proofs.CornerLemmas.{quarter_corners, quarter-first, in_tile-corners}
 use Rattle.page_laws.specs.Pages.{half, is_turned, left_quarter, right_quarter, half_corners}
 use Rattle.page_laws.proofs.HalfLemmas.{half-low, half-left, half-right, left_quarter-small, right_quarter-small}
-use Rattle.page_laws.specs.Pages.{Pages, cuts_to, square_at, is_known, page_corners, IsPagePoint, IsLoadedPoint}
-use Rattle.page_laws.specs.Pages.{IsPyramid}
+use Rattle.page_laws.specs.Pages.{Pages, cuts_to, is_known, page_corners, IsPagePoint, IsLoadedPoint}
+use Rattle.page_laws.specs.Pages.{IsPyramid, page_point}
+use Rattle.page_laws.proofs.SquareLemmas.{tile-children}
 use Rattle.page_laws.proofs.PyramidLemmas.{IsInPage, known-parts, size}
+
+-- a page's side is an even number of its steps
+pub side-even : (n : ℕ) → 1 ≤ n → 2 ^ n ≡ 2 * 2 ^ (n - 1)
+side-even n some = let e : n ≡ suc (n - 1) = omega arith in ap (λ k. 2 ^ k) e ∙ pow-succ' 2 (n - 1)
 
 -- a grid in a finer one
 
@@ -56,7 +61,8 @@ corners_of-finer n q a fits =
     ∙ scaled-twice (2 ^ q) (step_of n (level_of a)) (lattice (level_of a) a)
     ∙ ap (scaled (2 ^ q)) (sym (corners_of-lattice n a fits))
 
-page-coordinate : (n q t r : ℕ) → 2 ^ (n + q) * t + 2 ^ q * r ≡ 2 ^ q * (2 ^ n * t + r)
+-- a coordinate of a page's point, from the corner of its square
+pub page-coordinate : (n q t r : ℕ) → 2 ^ (n + q) * t + 2 ^ q * r ≡ 2 ^ q * (2 ^ n * t + r)
 page-coordinate n q t r =
     let e : 2 ^ (n + q) ≡ 2 ^ n * 2 ^ q = pow-add 2 n q in rw e (omega arith)
 
@@ -127,26 +133,28 @@ half-page (suc n) q p t which some less tile =
     ∙ ap (page_corners (suc n) q t) (sym (half-by-quarters (2 ^ n) (is_turned p t) which less))
     ∙ ap (λ m. page_corners (suc n) q t (half_corners m (is_turned p t) which)) (sym (pow-succ' 2 n))
 
--- centres
+-- triangles in a square
+
+-- the corners of a triangle below the halves of a square, to the last level of a page there, are points of the page
+pub corners-inside : (n q p c : ℕ) → 2 ≤ c → 2 * p < level_of c → level_of c ≤ 2 * (p + n) →
+    corners_of (n + q + p) c ≡ page_corners n q (tile_of p c) (corners_of n (local_of p c))
+corners-inside n q p c low deep last =
+    let big = local-big p c low deep in
+    let level = local-level p c low deep in
+    ap (corners_of (n + q + p)) (sym (in_tile-local p c low deep))
+    ∙ page-corners n q p (local_of p c) (tile_of p c) (tile-is p c low deep) big
+    (IsAddress-level n (local_of p c) (omega arith) (omega arith))
 
 -- the centre of a triangle that a page has is a point of the page
 pub page-centre : (n q p x : ℕ) → 2 ≤ x → 2 * p ≤ level_of x → level_of x < 2 * (p + n) →
     IsPagePoint n q (tile_of p (2 * x)) (centre_of (n + q + p) x)
 page-centre n q p x low first last =
     let l = level_of-left x low in
-    let deep : 2 * p < level_of (2 * x) = omega arith in
-    let tile = tile-is p (2 * x) (omega arith) deep in
-    let big = local-big p (2 * x) (omega arith) deep in
-    let level = local-level p (2 * x) (omega arith) deep in
-    let address : IsAddress n (local_of p (2 * x)) =
-    IsAddress-level n (local_of p (2 * x)) (omega arith) (omega arith) in
     let within = IsWithin-corners_of n (local_of p (2 * x)) in (
       (corners_of n (local_of p (2 * x))).apex,
       record { x = within.apex_x; y = within.apex_y },
-      ap (λ (c : Corners). c.apex) (sym (corners_of-left (n + q + p) x low))
-          ∙ ap (λ z. (corners_of (n + q + p) z).apex) (sym (in_tile-local p (2 * x) (omega arith) deep))
-          ∙ ap (λ (c : Corners). c.apex)
-          (page-corners n q p (local_of p (2 * x)) (tile_of p (2 * x)) tile big address),
+      ap (λ (c : Corners). c.apex) (sym (corners_of-left (n + q + p) x low)
+          ∙ corners-inside n q p (2 * x) (omega arith) (omega arith) (omega arith)),
     )
 
 -- the corners of squares
@@ -183,6 +191,12 @@ corner-point n q p c within =
         let e : 2 ^ (n + q) ≡ 2 ^ n * 2 ^ q = pow-add 2 n q in
         rw e (let f : 2 ^ n * 2 ^ q * i ≡ 2 ^ q * (2 ^ n * i) = omega arith in f ∙ ap (λ j. 2 ^ q * j) same)
 
+-- the corners of a triangle are loaded points
+pub record AreLoaded (w : Pages) (c : Corners) : Type 0 where
+  pub apex : IsLoadedPoint w c.apex
+  pub v0 : IsLoadedPoint w c.v0
+  pub v1 : IsLoadedPoint w c.v1
+
 module _ (w : Pages) (s : IsPyramid w) where
   -- the corners of the coarsest squares are loaded
   loaded-corner : (c : Point) → IsInSquare (2 ^ cuts_to w w.top) c →
@@ -191,29 +205,73 @@ module _ (w : Pages) (s : IsPyramid w) where
       let k = corner-point w.n w.top (cuts_to w w.top) c within in
       record { q = w.top; square = k.0; coarse = omega arith; page = s.coarsest k.0 k.1; point = k.2 }
 
-  -- so are the centres of known triangles
-  pub known-centre : (x : ℕ) → IsTrue (is_known w x) → IsLoadedPoint w (centre_of w.large x)
-  known-centre x h =
+  -- so are those of the triangles above these squares
+  above-loaded : (c : ℕ) → level_of c ≤ 2 * cuts_to w w.top → AreLoaded w (corners_of w.large c)
+  above-loaded c less =
+      let e : w.large ≡ cuts_to w w.top + (w.n + w.top) = size w s w.top (omega arith) ∙ omega arith in
+      let within = IsWithin-corners_of (cuts_to w w.top) c in
+      subst (AreLoaded w)
+      (sym (ap (λ k. corners_of k c) e ∙ corners_of-finer (cuts_to w w.top) (w.n + w.top) c less)) record {
+        apex = loaded-corner (corners_of (cuts_to w w.top) c).apex record { x = within.apex_x; y = within.apex_y };
+        v0 = loaded-corner (corners_of (cuts_to w w.top) c).v0 record { x = within.v0_x; y = within.v0_y };
+        v1 = loaded-corner (corners_of (cuts_to w w.top) c).v1 record { x = within.v1_x; y = within.v1_y };
+      }
+
+  -- and of those below the halves of a loaded page
+  page-loaded : (q c : ℕ) → q ≤ w.top → 2 ≤ c → 2 * cuts_to w q < level_of c →
+      level_of c ≤ 2 * (cuts_to w q + w.n) → IsTrue (w.loaded q (tile_of (cuts_to w q) c)) →
+      AreLoaded w (corners_of w.large c)
+  page-loaded q c coarse low deep last page =
+      let is : corners_of w.large c
+      ≡ page_corners w.n q (tile_of (cuts_to w q) c) (corners_of w.n (local_of (cuts_to w q) c)) =
+      ap (λ k. corners_of k c) (size w s q coarse) ∙ corners-inside w.n q (cuts_to w q) c low deep last in
+      let within = IsWithin-corners_of w.n (local_of (cuts_to w q) c) in
+      subst (AreLoaded w) (sym is) record {
+        apex = at (corners_of w.n (local_of (cuts_to w q) c)).apex record { x = within.apex_x; y = within.apex_y };
+        v0 = at (corners_of w.n (local_of (cuts_to w q) c)).v0 record { x = within.v0_x; y = within.v0_y };
+        v1 = at (corners_of w.n (local_of (cuts_to w q) c)).v1 record { x = within.v1_x; y = within.v1_y };
+      }
+    where
+      at : (r : Point) → IsInSquare (2 ^ w.n) r → IsLoadedPoint w (page_point w.n q (tile_of (cuts_to w q) c) r)
+      at r inside = record {
+        q = q;
+        square = tile_of (cuts_to w q) c;
+        coarse = coarse;
+        page = page;
+        point = (r, inside, refl);
+      }
+
+  -- and of the children of a known triangle
+  pub children-loaded : (x : ℕ) → IsTrue (is_known w x) →
+      AreLoaded w (corners_of w.large (2 * x)) × AreLoaded w (corners_of w.large (2 * x + 1))
+  children-loaded x h =
       let k = known-parts w x h in
+      let low = k.0 in
+      let l = level_of-left x low in
+      let r = level_of-right x low in
       ⊎_elim
       (λ (above : level_of x < 2 * cuts_to w w.top).
-      let e : w.large ≡ cuts_to w w.top + (w.n + w.top) = size w s w.top (omega arith) ∙ omega arith in
-      let l = level_of-left x k.0 in
-      let within = IsWithin-corners_of (cuts_to w w.top) (2 * x) in
-      subst (IsLoadedPoint w)
-      (sym (ap (λ (c : Corners). c.apex) (sym (corners_of-left w.large x k.0))
-      ∙ ap (λ z. (corners_of z (2 * x)).apex) e
-      ∙ ap (λ (c : Corners). c.apex) (corners_of-finer (cuts_to w w.top) (w.n + w.top) (2 * x) (omega arith))))
-      (loaded-corner (corners_of (cuts_to w w.top) (2 * x)).apex record { x = within.apex_x; y = within.apex_y }))
-      (λ (p : (q : ℕ) × (q ≤ w.top) × IsInPage w q x). record {
-        q = p.0;
-        square = square_at w p.0 x;
-        coarse = p.1;
-        page = p.2.page;
-        point = subst (λ z. IsPagePoint w.n p.0 (square_at w p.0 x) (centre_of z x)) (sym (size w s p.0 p.1))
-            (page-centre w.n p.0 (cuts_to w p.0) x k.0 p.2.first p.2.last);
-      })
+      (above-loaded (2 * x) (omega arith), above-loaded (2 * x + 1) (omega arith)))
+      (λ (p : (q : ℕ) × (q ≤ w.top) × IsInPage w q x).
+      let first = p.2.first in
+      let last = p.2.last in (
+        page-loaded p.0 (2 * x) p.1 (omega arith) (omega arith) (omega arith) p.2.page,
+        page-loaded p.0 (2 * x + 1) p.1 (omega arith) (omega arith) (omega arith)
+            (subst (λ t. IsTrue (w.loaded p.0 t)) (sym (tile-children (cuts_to w p.0) x low first)) p.2.page),
+      ))
       k.1
+
+  -- its centre
+  pub known-centre : (x : ℕ) → IsTrue (is_known w x) → IsLoadedPoint w (centre_of w.large x)
+  known-centre x h = subst (IsLoadedPoint w)
+      (ap (λ (c : Corners). c.apex) (corners_of-left w.large x (known-parts w x h).0)) (children-loaded x h).0.apex
+
+  -- and its corners
+  pub known-corners : (x : ℕ) → IsTrue (is_known w x) → AreLoaded w (corners_of w.large x)
+  known-corners x h =
+      let c = children-loaded x h in
+      subst (AreLoaded w) (sym (corners-by-children w.large x (known-parts w x h).0))
+      record { apex = c.0.v0; v0 = c.0.v1; v1 = c.1.v0 }
 
   side-corner : (i : ℕ) → (i ≡ 0) ⊎ (i ≡ 2 ^ w.large) →
       (k : ℕ) × (k ≤ 2 ^ cuts_to w w.top) × (i ≡ 2 ^ (w.n + w.top) * k)

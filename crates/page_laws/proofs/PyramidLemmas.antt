@@ -1,8 +1,9 @@
 -- Which triangles are open where pages are nested: the known ones, but for the last border triangles at gaps.
 use Rattle.std.proofs.Common.{◌≡◌, ◌≢◌, ℕ, zero, suc, ◌+◌, ◌-◌, ◌*◌, ◌/◌, ◌%◌, ◌^◌, ◌<◌, ◌≤◌, ◌⊎◌, inl, inr, sym}
-use Rattle.std.proofs.Common.{◌∙◌, ap, ap₂, subst, arith, ⊎_elim, Bool, false, ◌&&◌, ◌||◌, IsTrue, nat_le, nat_lt}
+use Rattle.std.proofs.Common.{◌∙◌, ap, subst, arith, ⊎_elim, Bool, false, ◌&&◌, ◌||◌, IsTrue, nat_le, nat_lt}
 use Rattle.std.proofs.lemmas.Bool.{cases_lt, cases_Bool, and_parts, and_from, or_left, or_right, or_cases, both_ways}
 use Rattle.std.proofs.lemmas.Bool.{ltb-true, lt-ltb, le-ltb, leb-true, le-leb, false_from_ne_true}
+use Rattle.std.proofs.lemmas.Nat.{shr-shr}
 use Rattle.mesh_defs.specs.declared.point.Point.{Point}
 use Rattle.mesh_defs.specs.Triangle.{level_of, IsAddress, IsSplittable, IsMate}
 use Rattle.mesh_defs.specs.ClosedSet.{IsClosed}
@@ -13,42 +14,14 @@ use Rattle.bintree_laws.proofs.CentreLemmas.{mate_symmetric, mate_unique}
 use Rattle.mesh_laws.proofs.DescentLemmas.{IsAddress-splittable}
 use Rattle.mosaic_laws.specs.Tile.{IsTile, in_tile}
 use Rattle.mosaic_laws.specs.Glue.{tile_of}
-use Rattle.mosaic_laws.proofs.AddressLemmas.{tile-is, in_tile-left, in_tile-level, in_tile-big, tile-in_tile}
+use Rattle.mosaic_laws.proofs.AddressLemmas.{tile-is, in_tile-level, in_tile-big}
 use Rattle.mosaic_laws.proofs.ClosedLemmas.{cases_point}
 use Rattle.page_laws.specs.Opened.{IsOpen, with_known_mate}
 use Rattle.page_laws.specs.Pages.{Pages, cuts_to, square_at, is_in_page, is_in_pages, is_known, square_above, AreBeside}
 use Rattle.page_laws.specs.Pages.{IsPyramid, IsAtGap}
 use Rattle.page_laws.proofs.OpenLemmas.{mate-parts, mate-known, mate-from}
-use Rattle.page_laws.proofs.SquareLemmas.{tile-self, tile-parent, tile-above}
-use Rattle.page_laws.proofs.BesideLemmas.{mates-half, mates-beside}
-
--- squares of the next resolution
-
-half-next : (i j : ℕ) → i ≡ j + 1 → (i / 2 ≡ j / 2) ⊎ (i / 2 ≡ j / 2 + 1)
-half-next i j next = ⊎_elim
-    (λ (same : i / 2 < j / 2 + 1). inl (omega arith))
-    (λ (more : j / 2 + 1 ≤ i / 2). inr (omega arith))
-    (cases_lt (i / 2) (j / 2 + 1))
-
--- squares that are beside each other lie in one square of twice the side, or in two that are
-beside-above : (t u : Point) → AreBeside t u →
-    (square_above t ≡ square_above u) ⊎ AreBeside (square_above t) (square_above u)
-beside-above t u (inl (row, inl next)) = let e : t.y / 2 ≡ u.y / 2 = ap (λ k. k / 2) row in ⊎_elim
-    (λ (same : t.x / 2 ≡ u.x / 2). inl (same_point (t.x / 2) (t.y / 2) (u.x / 2) (u.y / 2) same e))
-    (λ (more : t.x / 2 ≡ u.x / 2 + 1). inr (inl (e, inl more)))
-    (half-next t.x u.x next)
-beside-above t u (inl (row, inr next)) = let e : t.y / 2 ≡ u.y / 2 = ap (λ k. k / 2) row in ⊎_elim
-    (λ (same : u.x / 2 ≡ t.x / 2). inl (same_point (t.x / 2) (t.y / 2) (u.x / 2) (u.y / 2) (sym same) e))
-    (λ (more : u.x / 2 ≡ t.x / 2 + 1). inr (inl (e, inr more)))
-    (half-next u.x t.x next)
-beside-above t u (inr (column, inl next)) = let e : t.x / 2 ≡ u.x / 2 = ap (λ k. k / 2) column in ⊎_elim
-    (λ (same : t.y / 2 ≡ u.y / 2). inl (same_point (t.x / 2) (t.y / 2) (u.x / 2) (u.y / 2) e same))
-    (λ (more : t.y / 2 ≡ u.y / 2 + 1). inr (inr (e, inl more)))
-    (half-next t.y u.y next)
-beside-above t u (inr (column, inr next)) = let e : t.x / 2 ≡ u.x / 2 = ap (λ k. k / 2) column in ⊎_elim
-    (λ (same : u.y / 2 ≡ t.y / 2). inl (same_point (t.x / 2) (t.y / 2) (u.x / 2) (u.y / 2) e (sym same)))
-    (λ (more : u.y / 2 ≡ t.y / 2 + 1). inr (inr (e, inr more)))
-    (half-next u.y t.y next)
+use Rattle.page_laws.proofs.SquareLemmas.{in_tile-square, tile-self, tile-parent, tile-above}
+use Rattle.page_laws.proofs.BesideLemmas.{mates-half, mates-beside, beside-above}
 
 -- tests
 
@@ -151,23 +124,48 @@ module _ (w : Pages) (s : IsPyramid w) where
       tile-above (cuts_to w (q + 1)) (2 * x) (omega arith) (omega arith)
       ∙ ap (λ k. square_above (tile_of k (2 * x))) e
 
+  -- and so on
+  pub square-up : (k q x : ℕ) → q + k ≤ w.top → 2 ≤ x → 2 * cuts_to w q ≤ level_of x →
+      square_at w (q + k) x ≡ record { x = (square_at w q x).x / 2 ^ k; y = (square_at w q x).y / 2 ^ k }
+  square-up zero q x fits low deep =
+      let e : q + 0 ≡ q = omega arith in
+      ap (λ j. square_at w j x) e
+      ∙ same_point (square_at w q x).x (square_at w q x).y ((square_at w q x).x / 2 ^ 0) ((square_at w q x).y / 2 ^ 0)
+      (omega arith) (omega arith)
+  square-up (suc k) q x fits low deep =
+      let e : q + suc k ≡ q + k + 1 = omega arith in
+      let f : k + 1 ≡ suc k = omega arith in
+      ap (λ j. square_at w j x) e
+      ∙ square-above (q + k) x (omega arith) low (omega arith)
+      ∙ ap square_above (square-up k q x (omega arith) low deep)
+      ∙ same_point ((square_at w q x).x / 2 ^ k / 2) ((square_at w q x).y / 2 ^ k / 2)
+      ((square_at w q x).x / 2 ^ suc k) ((square_at w q x).y / 2 ^ suc k)
+      (shr-shr (square_at w q x).x k 1 ∙ ap (λ j. (square_at w q x).x / 2 ^ j) f)
+      (shr-shr (square_at w q x).y k 1 ∙ ap (λ j. (square_at w q x).y / 2 ^ j) f)
+
   -- a square of a triangle is one of the terrain
   pub square-tile : (q x : ℕ) → 2 ≤ x → 2 * cuts_to w q ≤ level_of x →
       IsTile (2 ^ cuts_to w q) (2 ^ cuts_to w q) (square_at w q x)
   square-tile q x low deep = let l = level_of-left x low in tile-is (cuts_to w q) (2 * x) (omega arith) (omega arith)
 
   -- a page lies in loaded pages of all coarser resolutions
-  pub loaded-up : (k q x : ℕ) → q + k ≤ w.top → 2 ≤ x → 2 * cuts_to w q ≤ level_of x →
+  loaded-more : (k q x : ℕ) → q + k ≤ w.top → 2 ≤ x → 2 * cuts_to w q ≤ level_of x →
       IsTrue (w.loaded q (square_at w q x)) → IsTrue (w.loaded (q + k) (square_at w (q + k) x))
-  loaded-up zero q x fits low deep h =
+  loaded-more zero q x fits low deep h =
       let e : q ≡ q + 0 = omega arith in subst (λ j. IsTrue (w.loaded j (square_at w j x))) e h
-  loaded-up (suc k) q x fits low deep h =
+  loaded-more (suc k) q x fits low deep h =
       let e : q + k + 1 ≡ q + suc k = omega arith in
-      let up = loaded-up k q x (omega arith) low deep h in
+      let up = loaded-more k q x (omega arith) low deep h in
       subst (λ j. IsTrue (w.loaded j (square_at w j x))) e
       (subst (λ t. IsTrue (w.loaded (q + k + 1) t))
       (sym (square-above (q + k) x (omega arith) low (omega arith)))
       (s.nested (q + k) (square_at w (q + k) x) (omega arith) up))
+
+  pub loaded-up : (r q x : ℕ) → r ≤ q → q ≤ w.top → 2 ≤ x → 2 * cuts_to w r ≤ level_of x →
+      IsTrue (w.loaded r (square_at w r x)) → IsTrue (w.loaded q (square_at w q x))
+  loaded-up r q x more coarse low deep h =
+      let e : r + (q - r) ≡ q = omega arith in
+      subst (λ j. IsTrue (w.loaded j (square_at w j x))) e (loaded-more (q - r) r x (omega arith) low deep h)
 
   -- and beside loaded pages of the next resolution
   pub loaded-beside : (q x y : ℕ) → q < w.top → 2 ≤ x → 2 ≤ y → 2 * cuts_to w q ≤ level_of x →
@@ -197,7 +195,7 @@ module _ (w : Pages) (s : IsPyramid w) where
       k.1
 
   -- mates lie in one square, or in two that are beside each other and then at an odd level
-  mates-square : (q x y : ℕ) → q ≤ w.top → 2 * cuts_to w q ≤ level_of x → IsAddress w.large x → IsMate w.large x y →
+  pub mates-square : (q x y : ℕ) → q ≤ w.top → 2 * cuts_to w q ≤ level_of x → IsAddress w.large x → IsMate w.large x y →
       (square_at w q x ≡ square_at w q y)
       ⊎ (AreBeside (square_at w q x) (square_at w q y) × (level_of x % 2 ≡ 1))
   mates-square q x y coarse deep address mate = ⊎_elim
@@ -305,11 +303,8 @@ module _ (w : Pages) (s : IsPyramid w) where
       (λ (p : (r : ℕ) × (r ≤ w.top) × IsInPage w r y).
       let coarse' = p.1 in
       let last' = p.2.last in
-      let more : p.0 ≤ g.q = omega arith in
-      let e : p.0 + (g.q - p.0) ≡ g.q = omega arith in
       both_ways (w.loaded g.q (square_at w g.q y)) g.missing
-      (subst (λ j. IsTrue (w.loaded j (square_at w j y))) e
-      (loaded-up (g.q - p.0) p.0 y (omega arith) mate.address.low p.2.first p.2.page)))
+      (loaded-up p.0 g.q y (omega arith) coarse mate.address.low p.2.first p.2.page))
       k.1)
 
   -- the open set
@@ -367,12 +362,9 @@ module _ (w : Pages) (s : IsPyramid w) where
       let first' = p.2.first in
       let last' = p.2.last in
       let less : p.0 < g.q = omega arith in
-      let q : ℕ = g.q - 1 in
-      let e : p.0 + (g.q - 1 - p.0) ≡ g.q - 1 = omega arith in
       let f : g.q - 1 + 1 ≡ g.q = omega arith in
       let page : IsTrue (w.loaded (g.q - 1) (square_at w (g.q - 1) x)) =
-      subst (λ j. IsTrue (w.loaded j (square_at w j x))) e
-      (loaded-up (g.q - 1 - p.0) p.0 x (omega arith) (omega arith) first' p.2.page) in
+      loaded-up p.0 (g.q - 1) x (omega arith) (omega arith) (omega arith) first' p.2.page in
       let above : square_above (square_at w (g.q - 1) x) ≡ square_at w g.q (x / 2) =
       sym (square-above (g.q - 1) x (omega arith) (omega arith) (omega arith))
       ∙ ap (λ j. square_at w j x) f
@@ -436,9 +428,35 @@ module _ (w : Pages) (s : IsPyramid w) where
       (λ missing. absurd (none y mate (gap-forth x y here mate missing)))
       (cases_Bool (is_known w y))))
 
-  -- a page without pages of the resolution before
+  -- the finest page
 
-  -- of its triangles just those are known that have their centre there
+  -- where x lies in a loaded page, and in no finer one below its last level, the page decides whether x is known
+  pub known-finest : (q x : ℕ) → q ≤ w.top → 2 ≤ x → 2 * cuts_to w q ≤ level_of x →
+      IsTrue (w.loaded q (square_at w q x)) →
+      (1 ≤ q → 2 * (cuts_to w q + w.n) ≤ level_of x → w.loaded (q - 1) (square_at w (q - 1) x) ≡ false) →
+      is_known w x ≡ nat_lt (level_of x) (2 * (cuts_to w q + w.n))
+  known-finest q x coarse low deep page none =
+      let some = s.some in
+      let fits = s.fits in
+      ⊎_elim
+      (λ (less : level_of x < 2 * (cuts_to w q + w.n)).
+      known-page w q x low coarse record { first = deep; last = less; page = page }
+      ∙ sym (lt-ltb (level_of x) (2 * (cuts_to w q + w.n)) less))
+      (λ (more : 2 * (cuts_to w q + w.n) ≤ level_of x).
+      false_from_ne_true (is_known w x) (λ here.
+      ⊎_elim
+      (λ (above : level_of x < 2 * cuts_to w w.top). absurd (omega arith))
+      (λ (p : (r : ℕ) × (r ≤ w.top) × IsInPage w r x).
+      let coarse' = p.1 in
+      let last' = p.2.last in
+      let finer : p.0 < q = omega arith in
+      both_ways (w.loaded (q - 1) (square_at w (q - 1) x)) (none (omega arith) more)
+      (loaded-up p.0 (q - 1) x (omega arith) (omega arith) low p.2.first p.2.page))
+      (known-parts w x here).1)
+      ∙ sym (le-ltb (level_of x) (2 * (cuts_to w q + w.n)) more))
+      (cases_lt (level_of x) (2 * (cuts_to w q + w.n)))
+
+  -- so of the triangles of a page without finer pages just those are known that have their centre there
   pub page-alone : (q : ℕ) (t : Point) (b : ℕ) → q ≤ w.top → IsTile (2 ^ cuts_to w q) (2 ^ cuts_to w q) t →
       IsTrue (w.loaded q t) → 4 ≤ b → IsAddress w.n b →
       (1 ≤ q → level_of b ≡ 2 * w.n →
@@ -448,67 +466,14 @@ module _ (w : Pages) (s : IsPyramid w) where
       let level = in_tile-level (cuts_to w q) t b big in
       let large = in_tile-big (cuts_to w q) t b big in
       let fits = level-le w.n b address in
-      let some = s.some in
-      let all = s.fits in
-      let there : square_at w q (in_tile (cuts_to w q) t b) ≡ t =
-      ap (tile_of (cuts_to w q)) (sym (in_tile-left (cuts_to w q) t b big))
-      ∙ tile-in_tile (cuts_to w q) t (2 * b) tile (omega arith) in
-      ⊎_elim
-      (λ (less : level_of b < 2 * w.n).
-      known-page w q (in_tile (cuts_to w q) t b) (omega arith) coarse record {
-        first = omega arith;
-        last = omega arith;
-        page = subst (λ u. IsTrue (w.loaded q u)) (sym there) page;
-      }
-      ∙ sym (lt-ltb (level_of b) (2 * w.n) less))
-      (λ (more : 2 * w.n ≤ level_of b).
-      false_from_ne_true (is_known w (in_tile (cuts_to w q) t b)) (λ here.
-      let k = known-parts w (in_tile (cuts_to w q) t b) here in
-      ⊎_elim
-      (λ (above : level_of (in_tile (cuts_to w q) t b) < 2 * cuts_to w w.top). absurd (omega arith))
-      (λ (p : (r : ℕ) × (r ≤ w.top) × IsInPage w r (in_tile (cuts_to w q) t b)).
-      let coarse' = p.1 in
-      let first' = p.2.first in
-      let last' = p.2.last in
-      let less : p.0 < q = omega arith in
-      let e : p.0 + (q - 1 - p.0) ≡ q - 1 = omega arith in
-      both_ways (w.loaded (q - 1) (square_at w (q - 1) (in_tile (cuts_to w q) t b)))
-      (none (omega arith) (omega arith))
-      (subst (λ j. IsTrue (w.loaded j (square_at w j (in_tile (cuts_to w q) t b)))) e
-      (loaded-up (q - 1 - p.0) p.0 (in_tile (cuts_to w q) t b) (omega arith) (omega arith) first' p.2.page)))
-      k.1)
-      ∙ sym (le-ltb (level_of b) (2 * w.n) more))
-      (cases_lt (level_of b) (2 * w.n))
-
--- one page more or less
-
-module _ (w : Pages) (loaded : ℕ → Point → Bool) (q : ℕ) (t : Point)
-    (others : (r : ℕ) (u : Point) → (r ≡ q → u ≡ t → ⊥) → w.loaded r u ≡ loaded r u) where
-  -- x does not lie in the page's square
-  abbrev IsElsewhere : ℕ → Type 0
-  IsElsewhere x = 2 * cuts_to w q ≤ level_of x → square_at w q x ≡ t → ⊥
-
-  page-other : (r x : ℕ) → IsElsewhere x → is_in_page w r x ≡ is_in_page (record w { loaded = loaded }) r x
-  page-other r x else = same_tests (is_in_page w r x) (is_in_page (record w { loaded = loaded }) r x)
-      (λ here.
-      let i = page-parts w r x here in
-      let e = others r (square_at w r x) (apart i.first) in
-      page-from (record w { loaded = loaded }) r x record { first = i.first; last = i.last; page = sym e ∙ i.page })
-      (λ there.
-      let i = page-parts (record w { loaded = loaded }) r x there in
-      let e = others r (square_at w r x) (apart i.first) in
-      page-from w r x record { first = i.first; last = i.last; page = e ∙ i.page })
-    where
-      apart : 2 * cuts_to w r ≤ level_of x → r ≡ q → square_at w r x ≡ t → ⊥
-      apart first same is = else
-          (subst (λ k. 2 * cuts_to w k ≤ level_of x) same first)
-          (subst (λ k. square_at w k x ≡ t) same is)
-
-  pages-other : (r x : ℕ) → IsElsewhere x → is_in_pages w r x ≡ is_in_pages (record w { loaded = loaded }) r x
-  pages-other zero x else = page-other 0 x else
-  pages-other (suc r) x else = ap₂ (λ b c. b || c) (page-other (suc r) x else) (pages-other r x else)
-
-  -- outside of its square the same triangles are known
-  pub known-other : (x : ℕ) → IsElsewhere x → is_known w x ≡ is_known (record w { loaded = loaded }) x
-  known-other x else =
-      ap (λ b. nat_le 2 x && (nat_lt (level_of x) (2 * cuts_to w w.top) || b)) (pages-other w.top x else)
+      known-finest q (in_tile (cuts_to w q) t b) coarse (omega arith) (omega arith)
+      (subst (λ u. IsTrue (w.loaded q u)) (sym (in_tile-square (cuts_to w q) t b tile big)) page)
+      (λ some end. none some (omega arith))
+      ∙ same_tests (nat_lt (level_of (in_tile (cuts_to w q) t b)) (2 * (cuts_to w q + w.n)))
+      (nat_lt (level_of b) (2 * w.n))
+      (λ h.
+      let less = ltb-true (level_of (in_tile (cuts_to w q) t b)) (2 * (cuts_to w q + w.n)) h in
+      lt-ltb (level_of b) (2 * w.n) (omega arith))
+      (λ h.
+      let less = ltb-true (level_of b) (2 * w.n) h in
+      lt-ltb (level_of (in_tile (cuts_to w q) t b)) (2 * (cuts_to w q + w.n)) (omega arith))

@@ -1,11 +1,14 @@
 -- The squares that triangles lie in, of one resolution and the next, and the halves of a square.
-use Rattle.std.proofs.Common.{◌≡◌, ℕ, zero, suc, ◌+◌, ◌-◌, ◌*◌, ◌/◌, ◌%◌, ◌<◌, ◌≤◌, refl, sym}
+use Rattle.std.proofs.Common.{◌≡◌, ℕ, zero, suc, ◌+◌, ◌-◌, ◌*◌, ◌/◌, ◌%◌, ◌^◌, ◌<◌, ◌≤◌, refl, sym}
 use Rattle.std.proofs.Common.{◌∙◌, ap, arith, ⊎_elim}
 use Rattle.std.proofs.lemmas.Bool.{cases_lt}
+use Rattle.mesh_defs.specs.declared.point.Point.{Point}
 use Rattle.mesh_defs.specs.Triangle.{level_of}
+use Rattle.mesh_laws.proofs.ConformityLemmas.{IsUnder, self, below}
+use Rattle.mesh_laws.proofs.ConverseLemmas.{level-under}
 use Rattle.bintree_laws.proofs.LevelLemmas.{level_of-left, level_of-right, level_of-parent, left-or-right}
 use Rattle.bintree_laws.proofs.LatticeLemmas.{same_point}
-use Rattle.mosaic_laws.specs.Tile.{in_tile}
+use Rattle.mosaic_laws.specs.Tile.{IsTile, in_tile}
 use Rattle.mosaic_laws.specs.Glue.{square_in, quarter_of, square_of, prefix_at, prefix_of, tile_of, local_of}
 use Rattle.mosaic_laws.proofs.AddressLemmas.{in_tile-left, in_tile-right, tile-is, local-big, in_tile-local}
 use Rattle.mosaic_laws.proofs.AddressLemmas.{tile-in_tile}
@@ -67,6 +70,20 @@ tile-parent p x big deep =
     (λ (left : x ≡ 2 * (x / 2)). ap (tile_of p) (sym left) ∙ sym (tile-self p x (omega arith) deep))
     (λ (right : x ≡ 2 * (x / 2) + 1). sym both ∙ ap (tile_of p) (sym right) ∙ sym (tile-self p x (omega arith) deep))
     (left-or-right x)
+
+-- and of all that lies at and under a triangle
+pub tile-under : (p x b : ℕ) → 2 * p ≤ level_of x → IsUnder x b → tile_of p (2 * b) ≡ tile_of p (2 * x)
+tile-under p x _ deep self = refl
+tile-under p x _ deep (below b big u) =
+    let up = level_of-parent b big in
+    let less = level-under x (b / 2) u in
+    sym (tile-parent p b big (omega arith)) ∙ tile-under p x (b / 2) deep u
+
+-- a square's triangles lie in it
+pub in_tile-square : (p : ℕ) (t : Point) (b : ℕ) → IsTile (2 ^ p) (2 ^ p) t → 4 ≤ b →
+    tile_of p (2 * in_tile p t b) ≡ t
+in_tile-square p t b tile big =
+    ap (tile_of p) (sym (in_tile-left p t b big)) ∙ tile-in_tile p t (2 * b) tile (omega arith)
 
 -- the next resolution
 

@@ -4,13 +4,15 @@
 -- told by its column and its row. So it is a tile of the terrain: its own triangles are those of a grid of n, moved.
 -- This project's own.
 -- Words: Pages, cuts_to, half, is_turned, left_quarter, right_quarter, half_corners, square_at, is_in_page,
--- is_in_pages, is_known, page_point, page_corners, IsPagePoint, IsLoadedPoint, square_above, AreBeside, IsPyramid,
--- IsAtGap.
+-- is_in_pages, is_known, page_point, page_corners, page_area, IsPagePoint, IsLoadedPoint, square_above, AreBeside,
+-- IsPyramid, IsAtGap, with_page, without_page.
 use Rattle.std.specs.Prelude.{◌≡◌, ◌⊎◌, ℕ, zero, suc, ◌+◌, ◌-◌, ◌*◌, ◌/◌, ◌%◌, ◌^◌, ◌<◌, ◌≤◌, Bool, ◌&&◌, ◌||◌, true}
-use Rattle.std.specs.Prelude.{false, IsTrue, nat_eq, nat_le, nat_lt}
+use Rattle.std.specs.Prelude.{false, IsTrue, nat_eq, nat_le, nat_lt, not}
 use Rattle.mesh_defs.specs.declared.point.Point.{Point}
 use Rattle.mesh_defs.specs.declared.point.Corners.{Corners}
 use Rattle.mesh_defs.specs.Triangle.{level_of, base_triangle}
+use Rattle.mesh_defs.specs.MeshText.{is_same_point}
+use Rattle.mesh_defs.specs.State.{Area}
 use Rattle.bintree_laws.specs.Corners.{IsInSquare}
 use Rattle.mosaic_laws.specs.Tile.{IsTile, quarter}
 use Rattle.mosaic_laws.specs.Glue.{tile_of}
@@ -88,6 +90,15 @@ abbrev pub page_corners : ℕ → ℕ → Point → Corners → Corners
 page_corners n q t c =
     record { apex = page_point n q t c.apex; v0 = page_point n q t c.v0; v1 = page_point n q t c.v1 }
 
+-- the square of a page, in grid steps of the terrain
+abbrev pub page_area : Pages → ℕ → Point → Area
+page_area w q t = record {
+  x0 = 2 ^ (w.n + q) * t.x;
+  y0 = 2 ^ (w.n + q) * t.y;
+  x1 = 2 ^ (w.n + q) * (t.x + 1);
+  y1 = 2 ^ (w.n + q) * (t.y + 1);
+}
+
 -- p is one of the points of a page
 abbrev pub IsPagePoint : ℕ → ℕ → Point → Point → Type 0
 IsPagePoint n q t p = (r : Point) × IsInSquare (2 ^ n) r × (p ≡ page_point n q t r)
@@ -129,3 +140,11 @@ pub record IsAtGap (w : Pages) (x y : ℕ) : Type 0 where
   pub page : IsTrue (w.loaded q (square_at w q x))
   pub across : AreBeside (square_at w q x) (square_at w q y)
   pub missing : w.loaded q (square_at w q y) ≡ false
+
+-- the pages with this one, of resolution q, loaded too
+abbrev pub with_page : Pages → ℕ → Point → Pages
+with_page w q t = record w { loaded = λ r u. (nat_eq r q && is_same_point u t) || w.loaded r u }
+
+-- the pages without this one
+abbrev pub without_page : Pages → ℕ → Point → Pages
+without_page w q t = record w { loaded = λ r u. not (nat_eq r q && is_same_point u t) && w.loaded r u }

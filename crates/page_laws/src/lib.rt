@@ -7,12 +7,18 @@
 
 #![tactic(auto)]
 
+mod areas;
+mod changes;
+mod finding;
 mod opening;
 mod pyramids;
 mod squares;
 mod surfaces;
 mod wedge;
 
+pub use areas::area_laws;
+pub use changes::change_laws;
+pub use finding::{finding_laws, height_laws};
 pub use opening::open_laws;
 pub use pyramids::pyramid_laws;
 pub use squares::{point_laws, square_laws};

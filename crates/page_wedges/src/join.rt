@@ -1,6 +1,6 @@
 //! A triangle's wedge by its corners' and its centre's heights and those of its children.
 
-ghost use Rattle.std.specs.Prelude.{◌≡◌, ◌+◌, ◌*◌, ◌^◌, ◌≤◌, if◌then◌else◌};
+ghost use Rattle.std.specs.Prelude.{◌≡◌, ◌+◌, ◌*◌, ◌^◌, ◌≤◌, max, if◌then◌else◌};
 ghost use Rattle.mesh_defs.specs.Thickness.{height_of};
 ghost use Rattle.bintree_laws.specs.Corners.{IsWithin, IsInSquare};
 ghost use Rattle.page_laws.specs.Pages.{half_corners};
@@ -43,6 +43,7 @@ pub fn joined(grid: &Grid, corners: Corners, left: KnownWedge, right: KnownWedge
     requires left_small { left.thickness ≤ THICKEST + 131070 }
     requires right_small { right.thickness ≤ THICKEST + 131070 }
     ensures value { result ≡ joined_in grid.now corners left right }
+    ensures bounded { result.thickness ≤ max left.thickness right.thickness + 131070 }
 {
     KnownWedge {
         thickness: left.thickness.max(right.thickness) + bend_of(grid, corners),

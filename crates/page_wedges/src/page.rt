@@ -81,6 +81,13 @@ impl PageWedges {
         self.own.grid()
     }
 
+    /// Says which diagonal cuts the page's square: a page may be built before its place in the terrain is known.
+    pub fn cut_by(&mut self, turned: bool)
+        ensures value { self.new ≡ record self.old { turned = turned } }
+    {
+        self.turned = turned;
+    }
+
     /// The wedge of a triangle by the page's heights alone, which it has where no finer page lies in its part.
     ///
     /// Cost (not proved): a read, or at the last levels at most 15 heights.
@@ -111,6 +118,7 @@ impl PageWedges {
     /// Cost (not proved): three heights.
     pub fn half(&self, upper: bool) -> KnownWedge
         ensures value { result ≡ half_in self.now (if upper then 1 else 0) }
+        ensures bounded { result.thickness ≤ THICKEST + 2 * 131070 }
     {
         let (first, second) = self.children_of(upper);
         let side = self.own.grid().side() as u32 - 1;

@@ -1,6 +1,7 @@
 -- Each clause is a lemma.
 use Rattle.page_laws.proofs.PyramidLemmas.{known-in, known-of, known-open, gap-forth, gap-back, open-known, open-from}
-use Rattle.page_laws.proofs.PyramidLemmas.{parent-known, known-other}
+use Rattle.page_laws.proofs.PyramidLemmas.{parent-known}
+use Rattle.page_laws.proofs.ChangeLemmas.{known-other}
 use Rattle.page_laws.proofs.pyramids.pyramid_laws.Goals as goal
 
 pub returns-clause-known : goal.returns-clause-known
@@ -22,4 +23,5 @@ pub returns-clause-parent : goal.returns-clause-parent
 returns-clause-parent c w x s here big = parent-known w s x here big
 
 pub returns-clause-elsewhere : goal.returns-clause-elsewhere
-returns-clause-elsewhere c w loaded q t x others else = known-other w loaded q t others x else
+returns-clause-elsewhere c w loaded q t x others else =
+    known-other w loaded q t others x (λ first last is. else first is)

@@ -1,0 +1,8 @@
+-- The wedge's lemma.
+use Rattle.page_laws.proofs.LoadedLemmas.{wedge-heights}
+use Rattle.page_laws.proofs.finding.height_laws.Goals as goal
+
+pub returns : goal.returns
+returns c = record {
+  same_heights = λ w height other x s agree known. wedge-heights w s height other agree x known;
+}
