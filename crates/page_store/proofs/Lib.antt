@@ -1,0 +1,16 @@
+pub mod PlaceLemmas
+pub mod TableLemmas
+pub mod HeightLemmas
+pub mod WalkLemmas
+pub mod FoundLemmas
+pub mod ValueLemmas
+pub mod AloneLemmas
+pub mod MakeLemmas
+pub mod ChildLemmas
+pub mod ChangeLemmas
+pub mod JoinLemmas
+pub mod AboveLemmas
+pub mod PutLemmas
+pub mod AgreementLemmas
+pub mod TakeLemmas
+pub mod UnloadLemmas

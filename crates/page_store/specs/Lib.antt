@@ -1,0 +1,6 @@
+pub mod Store
+pub mod Walk
+pub mod Change
+pub mod Agreement
+pub mod Load
+pub mod Unload

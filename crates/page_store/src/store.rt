@@ -1,0 +1,169 @@
+//! The pages of a terrain, with the wedges of their triangles over all that is loaded.
+
+ghost use Rattle.std.specs.Prelude.{◌≡◌, ◌≢◌, ℕ, ◌+◌, ◌-◌, ◌*◌, ◌<◌, ◌≤◌, ◌↔◌, IsTrue, false, IfOk, IfErr, OnOk};
+ghost use Rattle.std.specs.Prelude.{OnErr, IfSome, IsSome, Some, None};
+ghost use Rattle.std.specs.Option.{option_copied};
+ghost use Rattle.mesh_defs.specs.declared.level.TheConstants.{GREATEST_LEVEL};
+ghost use Rattle.mesh_defs.specs.declared.point.Point.{Point};
+ghost use Rattle.mesh_defs.specs.Triangle.{level_of};
+ghost use Rattle.page_laws.specs.Pages.{IsLoadedPoint};
+ghost use Rattle.page_laws.specs.Opened.{with_known_mate};
+ghost use Rattle.page_laws.specs.Loaded.{known_wedge};
+ghost use Rattle.page_wedges.specs.Page.{IsAlone};
+ghost use Rattle.page_wedges.specs.declared.join.TheConstants.{THICKEST};
+ghost use Rattle.page_store.specs.Store.{page_at, grid_at, pages_of, height_in, known_in, IsStore};
+ghost use Rattle.page_store.specs.Load.{CanLoad, IsLoadFault};
+ghost use Rattle.page_store.specs.Unload.{IsFree, IsUnloadFault};
+
+use crate::load::LoadFault;
+use crate::table::{Table, is_turned};
+use crate::unload::UnloadFault;
+use bintree_addr::Tri;
+use mesh_defs::{NoMemory, Point};
+use page_laws::KnownWedge;
+use page_wedges::PageWedges;
+use std::alloc::Global;
+use std::marker::Model;
+
+/// The pages of a terrain that are loaded: the coarsest one always, finer ones where coarser pages lie all round.
+///
+/// A resolution q has heights 2^q grid steps apart; a square is told by its column and its row of that resolution.
+#[derive(Debug, Drop)]
+pub struct PageStore {
+    table: Table,
+}
+
+impl Model for PageStore {
+    ghost use Rattle.page_store.specs.Store.{Store};
+
+    ghost Value = { Store };
+
+    ghost view = { λ s. s.table };
+
+    ghost use Rattle.page_store.specs.Store.{IsStore};
+
+    ghost invariant = { λ s. IsStore s.table };
+}
+
+impl PageStore {
+    /// The store of a terrain of which the coarsest page alone is loaded.
+    ///
+    /// The page is dropped where memory is wanted.
+    /// Cost (not proved): a step for each place of the table, which has one for each square of each resolution.
+    pub fn make(alloc: Global, large: u32, root: PageWedges) -> Result<PageStore, NoMemory>
+        requires fits { root.field.n ≤ large }
+        requires small { large ≤ GREATEST_LEVEL }
+        requires turned { root.turned ≡ false }
+        requires alone { IsAlone root }
+        ensures large { IfOk result (λ s. s.large ≡ large) }
+        ensures n { IfOk result (λ s. s.n ≡ root.field.n) }
+        ensures root { IfOk result (λ s. page_at s (large - root.field.n) (record { x = 0; y = 0 }) ≡ Some root) }
+        ensures others { IfOk result (λ s. (q : ℕ) (t : Point) → q ≢ large - root.field.n → page_at s q t ≡ None) }
+    {
+        Ok(PageStore {
+            table: Table::make(alloc, large, root)?,
+        })
+    }
+
+    /// The exponent of the terrain's side in grid steps.
+    pub fn large(&self) -> u32
+        ensures value { result ≡ self.now.large }
+        ensures valid { IsStore self.now }
+    {
+        self.table.large
+    }
+
+    /// The exponent of a page's side.
+    pub fn n(&self) -> u32
+        ensures value { result ≡ self.now.n }
+        ensures valid { IsStore self.now }
+    {
+        self.table.n
+    }
+
+    /// The page of a resolution in a square, if it is loaded; None for what is no square of the terrain.
+    ///
+    /// Cost (not proved): a read.
+    pub fn page(&self, q: u32, square: Point) -> Option<&PageWedges>
+        ensures value { option_copied result ≡ page_at self.now q square }
+    {
+        self.table.page(q, square)
+    }
+
+    /// The thickness, least and greatest height of a triangle over all that is loaded, where it can be split.
+    ///
+    /// None where it or its mate is not known: such a triangle has priority 0.
+    /// Cost (not proved): a step for each resolution down to the finest page of the triangle, then that of its wedge;
+    /// at the last level of a page, that of the mate too.
+    pub fn wedge(&self, tri: Tri) -> Option<KnownWedge>
+        requires level { level_of tri ≤ 2 * self.now.large }
+        ensures opened { IsSome result ↔ IsTrue (with_known_mate (known_in self.now) tri) }
+        ensures value { IfSome result (λ w. w
+            ≡ known_wedge self.now.large (height_in self.now) (known_in self.now) tri) }
+        ensures thin { IfSome result (λ w. w.thickness ≤ THICKEST) }
+    {
+        let found = self.table.finest(tri);
+        if !self.table.is_open(tri, found) {
+            return None;
+        }
+        Some(self.table.wedge_in(tri, found))
+    }
+
+    /// Loads a page. It comes back with the fault where it is not loaded.
+    ///
+    /// Cost (not proved): two heights for each of a quarter of the page's points, and for each on its sides; then twelve
+    /// heights for each resolution above.
+    pub fn load(
+        &mut self,
+        q: u32,
+        square: Point,
+        page: PageWedges,
+    ) -> Result<(), (LoadFault, PageWedges)>
+        requires alone { IsAlone page }
+        ensures ok { OnOk result (CanLoad self.old q square page.field) }
+        ensures loaded { OnOk result (grid_at self.new q square ≡ Some page.field) }
+        ensures others { OnOk result ((r : ℕ) (u : Point) → (r ≡ q → u ≡ square → ⊥) →
+            grid_at self.new r u ≡ grid_at self.old r u) }
+        ensures heights { OnOk result ((p : Point) → IsLoadedPoint (pages_of self.old) p →
+            height_in self.new p ≡ height_in self.old p) }
+        ensures fault { IfErr result (λ e. IsLoadFault self.old q square page.field e.0) }
+        ensures refused { IfErr result (λ e. e.1 ≡ page) }
+        ensures err { OnErr result (self.new ≡ self.old) }
+        ensures size { (self.new.large ≡ self.old.large) × (self.new.n ≡ self.old.n) }
+    {
+        if let Some(fault) = self.table.load_fault(q, square, page.grid()) {
+            return Err((fault, page));
+        }
+        let cuts = self.table.cuts(q);
+        let mut page = page;
+        page.cut_by(is_turned(cuts, square));
+        self.table.put(cuts, square, page);
+        self.table.join_above(cuts, square);
+        Ok(())
+    }
+
+    /// Unloads a page, which comes back without what finer pages had changed.
+    ///
+    /// Cost (not proved): a few steps, and twelve heights for each resolution above it.
+    pub fn unload(&mut self, q: u32, square: Point) -> Result<PageWedges, UnloadFault>
+        ensures page { IfOk result (λ page. page_at self.old q square ≡ Some page) }
+        ensures alone { IfOk result IsAlone }
+        ensures ok { OnOk result ((self.old.n + q < self.old.large) × IsFree self.old q square) }
+        ensures gone { OnOk result (grid_at self.new q square ≡ None) }
+        ensures others { OnOk result ((r : ℕ) (u : Point) → (r ≡ q → u ≡ square → ⊥) →
+            grid_at self.new r u ≡ grid_at self.old r u) }
+        ensures heights { OnOk result ((p : Point) → IsLoadedPoint (pages_of self.new) p →
+            height_in self.new p ≡ height_in self.old p) }
+        ensures fault { IfErr result (IsUnloadFault self.old q square) }
+        ensures err { OnErr result (self.new ≡ self.old) }
+        ensures size { (self.new.large ≡ self.old.large) × (self.new.n ≡ self.old.n) }
+    {
+        if let Some(fault) = self.table.unload_fault(q, square) {
+            return Err(fault);
+        }
+        let cuts = self.table.cuts(q);
+        let page = self.table.take(cuts, square).unwrap();
+        self.table.join_above(cuts, square);
+        Ok(page)
+    }
+}
