@@ -1,0 +1,59 @@
+//! The gauge of what is loaded.
+
+ghost use Rattle.std.specs.Prelude.{◌≡◌};
+ghost use Rattle.page_priority.specs.Loaded.{loaded_priorities, loaded_readings};
+ghost use Rattle.page_priority.specs.Scene.{loaded_in};
+
+use crate::LoadedScene;
+use bintree_addr::{Rank, Tri};
+use deferred_loop::{Gauge, Reading};
+use view_priority::Meter;
+
+/// Tells the priorities over what is loaded, and bounds on them for a move of an eighth of the distance. Its meter
+/// counts.
+#[derive(Drop)]
+pub struct LoadedGauge<'a> {
+    scene: LoadedScene<'a>,
+    meter: Meter,
+}
+
+impl<'a> LoadedGauge<'a> {
+    /// The gauge of a scene, which counts on from the meter.
+    pub fn new(scene: LoadedScene<'a>, meter: Meter) -> LoadedGauge<'a>
+        ensures scene { result.scene ≡ scene.entry }
+        ensures meter { result.meter ≡ meter }
+    {
+        LoadedGauge { scene, meter }
+    }
+
+    /// The meter, with what was counted.
+    pub fn into_meter(self) -> Meter
+        ensures { result ≡ self.entry.meter }
+    {
+        self.meter
+    }
+}
+
+impl<'a> Gauge for LoadedGauge<'a> {
+    ghost told = { λ g. loaded_priorities (loaded_in g.scene) };
+
+    ghost readings = { λ g. loaded_readings (loaded_in g.scene) };
+
+    ghost count = { λ g. g.meter };
+
+    fn rank(&mut self, t: Tri) -> Rank {
+        // Read, so that it is known to fit its type: it then rises by one or stands still.
+        let _count = self.meter.count();
+        self.scene.rank(t, &mut self.meter)
+    }
+
+    fn reading(&mut self, t: Tri) -> Reading {
+        let _count = self.meter.count();
+        let (slack, bounds) = self.scene.bounds_by_slack(t, &mut self.meter);
+        Reading {
+            slack,
+            hi: bounds.hi,
+            lo: bounds.lo,
+        }
+    }
+}

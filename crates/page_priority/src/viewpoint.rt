@@ -1,0 +1,79 @@
+//! How a terrain is viewed.
+
+ghost use Rattle.std.specs.Prelude.{◌≡◌, ◌*◌, ◌<◌, ◌≤◌, ◌^◌};
+ghost use Rattle.mesh_defs.specs.BoundingBox.{distance_of};
+ghost use Rattle.mesh_defs.specs.Triangle.{level_of, corners_of};
+ghost use Rattle.mesh_defs.specs.View.{mark_of};
+ghost use Rattle.mesh_defs.specs.declared.level.TheConstants.{GREATEST_LEVEL};
+ghost use Rattle.cull_marks.specs.Cuboid.{as_box, IsWithinReach};
+ghost use Rattle.view_priority.specs.Bounds.{box_over};
+
+use bintree_addr::{Cuboid, Tri};
+use cull_marks::Planes;
+use page_laws::KnownWedge;
+use std::marker::Model;
+use view_priority::{Camera, Factors, distance};
+use wedgie_tree::box_around;
+
+/// All that priorities depend on but the terrain.
+#[derive(Drop)]
+pub struct Viewpoint<'a> {
+    /// Where the viewer is.
+    pub camera: &'a Camera,
+    /// The world units of a grid step.
+    pub spacing: u32,
+    /// The view planes in force.
+    pub planes: &'a Planes,
+    /// The greatest ratio of thickness and distance that is good enough: such a triangle has priority 0.
+    pub threshold: u64,
+}
+
+impl<'a> Model for Viewpoint<'a> {
+    ghost use Rattle.std.specs.Prelude.{◌≤◌};
+    ghost use Rattle.mesh_defs.specs.View.{View};
+    ghost use Rattle.wedgie_tree.specs.declared.wedges.TheConstants.{GREATEST_SPACING};
+    ghost use Rattle.view_priority.specs.Camera.{view_above};
+
+    ghost Value = { View };
+
+    ghost view = { λ v. view_above v.threshold v.camera.now v.spacing v.planes.now };
+
+    ghost invariant = { λ v. (1 ≤ v.spacing) × (v.spacing ≤ GREATEST_SPACING) };
+}
+
+impl<'a> Viewpoint<'a> {
+    /// What decides the priority of a triangle with this wedge, in a grid of 2^n steps a side.
+    ///
+    /// Cost (not proved): a step a level, two corners of the box at each plane, and a square root.
+    pub fn factors(&self, n: u32, t: Tri, wedge: KnownWedge) -> Factors
+        requires in_grid { (1 ≤ n) × (n ≤ GREATEST_LEVEL) }
+        requires level { level_of t ≤ 2 * n }
+        requires ordered { wedge.low ≤ wedge.high }
+        ensures mark { result.mark
+            ≡ mark_of self.now.planes (box_over self.now.spacing (corners_of n t) wedge.low wedge.high) }
+        ensures thickness { result.thickness ≡ wedge.thickness }
+        ensures distance { result.distance
+            ≡ distance_of (box_over self.now.spacing (corners_of n t) wedge.low wedge.high) self.now.camera }
+        ensures bounded { result.distance < 2 ^ 31 }
+        ensures threshold { result.threshold ≡ self.now.threshold }
+    {
+        let cuboid = self.cuboid(n, t, wedge.low, wedge.high);
+        Factors {
+            mark: self.planes.mark(&cuboid),
+            thickness: wedge.thickness,
+            distance: distance(&cuboid, self.camera),
+            threshold: self.threshold,
+        }
+    }
+
+    // The box around the part of the surface that a triangle with these heights stands for.
+    fn cuboid(&self, n: u32, t: Tri, low: u16, high: u16) -> Cuboid
+        requires in_grid { (1 ≤ n) × (n ≤ GREATEST_LEVEL) }
+        requires level { level_of t ≤ 2 * n }
+        requires ordered { low ≤ high }
+        ensures value { as_box result ≡ box_over self.now.spacing (corners_of n t) low high }
+        ensures reach { IsWithinReach (2 ^ 24) (as_box result) }
+    {
+        box_around(t.corners(n), self.spacing, low, high)
+    }
+}
