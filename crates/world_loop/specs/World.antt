@@ -1,0 +1,78 @@
+-- A world between two calls: what is loaded of a terrain, a view of it, and the mesh that follows the view.
+-- All of it is this project's own.
+-- Words: WorldState, loaded_of, sight_of, priority_in, is_split, mesh_seen, IsWorld, IsWorn, IsFrameDone.
+use Rattle.std.specs.Prelude.{◌≡◌, ◌⊎◌, ℕ, ◌*◌, ◌^◌, ◌≤◌, min, Bool, List, length}
+use Rattle.mesh_defs.specs.declared.counters.TheConstants.{CHANGES_AT_FRAME, LONGEST_WAY}
+use Rattle.mesh_defs.specs.ClosedSet.{leaves_of, among}
+use Rattle.mesh_defs.specs.View.{View}
+use Rattle.wedgie_tree.specs.declared.wedges.TheConstants.{GREATEST_SPACING}
+use Rattle.triangle_pool.specs.declared.pool.TheConstants.{MOST_LEAVES}
+use Rattle.roam_mesh.specs.Mesh.{MeshState, pool_members}
+use Rattle.page_store.specs.Store.{Store}
+use Rattle.page_priority.specs.Loaded.{LoadedState, loaded_priority, loaded_readings, loaded_from}
+use Rattle.page_priority.specs.Scene.{loaded_in}
+use Rattle.view_mesh.specs.Sight.{Sight, AreBracketed}
+use Rattle.view_mesh.specs.Advance.{IsAdvanced}
+use Rattle.world_loop.specs.declared.note.WorldNote.{WorldNote}
+
+-- the pages, the view and the budget in force; the greatest budget; the mesh; and the way that the camera has gone
+pub record WorldState : Type 0 where
+  pub store : Store
+  pub view : View
+  pub budget : ℕ
+  pub most : ℕ
+  pub mesh : MeshState
+  pub odometer : ℕ
+
+-- what a mesh follows over it
+abbrev pub sight_of : LoadedState → Sight
+sight_of s = record {
+  n = s.pages.large;
+  camera = s.view.camera;
+  from = λ to. loaded_priority (loaded_from to s);
+  readings = loaded_readings s;
+}
+
+-- what is loaded, as it is viewed
+abbrev pub loaded_of : WorldState → LoadedState
+loaded_of w = loaded_in (record { store = w.store; view = w.view })
+
+-- the priority of a triangle: 0 where it is not open, so that its parts have no height
+abbrev pub priority_in : WorldState → ℕ → ℕ
+priority_in w = loaded_priority (loaded_of w)
+
+-- whether a triangle was made and split in the mesh
+abbrev pub is_split : WorldState → ℕ → Bool
+is_split w = among (pool_members w.mesh.pool)
+
+-- the triangles of the mesh, depth first
+abbrev pub mesh_seen : WorldState → List ℕ
+mesh_seen w = leaves_of w.store.large (is_split w)
+
+-- What holds of every world: its budgets, and that its stamps bracket the priorities.
+pub record IsWorld (w : WorldState) : Type 0 where
+  pub n : w.mesh.pool.n ≡ w.store.large
+  pub most_low : 2 ≤ w.most
+  pub most_high : w.most ≤ MOST_LEAVES
+  pub room : w.mesh.pool.most ≡ min w.most (2 * 4 ^ w.store.large)
+  pub budget_low : 2 ≤ w.budget
+  pub budget_high : w.budget ≤ w.most
+  pub spacing_low : 1 ≤ w.view.spacing
+  pub spacing_high : w.view.spacing ≤ GREATEST_SPACING
+  pub far : w.odometer ≤ LONGEST_WAY
+  pub kept : AreBracketed (sight_of (loaded_of w)) w.odometer w.mesh
+
+-- the mesh has split or merged as many triangles as its counters can tell
+abbrev pub IsWorn : WorldState → Type 0
+IsWorn w = (CHANGES_AT_FRAME ≤ w.mesh.pool.splits) ⊎ (CHANGES_AT_FRAME ≤ w.mesh.pool.merges)
+
+-- What a frame does: the mesh is that of what is loaded, and the note tells of it.
+pub record IsFrameDone (before after : WorldState) (note : WorldNote) : Type 0 where
+  pub store : after.store ≡ before.store
+  pub view : after.view ≡ before.view
+  pub budget : after.budget ≡ before.budget
+  pub most : after.most ≡ before.most
+  pub odometer : after.odometer ≡ before.odometer
+  pub mesh : IsAdvanced (sight_of (loaded_of before)) before.budget before.odometer before.mesh after.mesh note.steps
+      0 note.evaluations
+  pub triangles : note.triangles ≡ length (mesh_seen after)

@@ -1,0 +1,23 @@
+//! A world: one mesh that follows a camera over a terrain of pages, of which some are loaded.
+//!
+//! For flight simulators, whose terrain is larger than what is at hand. A `World` has the pages, a view of them and a
+//! `Mesh` over the whole terrain; pages come and go between frames. Each frame is the best mesh of the budget for what
+//! is loaded, and each of its corners is a point of a loaded page, so there are no cracks and no missing heights.
+
+#![tactic(auto)]
+
+mod frame;
+mod laws;
+mod listing;
+mod moves;
+mod note;
+mod paging;
+mod world;
+
+pub use cull_marks::Planes;
+pub use laws::world_laws;
+pub use mesh_defs::{NoMemory, Point};
+pub use note::{WorldNote, Worn};
+pub use page_store::{LoadFault, PageStore, PageWedges, UnloadFault};
+pub use view_priority::Camera;
+pub use world::World;

@@ -1,0 +1,84 @@
+//! Changes of the view and of the budget.
+
+ghost use Rattle.std.specs.Prelude.{◌≡◌, ◌+◌, ◌<◌, ◌≤◌, true};
+ghost use Rattle.mesh_defs.specs.declared.counters.TheConstants.{LONGEST_WAY};
+ghost use Rattle.mesh_defs.specs.State.{move_length};
+ghost use Rattle.view_priority.specs.Bounds.{viewed_from};
+ghost use Rattle.view_mesh.specs.Expiry.{IsExpired};
+
+use crate::world::World;
+use cull_marks::Planes;
+use mesh_defs::LONGEST_WAY;
+use view_mesh::{expire_each, expiry_laws, sight_laws};
+use view_priority::Camera;
+
+impl World {
+    /// Puts the camera to a place.
+    ///
+    /// Where the way since the odometer was last 0 would be too long to be told, it is 0 again and all stamps expire.
+    pub fn camera(&mut self, camera: Camera)
+        ensures rest { self.new ≡ record self.old {
+          view = viewed_from camera self.old.view;
+          mesh = self.new.mesh;
+          odometer = self.new.odometer;
+        } }
+        ensures near { self.old.odometer + move_length self.old.view.camera camera ≤ LONGEST_WAY →
+            (self.new.mesh ≡ self.old.mesh)
+            × (self.new.odometer ≡ self.old.odometer + move_length self.old.view.camera camera) }
+        ensures far { LONGEST_WAY < self.old.odometer + move_length self.old.view.camera camera →
+            IsExpired self.old.mesh self.new.mesh (λ a. true) × (self.new.odometer ≡ 0) }
+    {
+        sight_laws();
+        expiry_laws();
+        let way = self.camera.way_to(camera);
+        self.camera = camera;
+        if self.odometer + way > LONGEST_WAY {
+            expire_each(&mut self.mesh);
+            self.odometer = 0;
+            return;
+        }
+        self.odometer += way;
+    }
+
+    /// Puts another budget in force.
+    pub fn budget(&mut self, budget: u32)
+        requires some { 2 ≤ budget }
+        requires few { budget ≤ self.old.most }
+        ensures { self.new ≡ record self.old { budget = budget } }
+    {
+        self.budget = budget;
+    }
+
+    /// Puts a whole set of planes in force in the place of those before, and expires all stamps.
+    ///
+    /// Cost (not proved): a step for each triangle of the mesh.
+    pub fn look(&mut self, planes: &Planes)
+        ensures rest { self.new ≡ record self.old {
+          view = record self.old.view { planes = planes.now };
+          mesh = self.new.mesh;
+        } }
+        ensures mesh { IsExpired self.old.mesh self.new.mesh (λ a. true) }
+    {
+        sight_laws();
+        expiry_laws();
+        expire_each(&mut self.mesh);
+        self.planes.put(planes);
+    }
+
+    /// Puts another threshold in force, and expires all stamps: the next frames split no triangle whose thickness over
+    /// distance is at most that but where a neighbour forces it.
+    ///
+    /// Cost (not proved): that of `look`.
+    pub fn threshold(&mut self, threshold: u64)
+        ensures rest { self.new ≡ record self.old {
+          view = record self.old.view { threshold = threshold };
+          mesh = self.new.mesh;
+        } }
+        ensures mesh { IsExpired self.old.mesh self.new.mesh (λ a. true) }
+    {
+        sight_laws();
+        expiry_laws();
+        expire_each(&mut self.mesh);
+        self.threshold = threshold;
+    }
+}
