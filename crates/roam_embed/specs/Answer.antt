@@ -4,7 +4,7 @@ use Rattle.roam_embed.specs.declared.answer.Answer.{Answer}
 use Rattle.roam_embed.specs.declared.answer.Answer.TheVariants.{Done, NoMemory, BadGrid, BadBudget, BadSpacing}
 use Rattle.roam_embed.specs.declared.answer.Answer.TheVariants.{BadCamera, BadPlane, TooManyPlanes, OutsideGrid}
 use Rattle.roam_embed.specs.declared.answer.Answer.TheVariants.{BadChange, Worn, NoRoom, IsEmpty, BadTolerance, BadMesh}
-use Rattle.roam_embed.specs.declared.answer.Answer.TheVariants.{Shrunk}
+use Rattle.roam_embed.specs.declared.answer.Answer.TheVariants.{Shrunk, BadPage, NotThere}
 
 -- the number of an answer
 abbrev pub number_of : Answer → ℤ
@@ -24,3 +24,5 @@ number_of IsEmpty = pos 12
 number_of BadTolerance = pos 13
 number_of BadMesh = pos 14
 number_of Shrunk = pos 15
+number_of BadPage = pos 16
+number_of NotThere = pos 17

@@ -2,9 +2,9 @@
 -- the answer is the one with the least number, and out of memory comes last; after an answer other than Done all is as
 -- before.
 -- All of it is this project's own.
--- Words: IsOpenAnswer, IsOpened, IsCameraMoved, IsPlaneAdded, ArePlanesCleared, IsThresholdPut, IsBudgetPut,
--- IsHeightPut, IsAreaRaised, IsFrameMade, AreIndicesTold, AreLeavesTold.
-use Rattle.std.specs.Prelude.{◌≡◌, ◌≢◌, ℕ, ◌+◌, ◌*◌, ◌<◌, ◌≤◌, ◌↔◌, ◌⊎◌, true, List, length, All}
+-- Words: IsOpenAnswerOf, IsOpenAnswer, IsOpened, IsCameraMoved, IsPlaneAdded, ArePlanesCleared, IsThresholdPut,
+-- IsBudgetPut, IsHeightPut, IsAreaRaised, IsFrameMade, AreIndicesTold, AreLeavesTold.
+use Rattle.std.specs.Prelude.{◌≡◌, ◌≢◌, ℕ, ◌+◌, ◌<◌, ◌≤◌, ◌↔◌, ◌⊎◌, true, List, length, All}
 use Rattle.std.specs.Prelude.{Contains, None, ℤ, unsigned_abs, []}
 use Rattle.mesh_defs.specs.BoundingBox.{CameraAt, holds_point, point}
 use Rattle.mesh_defs.specs.View.{ViewPlane}
@@ -33,14 +33,18 @@ use Rattle.roam_embed.specs.Grid.{HasGrid, IsPointCount, IsPointOf, IsAreaOf}
 use Rattle.roam_embed.specs.Told.{note_of}
 use Rattle.roam_embed.specs.Listed.{AreIndicesOf, AreNumbersTold}
 
--- of heights, a budget and a spacing: which of them is refused, and whether the rest is up to memory
-pub record IsOpenAnswer (heights : List ℕ) (budget spacing : ℕ) (answer : Answer) : Type 0 where
-  pub bad_grid : (answer ≡ BadGrid) ↔ (HasGrid (length heights) → ⊥)
-  pub bad_budget : (answer ≡ BadBudget) ↔ (HasGrid (length heights) × ((budget < 2) ⊎ (MOST_LEAVES < budget)))
-  pub bad_spacing : (answer ≡ BadSpacing) ↔ (HasGrid (length heights) × (2 ≤ budget) × (budget ≤ MOST_LEAVES)
+-- of a budget and a spacing for a grid, which may be none: which of them is refused, and whether the rest is up to memory
+pub record IsOpenAnswerOf (Grid : Type 0) (budget spacing : ℕ) (answer : Answer) : Type 0 where
+  pub bad_grid : (answer ≡ BadGrid) ↔ (Grid → ⊥)
+  pub bad_budget : (answer ≡ BadBudget) ↔ (Grid × ((budget < 2) ⊎ (MOST_LEAVES < budget)))
+  pub bad_spacing : (answer ≡ BadSpacing) ↔ (Grid × (2 ≤ budget) × (budget ≤ MOST_LEAVES)
       × ((spacing < 1) ⊎ (GREATEST_SPACING < spacing)))
-  pub others : ((answer ≡ Done) ⊎ (answer ≡ NoMemory)) ↔ (HasGrid (length heights) × (2 ≤ budget)
-      × (budget ≤ MOST_LEAVES) × (1 ≤ spacing) × (spacing ≤ GREATEST_SPACING))
+  pub others : ((answer ≡ Done) ⊎ (answer ≡ NoMemory)) ↔ (Grid × (2 ≤ budget) × (budget ≤ MOST_LEAVES)
+      × (1 ≤ spacing) × (spacing ≤ GREATEST_SPACING))
+
+-- the same of heights, of which there is a grid if they are as many as one has
+abbrev pub IsOpenAnswer : List ℕ → ℕ → ℕ → Answer → Type 0
+IsOpenAnswer heights = IsOpenAnswerOf (HasGrid (length heights))
 
 -- an engine of these heights: seen from (0, 0, 0), no plane, the two halves of the square, no stamp, all counts 0, and
 -- nothing changed by a frame

@@ -1,27 +1,20 @@
 -- What each call does to a fitter and to the caller's arrays, and when each answer comes. Where several causes hold, the
 -- answer is the one with the least number, and out of memory comes last; after an answer other than Done all is as
 -- before. All of it is this project's own.
--- Words: IsFitterOpenAnswer, IsFitterOpened, IsAskedAnswer, IsMeshFitted, IsMeshRefined, IsMeshRestored,
--- IsFitterDeviationTold.
-use Rattle.std.specs.Prelude.{◌≡◌, ℕ, ◌*◌, ◌+◌, ◌^◌, ◌<◌, ◌≤◌, ◌↔◌, ◌⊎◌, Bool, ◌||◌, List, [], ◌∷◌, length}
-use Rattle.mesh_defs.specs.HeightField.{HeightField}
+-- Words: IsFitterOpened, IsAskedAnswer, IsMeshFitted, IsMeshRefined, IsMeshRestored, IsFitterDeviationTold.
+use Rattle.std.specs.Prelude.{◌≡◌, ℕ, ◌^◌, ◌↔◌, Bool, ◌||◌, List, [], ◌∷◌, length}
 use Rattle.fit_laws.specs.PlaneHeight.{deviation_of}
 use Rattle.mesh_laws.specs.Ancestors.{ancestors_of}
 use Rattle.fit_laws.specs.Required.{IsLeastMeshWith}
 use Rattle.fit_mesh.specs.Required.{is_centred_at}
 use Rattle.fit_mesh.specs.Splits.{IsMeshListed, IsGrownFrom}
 use Rattle.roam_embed.specs.declared.answer.Answer.{Answer}
-use Rattle.roam_embed.specs.declared.answer.Answer.TheVariants.{Done, NoMemory, BadGrid, OutsideGrid}
+use Rattle.roam_embed.specs.declared.answer.Answer.TheVariants.{Done, OutsideGrid}
 use Rattle.roam_embed.specs.declared.answer.Answer.TheVariants.{BadTolerance, BadMesh}
 use Rattle.roam_embed.specs.declared.notes.Deviation.{Deviation}
-use Rattle.roam_embed.specs.Grid.{HasGrid, IsPointCount}
+use Rattle.roam_embed.specs.Grid.{IsPointCount}
 use Rattle.roam_embed.specs.Asked.{scaled, AreTolerances, ArePlaces, tolerance_for, error_for}
 use Rattle.roam_embed.specs.FitterState.{FitterState}
-
--- of heights: whether they are refused, and whether the rest is up to memory
-pub record IsFitterOpenAnswer (heights : List ℕ) (answer : Answer) : Type 0 where
-  pub bad_grid : (answer ≡ BadGrid) ↔ (HasGrid (length heights) → ⊥)
-  pub others : ((answer ≡ Done) ⊎ (answer ≡ NoMemory)) ↔ HasGrid (length heights)
 
 -- a fitter of these heights, with the two halves of the square
 pub record IsFitterOpened (heights : List ℕ) (f : FitterState) : Type 0 where

@@ -1,8 +1,10 @@
 -- Grids of a caller's heights. This project's own.
--- Words: IsPointCount, HasGrid, IsPointOf, IsAreaOf.
-use Rattle.std.specs.Prelude.{◌≡◌, ℕ, ◌*◌, ◌^◌, ◌≤◌}
-use Rattle.mesh_defs.specs.HeightField.{side_of}
+-- Words: IsPointCount, HasGrid, IsGridAnswer, IsGridOf, IsPointOf, IsAreaOf.
+use Rattle.std.specs.Prelude.{◌≡◌, ◌⊎◌, ◌↔◌, ℕ, ◌*◌, ◌^◌, ◌≤◌, List, length}
+use Rattle.mesh_defs.specs.HeightField.{HeightField, side_of}
 use Rattle.mesh_defs.specs.declared.level.TheConstants.{GREATEST_LEVEL}
+use Rattle.roam_embed.specs.declared.answer.Answer.{Answer}
+use Rattle.roam_embed.specs.declared.answer.Answer.TheVariants.{Done, NoMemory, BadGrid}
 
 -- a grid of level n has so many points
 pub record IsPointCount (points n : ℕ) : Type 0 where
@@ -13,6 +15,16 @@ pub record IsPointCount (points n : ℕ) : Type 0 where
 -- there is a grid of so many points
 abbrev pub HasGrid : ℕ → Type 0
 HasGrid points = (n : ℕ) × IsPointCount points n
+
+-- of heights: whether they are refused, and whether the rest is up to memory
+pub record IsGridAnswer (heights : List ℕ) (answer : Answer) : Type 0 where
+  pub bad_grid : (answer ≡ BadGrid) ↔ (HasGrid (length heights) → ⊥)
+  pub others : ((answer ≡ Done) ⊎ (answer ≡ NoMemory)) ↔ HasGrid (length heights)
+
+-- the grid of these heights
+pub record IsGridOf (heights : List ℕ) (grid : HeightField) : Type 0 where
+  pub level : IsPointCount (length heights) grid.n
+  pub field : grid ≡ record { n = grid.n; maxval = 65535; heights = heights }
 
 -- the point (x, y) is one of the grid of level n
 pub record IsPointOf (n x y : ℕ) : Type 0 where

@@ -16,3 +16,4 @@ pub mod Listed
 pub mod Fitter
 pub mod FitWith
 pub mod Mosaics
+pub mod Worlds

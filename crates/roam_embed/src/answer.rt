@@ -38,6 +38,10 @@ pub enum Answer {
     BadMesh,
     /// The tile had a border point that is not among these.
     Shrunk,
+    /// The page has no place in the world, or one that is to go is the coarsest, or a finer one needs it.
+    BadPage,
+    /// No page of this resolution is loaded there.
+    NotThere,
 }
 
 impl Answer {
@@ -62,6 +66,8 @@ impl Answer {
             Answer::BadTolerance => 13,
             Answer::BadMesh => 14,
             Answer::Shrunk => 15,
+            Answer::BadPage => 16,
+            Answer::NotThere => 17,
         }
     }
 }

@@ -1,7 +1,8 @@
 //! A fitter: the heights of a grid, and a mesh of them that goes on.
 
 ghost use Rattle.std.specs.Prelude.{◌≡◌, ◌≢◌, ℕ, ◌∷◌, [], IfOk, IfErr};
-ghost use Rattle.roam_embed.specs.Fitter.{IsFitterOpenAnswer, IsFitterOpened, IsMeshFitted, IsMeshRefined};
+ghost use Rattle.roam_embed.specs.Grid.{IsGridAnswer};
+ghost use Rattle.roam_embed.specs.Fitter.{IsFitterOpened, IsMeshFitted, IsMeshRefined};
 ghost use Rattle.roam_embed.specs.Fitter.{IsMeshRestored, IsFitterDeviationTold};
 ghost use Rattle.roam_embed.specs.Listed.{AreIndicesOf, AreNumbersTold};
 ghost use Rattle.roam_embed.specs.Border.{border_of};
@@ -43,8 +44,8 @@ impl Model for Fitter {
 /// The mesh is the two halves of the square. All memory is taken here: no other call takes any.
 pub fn open_fitter(alloc: Global, heights: &[u16]) -> Result<Fitter, Answer>
     ensures opened { IfOk result (λ f. IsFitterOpened heights.now f) }
-    ensures fits { IfOk result (λ f. IsFitterOpenAnswer heights.now Answer.Done) }
-    ensures refused { IfErr result (λ answer. IsFitterOpenAnswer heights.now answer) }
+    ensures fits { IfOk result (λ f. IsGridAnswer heights.now Answer.Done) }
+    ensures refused { IfErr result (λ answer. IsGridAnswer heights.now answer) }
     ensures cause { IfErr result (λ answer. answer ≢ Answer.Done) }
 {
     let n = match level_of_count(heights.len()) {

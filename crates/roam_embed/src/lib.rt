@@ -23,9 +23,11 @@ mod make;
 mod mesh;
 mod mosaic;
 mod notes;
+mod page;
 mod renewal;
 mod shapes;
 mod view;
+mod world;
 
 pub use answer::Answer;
 pub use certificate::tell_certificate;
@@ -44,9 +46,15 @@ pub use looking::put_planes;
 pub use make::open_engine;
 pub use mesh::{tell_indices, tell_leaves};
 pub use mosaic::{Mosaic, next_tile, open_mosaic, put_tile, tell_required};
-pub use notes::{Deviation, Fitted, Frame, PlaneNumbers, Required, Standing, Tile};
+pub use notes::{Deviation, Fitted, Frame, PlaneNumbers, Required, Standing, Tile, WorldFrame};
+pub use page::{Page, make_page};
 pub use renewal::renew_engine;
 pub use shapes::{tell_compact, tell_deviation, tell_positions, tell_strip};
 pub use view::{
     LONGEST_WAY, MOST_PLANES, add_plane, clear_planes, move_camera, put_budget, put_threshold,
 };
+pub use world::{
+    load_page, make_world_frame, move_world_camera, open_world, put_world_budget, put_world_planes,
+    put_world_threshold, tell_world_leaves, unload_page,
+};
+pub use world_loop::World;
