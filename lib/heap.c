@@ -1,5 +1,6 @@
-/* The heap of libroam: all memory that it asks for, it asks of these three functions, and only in roam_open and
- * roam_fitter_open, and in roam_strip, roam_fit, roam_fit_with and roam_certificate, which give it back.
+/* The heap of libroam: all memory that it asks for, it asks of these three functions, and only in roam_open, roam_fitter_open,
+ * roam_mosaic_open, roam_page_make, roam_world_open and roam_world_unload, and in roam_strip, roam_fit, roam_fit_with and
+ * roam_certificate, which give it back.
  * A program that defines all three itself brings its own allocator, and this file is then not linked out of libroam.a.
  * Blocks come from one allocator, aligned to each power of two up to 16 that divides their size, and may be given back on
  * another thread. */

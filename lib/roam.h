@@ -19,12 +19,13 @@
 extern "C" {
 #endif
 
-/* What calls answer. Where two causes hold it is ROAM_IS_EMPTY, else the lesser number, and ROAM_NO_MEMORY last. A call that
- * answers anything but ROAM_OK has changed nothing and written nothing. */
+/* What calls answer. Where two causes hold it is ROAM_IS_EMPTY, else the lesser number, and ROAM_NO_MEMORY last, but in
+ * roam_world_unload, where that comes before the others. A call that answers anything but ROAM_OK has changed nothing and
+ * written nothing, but that roam_world_open loses its page where memory runs out. */
 enum roam_answer {
     ROAM_OK = 0,
     ROAM_NO_MEMORY = 1,       /* out of memory */
-    ROAM_BAD_GRID = 2,        /* the count of heights is not (2^n + 1)^2 with n from 1 to 14 */
+    ROAM_BAD_GRID = 2,        /* the count of heights is not (2^n + 1)^2 with n from 1 to 14; a terrain is less than its page, or above 2^14 */
     ROAM_BAD_BUDGET = 3,      /* below 2, above 1048576, or above the budget that the engine was opened with */
     ROAM_BAD_SPACING = 4,     /* 0, or above 1024 */
     ROAM_BAD_CAMERA = 5,      /* a coordinate beyond -2^30 .. 2^30 */
@@ -37,7 +38,9 @@ enum roam_answer {
     ROAM_IS_EMPTY = 12,       /* the handle is empty */
     ROAM_BAD_TOLERANCE = 13,  /* a tolerance above 65535999 thousandths, or not one for each height */
     ROAM_BAD_MESH = 14,       /* the addresses are not those of a conforming mesh of the grid, depth first */
-    ROAM_SHRUNK = 15          /* the tile had a border point that is not among these */
+    ROAM_SHRUNK = 15,         /* the tile had a border point that is not among these */
+    ROAM_BAD_PAGE = 16,       /* the page has no place there, or may not go: see roam_world_load and roam_world_unload */
+    ROAM_NOT_THERE = 17       /* no such page is loaded */
 };
 
 /* Owns an engine, or is empty. The fields are the library's. A handle that nobody has written is nearly always taken as an empty
@@ -285,6 +288,75 @@ int32_t roam_mosaic_required(roam_mosaic *m, uint32_t column, uint32_t row, uint
  * ROAM_OUTSIDE_GRID: there is no such tile, or a place is not that of a point on the border, or is that of a corner. ROAM_SHRUNK: the
  * mesh that was put before had a border point that is not among these. */
 int32_t roam_mosaic_put(roam_mosaic *m, uint32_t column, uint32_t row, const uint32_t *border, size_t count);
+
+/* Worlds: one mesh over a terrain of pages. The terrain is a square of 2^large grid steps a side. A page is a grid of heights, 2^n + 1 a
+ * side, one n for all; one of resolution q has heights 2^q grid steps apart and covers a square of side 2^(n + q). The coarsest page, of
+ * resolution large - n, covers the whole terrain: a world opens with it and keeps it. Finer pages come and go. The rules for handles
+ * are those of roam_handle.
+ *
+ * A page is made of heights on any thread, ahead of its use, since that is what costs time; in a world it is only put to its place. */
+typedef struct roam_page {
+    uint64_t mark;
+    void *at;
+} roam_page;
+
+typedef struct roam_world {
+    uint64_t mark;
+    void *at;
+} roam_world;
+
+/* What a frame did, and what its mesh is. */
+typedef struct roam_world_note {
+    uint64_t worst;                /* the greatest priority of a triangle of the mesh */
+    uint64_t evaluations;          /* how often a priority was evaluated in this frame */
+    uint32_t triangles;
+    uint32_t splits, merges;       /* triangles split and merged in this frame */
+    uint32_t blocking;             /* the triangle of priority `worst` whose split does not fit the budget, or 0: all priorities are 0 */
+    uint32_t need;                 /* how many triangles the mesh would have with it split, or 0 */
+    uint32_t spare;                /* 0 */
+} roam_world_note;
+
+/* Makes a page of `count` heights, rows from the far side as roam_open takes them. They are copied; all memory of a page is taken
+ * here, about 7 bytes a height. ROAM_BAD_GRID, ROAM_NO_MEMORY. A full handle lets go of what it had, unless the call fails. */
+int32_t roam_page_make(roam_page *p, const uint16_t *heights, size_t count);
+int32_t roam_page_drop(roam_page *p);
+
+/* Opens a world of a terrain of 2^large grid steps a side, of which the page covers the whole; the page goes out of its handle.
+ * `budget` is the most triangles that a mesh may have, `spacing` the length of a grid step in units of height. ROAM_IS_EMPTY: the
+ * handle has no page. ROAM_BAD_GRID: large is above 14, or the page has more grid steps than that. ROAM_BAD_BUDGET, ROAM_BAD_SPACING as
+ * roam_open. All memory but that of pages is taken here. Where it runs out the page is lost, and its handle empty; after each other
+ * refusal it is still there. A full handle lets go of its world, unless the call fails. */
+int32_t roam_world_open(roam_world *w, roam_page *coarsest, uint32_t large, uint32_t budget, uint32_t spacing);
+
+/* Lets go of the world and of its pages; the handle is empty then. */
+int32_t roam_world_close(roam_world *w);
+
+/* Puts a page into the square in this column and row of the resolution q, from 0 on, the first row on the near side; the page goes out of
+ * its handle. ROAM_IS_EMPTY: the world's handle has no world, or the page's no page. ROAM_BAD_PAGE: the coarsest resolution is no finer
+ * than q, or has no such square of it; a page is loaded there; the page has another side than the others; that of the next coarser
+ * resolution which has this square is not loaded, or one that has a side in common with that; or the page has another height than
+ * the pages that are loaded, at a point that is theirs too. Then it is still in its handle. Takes no memory. */
+int32_t roam_world_load(roam_world *w, uint32_t q, uint32_t column, uint32_t row, roam_page *p);
+
+/* Puts the page of a square into a handle, which lets go of what it had. ROAM_NOT_THERE: no page is loaded there. ROAM_BAD_PAGE: it is the
+ * coarsest, or one of the next finer resolution is loaded in its square or in one that has a side in common with it. ROAM_NO_MEMORY, before
+ * these two: there is none for what a full handle has, a block of fixed size. */
+int32_t roam_world_unload(roam_world *w, uint32_t q, uint32_t column, uint32_t row, roam_page *p);
+
+/* As roam_camera, roam_look, roam_threshold and roam_budget; (0, 0) is the near left point of the terrain. A way has no end here, and
+ * each change of planes or threshold asks anew for every triangle. */
+int32_t roam_world_camera(roam_world *w, int64_t x, int64_t y, int64_t z);
+int32_t roam_world_look(roam_world *w, const roam_plane *planes, size_t count);
+int32_t roam_world_threshold(roam_world *w, uint64_t ratio);
+int32_t roam_world_budget(roam_world *w, uint32_t triangles);
+
+/* Makes the mesh of what is loaded and seen: it has no cracks, is within the budget in force, and no other such mesh has a lower
+ * `worst`, where a triangle whose parts would have a height that is not loaded has priority 0. Each of its vertices is a point of a
+ * loaded page. ROAM_WORN: the world has split or merged 2^61 triangles. Takes no memory. */
+int32_t roam_world_frame(roam_world *w, roam_world_note *out);
+
+/* As roam_leaves: the addresses are those of a grid of 2^large grid steps a side. */
+int32_t roam_world_leaves(roam_world *w, uint32_t *out, size_t places, size_t *triangles);
 
 #ifdef __cplusplus
 }

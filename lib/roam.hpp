@@ -1,4 +1,4 @@
-// roam.hpp: the calls of roam.h for C++17: an engine, a fitter and a mosaic, as classes that own one and move.
+// roam.hpp: the calls of roam.h for C++17: an engine, a fitter, a mosaic, a page and a world, as classes that own one and move.
 //
 // A call that is refused throws roam::error, which says the call and the answer. With ROAM_ANSWERS defined nothing is
 // thrown: each call gives its roam_answer, and what it finds goes out through its last parameter.
@@ -27,8 +27,9 @@ inline const char *text_of(int32_t answer) noexcept {
         "the change is beyond 65535", "the engine has made 1000000 frames: renew it; or its camera has gone 2^61 units",
         "the array has too few places", "the handle is empty",
         "a tolerance is above 65535999 thousandths, or there is not one for each point",
-        "the addresses are no mesh of this grid, depth first", "the tile had a border point that is not among these"};
-    return answer >= 0 && answer <= ROAM_SHRUNK ? texts[answer] : "an unknown answer";
+        "the addresses are no mesh of this grid, depth first", "the tile had a border point that is not among these",
+        "the page has no place there, or may not go", "no such page is loaded"};
+    return answer >= 0 && answer <= ROAM_NOT_THERE ? texts[answer] : "an unknown answer";
 }
 
 #ifdef ROAM_ANSWERS
@@ -336,6 +337,66 @@ public:
     }
     void put(uint32_t column, uint32_t row, const std::vector<uint32_t> &border) {
         put(column, row, border.data(), border.size());
+    }
+#endif
+};
+
+/// The heights of a page of a terrain, or nothing: made on any thread, and put into a world.
+class page : public owner<roam_page, roam_page_drop> {
+    friend class world;
+
+public:
+    page() noexcept = default;
+
+    /// Copies the heights; all memory is taken here. What was there goes, unless this is refused.
+    result make(const uint16_t *heights, size_t count) {
+        return told(roam_page_make(&h, some(heights), size(heights, count)), "make");
+    }
+    template <class Heights> result make(const Heights &heights) { return make(std::data(heights), std::size(heights)); }
+
+#ifndef ROAM_ANSWERS
+    template <class Heights> explicit page(const Heights &heights) { make(heights); }
+#endif
+};
+
+/// One mesh over a terrain of pages that come and go, or nothing. Coordinates and units are those of roam.h.
+class world : public owner<roam_world, roam_world_close> {
+public:
+    world() noexcept = default;
+
+    /// Opens it over a terrain of 2^large grid steps a side, which the page covers; the page is empty then. All memory but that of
+    /// pages is taken here; where it runs out the page is lost. What was open is closed, unless this is refused.
+    result open(page &coarsest, uint32_t large, uint32_t budget, uint32_t spacing) {
+        return told(roam_world_open(&h, &coarsest.h, large, budget, spacing), "open");
+    }
+
+    /// Puts a page to its place, and it is empty then; or it is refused, and is still there.
+    result load(page &p, uint32_t q, uint32_t column, uint32_t row) {
+        return told(roam_world_load(&h, q, column, row, &p.h), "load");
+    }
+    /// Takes a page out; what was there goes, unless this is refused.
+    result unload(page &p, uint32_t q, uint32_t column, uint32_t row) {
+        return told(roam_world_unload(&h, q, column, row, &p.h), "unload");
+    }
+    result camera(int64_t x, int64_t y, int64_t z) { return told(roam_world_camera(&h, x, y, z), "camera"); }
+    result look(const roam_plane *planes, size_t count) { // in the place of those before
+        return told(roam_world_look(&h, some(planes), size(planes, count)), "look");
+    }
+    template <class Planes> result look(const Planes &planes) { return look(std::data(planes), std::size(planes)); }
+    result threshold(uint64_t ratio) { return told(roam_world_threshold(&h, ratio), "threshold"); } // pixel_threshold gives one
+    result budget(uint32_t triangles) { return told(roam_world_budget(&h, triangles), "budget"); }
+    result frame(roam_world_note &out) { return told(roam_world_frame(&h, &out), "frame"); }
+    result leaves(uint32_t *out, size_t places, size_t &n) { return listed(roam_world_leaves, out, places, n, "leaves"); }
+
+#ifndef ROAM_ANSWERS
+    world(page &coarsest, uint32_t large, uint32_t budget, uint32_t spacing) { open(coarsest, large, budget, spacing); }
+    roam_world_note frame() { return noted(roam_world_frame, "frame"); }
+    /// The same as a vector, made as long as is needed.
+    void leaves(std::vector<uint32_t> &out) {
+        size_t count = 0;
+        const auto write = [&] { return roam_world_leaves(&h, out.data(), out.size(), &count); };
+        told(with_room(out, write), "leaves");
+        out.resize(count);
     }
 #endif
 };

@@ -8,7 +8,7 @@ using System.Runtime.InteropServices;
 namespace Roam {
     public enum Answer {
         Ok, NoMemory, BadGrid, BadBudget, BadSpacing, BadCamera, BadPlane, TooManyPlanes, OutsideGrid, BadChange, Worn, NoRoom, IsEmpty,
-        BadTolerance, BadMesh, Shrunk
+        BadTolerance, BadMesh, Shrunk, BadPage, NotThere
     }
 
     public sealed class RoamException : Exception {

@@ -2,7 +2,8 @@
 
 ghost use Rattle.std.specs.Prelude.{◌≡◌, ⊤, None, Some, pos};
 ghost use Rattle.roam_embed.specs.FitterState.{FitterState};
-ghost use Rattle.roam_embed.specs.Fitter.{IsFitterOpenAnswer, IsFitterOpened, IsMeshFitted, IsMeshRefined};
+ghost use Rattle.roam_embed.specs.Grid.{IsGridAnswer};
+ghost use Rattle.roam_embed.specs.Fitter.{IsFitterOpened, IsMeshFitted, IsMeshRefined};
 ghost use Rattle.roam_embed.specs.Fitter.{IsMeshRestored, IsFitterDeviationTold};
 ghost use Rattle.roam_embed.specs.Listed.{AreIndicesOf, AreNumbersTold};
 ghost use Rattle.roam_embed.specs.Border.{border_of};
@@ -10,10 +11,10 @@ ghost use Rattle.roam_embed.specs.FitWith.{IsFitWithTold};
 ghost use Rattle.roam_c.specs.declared.kept.Kept.{Kept};
 ghost use Rattle.roam_c.specs.Handle.{IsNumberOfSome, OnKept, OnOther};
 
-use crate::handle::{Handle, hold, on, put, take};
+use crate::handle::{Handle, close, hold, on};
 use crate::kept::Kept;
 use roam_embed::{
-    Answer, Deviation, Fitted, fit_points, open_fitter, refine_points, restore_mesh, tell_border,
+    Deviation, Fitted, fit_points, open_fitter, refine_points, restore_mesh, tell_border,
     tell_fit_with, tell_fitter_deviation, tell_fitter_indices, tell_fitter_leaves,
 };
 use std::alloc::Global;
@@ -21,7 +22,7 @@ use std::alloc::Global;
 /// Makes a fitter of these heights, and lets go of what the handle had. After a refusal the handle is as before.
 #[unsafe(no_mangle)]
 pub extern "C" fn roam_fitter_open(alloc: Global, f: &mut Handle, heights: &[u16]) -> i32
-    ensures cause { IsNumberOfSome result (IsFitterOpenAnswer heights.now) }
+    ensures cause { IsNumberOfSome result (IsGridAnswer heights.now) }
     ensures opened { result ≡ pos 0 → (now : FitterState) × (f.new.value ≡ Some (Kept.Fitter now))
         × IsFitterOpened heights.now now }
     ensures kept { (result ≡ pos 0 → ⊥) → f.new.value ≡ f.old.value }
@@ -39,16 +40,7 @@ pub extern "C" fn roam_fitter_close(alloc: Global, f: &mut Handle) -> i32
         (f.new.value ≡ None) × (result ≡ pos 0) }
     ensures empty { OnOther Kept.Fitter f.old.value f.new.value result ⊤ }
 {
-    match take(f, alloc) {
-        Some(kept) => match kept.as_ref() {
-            Kept::Fitter(_) => Answer::Done.number(),
-            _ => {
-                put(f, kept, alloc);
-                Answer::IsEmpty.number()
-            }
-        },
-        None => Answer::IsEmpty.number(),
-    }
+    close!(Fitter, f, alloc)
 }
 
 /// The mesh of the fewest triangles within the tolerance in which each required grid point is a vertex becomes the mesh,

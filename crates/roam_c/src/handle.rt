@@ -120,6 +120,25 @@ macro_rules! on {
 
 pub(crate) use on;
 
+/// The number of what a call answers that lets go of a value of this kind, and leaves its handle empty. A handle that is
+/// empty, or has a value of another kind, is as before.
+macro_rules! close {
+    ($kind:ident, $handle:ident, $alloc:ident) => {
+        match $crate::handle::take($handle, $alloc) {
+            Some(closed) => match closed.as_ref() {
+                $crate::kept::Kept::$kind(_) => roam_embed::Answer::Done.number(),
+                _ => {
+                    $crate::handle::put($handle, closed, $alloc);
+                    roam_embed::Answer::IsEmpty.number()
+                }
+            },
+            None => roam_embed::Answer::IsEmpty.number(),
+        }
+    };
+}
+
+pub(crate) use close;
+
 /// The handle, which any thread may be given.
 ///
 /// Nothing calls it: it is the place at which the proof that a handle is `Send` is asked for.

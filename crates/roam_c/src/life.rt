@@ -6,9 +6,9 @@ ghost use Rattle.roam_embed.specs.Calls.{IsOpenAnswer, IsOpened};
 ghost use Rattle.roam_c.specs.declared.kept.Kept.{Kept};
 ghost use Rattle.roam_c.specs.Handle.{IsNumberOfSome, OnEmpty};
 
-use crate::handle::{Handle, hold, put, take};
+use crate::handle::{Handle, close, hold};
 use crate::kept::Kept;
-use roam_embed::{Answer, open_engine};
+use roam_embed::open_engine;
 use std::alloc::Global;
 
 /// Makes an engine over these heights, and lets go of what the handle had. After a refusal the handle is as before.
@@ -38,14 +38,5 @@ pub extern "C" fn roam_close(alloc: Global, h: &mut Handle) -> i32
         (h.new.value ≡ None) × (result ≡ pos 0) }
     ensures empty { OnEmpty h.old.value h.new.value result ⊤ }
 {
-    match take(h, alloc) {
-        Some(kept) => match kept.as_ref() {
-            Kept::Engine(_) => Answer::Done.number(),
-            _ => {
-                put(h, kept, alloc);
-                Answer::IsEmpty.number()
-            }
-        },
-        None => Answer::IsEmpty.number(),
-    }
+    close!(Engine, h, alloc)
 }

@@ -6,9 +6,9 @@ ghost use Rattle.roam_embed.specs.Mosaics.{IsMosaicAnswer, IsMosaicOpened, IsNex
 ghost use Rattle.roam_c.specs.declared.kept.Kept.{Kept};
 ghost use Rattle.roam_c.specs.Handle.{IsNumberOfSome, OnKept, OnOther};
 
-use crate::handle::{Handle, hold, on, put, take};
+use crate::handle::{Handle, close, hold, on};
 use crate::kept::Kept;
-use roam_embed::{Answer, Required, Tile, next_tile, open_mosaic, put_tile, tell_required};
+use roam_embed::{Required, Tile, next_tile, open_mosaic, put_tile, tell_required};
 use std::alloc::Global;
 
 /// Makes a mosaic of so many columns and rows of tiles of so many points a side, and lets go of what the handle had.
@@ -39,16 +39,7 @@ pub extern "C" fn roam_mosaic_close(alloc: Global, h: &mut Handle) -> i32
         (h.new.value ≡ None) × (result ≡ pos 0) }
     ensures empty { OnOther Kept.Mosaic h.old.value h.new.value result ⊤ }
 {
-    match take(h, alloc) {
-        Some(kept) => match kept.as_ref() {
-            Kept::Mosaic(_) => Answer::Done.number(),
-            _ => {
-                put(h, kept, alloc);
-                Answer::IsEmpty.number()
-            }
-        },
-        None => Answer::IsEmpty.number(),
-    }
+    close!(Mosaic, h, alloc)
 }
 
 /// Tells the next tile that has to be fitted.

@@ -101,6 +101,8 @@ pub enum Error {
     BadTolerance,
     BadMesh,
     Shrunk,
+    BadPage,
+    NotThere,
 }
 
 impl fmt::Display for Error {
@@ -120,6 +122,8 @@ impl fmt::Display for Error {
             Error::BadTolerance => "a tolerance is above 65535999 thousandths, or there is not one for each point",
             Error::BadMesh => "the addresses are no mesh of this grid, depth first",
             Error::Shrunk => "the tile had a border point that is not among these",
+            Error::BadPage => "the page has no place there, or may not go",
+            Error::NotThere => "no such page is loaded",
         })
     }
 }
@@ -142,6 +146,8 @@ fn told(answer: i32) -> Result<(), Error> {
         13 => Error::BadTolerance,
         14 => Error::BadMesh,
         15 => Error::Shrunk,
+        16 => Error::BadPage,
+        17 => Error::NotThere,
         _ => unreachable!("libroam answers {answer}"),
     })
 }

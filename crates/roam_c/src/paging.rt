@@ -1,0 +1,134 @@
+//! Pages of a world, which come and go.
+
+ghost use Rattle.std.specs.Prelude.{◌≡◌, ◌≢◌, Some};
+ghost use Rattle.mesh_defs.specs.HeightField.{HeightField};
+ghost use Rattle.roam_c.specs.declared.kept.Kept.{Kept};
+ghost use Rattle.roam_c.specs.Handle.{OnKept, OnOther};
+ghost use Rattle.roam_c.specs.Worlds.{IsKeptLoaded, IsPagePut, IsPageHanded};
+
+use crate::handle::{Handle, on, put, take};
+use crate::kept::Kept;
+use roam_embed::{Answer, World, load_page, unload_page};
+use std::alloc::Global;
+use std::mem::replace;
+
+/// Puts the page of a handle into the square in this column and row of its resolution. The handle is empty then; after a
+/// refusal all is as before.
+#[unsafe(no_mangle)]
+pub extern "C" fn roam_world_load(
+    alloc: Global,
+    w: &mut Handle,
+    q: u32,
+    column: u32,
+    row: u32,
+    p: &mut Handle,
+) -> i32
+    ensures full { (page : HeightField) → p.old.value ≡ Some (Kept.Page page) →
+        OnKept Kept.World w.old.value w.new.value result (λ was now answer.
+        IsPagePut was now q (record { x = column; y = row }) page p.new.value answer) }
+    ensures no_page { OnOther Kept.Page p.old.value p.new.value result (w.new.value ≡ w.old.value) }
+    ensures empty { OnOther Kept.World w.old.value w.new.value result (p.new.value ≡ p.old.value) }
+{
+    on!(
+        World,
+        w,
+        alloc,
+        |world| load_held(alloc, world, q, column, row, p)
+    )
+}
+
+/// The same, into a world.
+fn load_held(
+    alloc: Global,
+    world: &mut World,
+    q: u32,
+    column: u32,
+    row: u32,
+    p: &mut Handle,
+) -> Answer
+    ensures full { (page : HeightField) → p.old.value ≡ Some (Kept.Page page) →
+        IsPagePut world.old world.new q (record { x = column; y = row }) page p.new.value result }
+    ensures other { ((page : HeightField) → p.old.value ≢ Some (Kept.Page page)) →
+        (world.new ≡ world.old) × (p.new.value ≡ p.old.value) × (result ≡ Answer.IsEmpty) }
+{
+    match take(p, alloc) {
+        Some(mut kept) => match load_kept(world, q, column, row, kept.as_mut()) {
+            Answer::Done => Answer::Done,
+            answer => {
+                put(p, kept, alloc);
+                answer
+            }
+        },
+        None => Answer::IsEmpty,
+    }
+}
+
+/// The same of a page that is kept.
+fn load_kept(world: &mut World, q: u32, column: u32, row: u32, kept: &mut Kept) -> Answer
+    ensures page { (page : HeightField) → kept.old ≡ Kept.Page page →
+        IsKeptLoaded world.old world.new q (record { x = column; y = row }) page kept.new result }
+    ensures other { ((page : HeightField) → kept.old ≢ Kept.Page page) →
+        (world.new ≡ world.old) × (kept.new ≡ kept.old) × (result ≡ Answer.IsEmpty) }
+{
+    match replace(kept, Kept::Nothing) {
+        Kept::Page(page) => match load_page(world, q, column, row, page) {
+            Ok(()) => Answer::Done,
+            Err((answer, page)) => {
+                *kept = Kept::Page(page);
+                answer
+            }
+        },
+        other => {
+            *kept = other;
+            Answer::IsEmpty
+        }
+    }
+}
+
+/// Takes the page out of the square in this column and row of its resolution, puts it into the handle, and lets go of what
+/// was there. After a refusal all is as before. Where there is no memory for what the handle has, that is the answer,
+/// whatever else is wrong.
+#[unsafe(no_mangle)]
+pub extern "C" fn roam_world_unload(
+    alloc: Global,
+    w: &mut Handle,
+    q: u32,
+    column: u32,
+    row: u32,
+    p: &mut Handle,
+) -> i32
+    ensures full { OnKept Kept.World w.old.value w.new.value result (λ was now answer.
+        IsPageHanded was now q (record { x = column; y = row }) p.old.value p.new.value answer) }
+    ensures empty { OnOther Kept.World w.old.value w.new.value result (p.new.value ≡ p.old.value) }
+{
+    on!(
+        World,
+        w,
+        alloc,
+        |world| unload_held(alloc, world, q, column, row, p)
+    )
+}
+
+/// The same, out of a world.
+fn unload_held(
+    alloc: Global,
+    world: &mut World,
+    q: u32,
+    column: u32,
+    row: u32,
+    p: &mut Handle,
+) -> Answer
+    ensures { IsPageHanded world.old world.new q (record { x = column; y = row }) p.old.value p.new.value result }
+{
+    match Box::new(alloc, Kept::Nothing) {
+        Ok(mut kept) => match unload_page(world, q, column, row) {
+            Ok(page) => {
+                *kept.as_mut() = Kept::Page(page);
+                put(p, kept, alloc);
+                Answer::Done
+            }
+            Err(answer) => answer,
+        },
+        Err(_) => Answer::NoMemory,
+    }
+}
