@@ -2,6 +2,9 @@
 # The engine as a library: what C, C++, Python and C# get of it, each compiler and tool where it is there. The library is
 # crates/roam_c/out/libroam_c.a, which `rt ci` and lib/build leave; ROAM_ARCHIVE names another one. Sourced by checks/run.
 
+# calls_of NAME COUNT: how many random calls; a tenth of worlds, each of which may load a terrain.
+calls_of() { if [ "$1" = worlds ]; then echo $(($2 / 10)); else echo "$2"; fi; }
+
 mkdir -- "$room/library" && cd -- "$room/library" || exit 1
 
 # lib/build over a small repository with a toolchain of a few lines: what it builds and when, as test_launcher.py has it of the program.
@@ -92,9 +95,9 @@ for cc in gcc clang; do
       builds "library_flight_$cc" "${c[@]}" -o "flight_$cc" "$uses/flight.c" "${static[@]}"; then
       runs "library_flight_$cc" '40 frames' "./flight_$cc" "$jacksboro" 2000 90 40
     fi
-    for name in calls tiles; do
+    for name in calls tiles worlds; do
       if builds "library_${name}_$cc" "${c[@]}" -o "${name}_$cc" "$tests/$name.c" "${static[@]}"; then
-        runs "library_${name}_$cc" 'roam.h says' "./${name}_$cc" 1 "$([ "$cc" = gcc ] && echo 200000 || echo 20000)"
+        runs "library_${name}_$cc" 'roam.h says' "./${name}_$cc" 1 "$(calls_of "$name" "$([ "$cc" = gcc ] && echo 200000 || echo 20000)")"
         runs "library_ends_of_${name}_$cc" 'each refused in turn' "./${name}_$cc" ends
       fi
     done
@@ -193,9 +196,9 @@ if [ -n "$sanitizer" ]; then
   if builds library_threads_sanitized "${cpp[@]}" -std=c++17 -pthread -o threads_sanitized "$uses/threads.cpp" "${static[@]}"; then
     runs library_threads_sanitized 'one after the other' ./threads_sanitized
   fi
-  for name in calls tiles; do
+  for name in calls tiles worlds; do
     if builds "library_${name}_sanitized" "${c[@]}" -std=c99 -o "${name}_sanitized" "$tests/$name.c" "${static[@]}"; then
-      runs "library_${name}_sanitized" 'roam.h says' "./${name}_sanitized" 2 200000
+      runs "library_${name}_sanitized" 'roam.h says' "./${name}_sanitized" 2 "$(calls_of "$name" 200000)"
       runs "library_ends_of_${name}_sanitized" 'each refused in turn' "./${name}_sanitized" ends
     fi
   done
@@ -218,9 +221,10 @@ fi
 
 if has library_fuzzed clang; then
   fuzzer=(clang -g -O1 -std=c99 -DFUZZER '-fsanitize=fuzzer,address,undefined' -fno-sanitize-recover=all)
-  for name in calls tiles; do
+  for name in calls tiles worlds; do
     if "${fuzzer[@]}" -o "${name}_fuzzed" "$tests/$name.c" "${static[@]}" >said 2>&1; then
-      runs "library_${name}_fuzzed" 'Done 20000 runs' "./${name}_fuzzed" -seed=1 -runs=20000 -max_len=4096 -len_control=0
+      count=$(calls_of "$name" 20000)
+      runs "library_${name}_fuzzed" "Done $count runs" "./${name}_fuzzed" -seed=1 "-runs=$count" -max_len=4096 -len_control=0
     else
       skip "library_${name}_fuzzed" 'clang has no libFuzzer'
     fi
@@ -229,9 +233,9 @@ fi
 
 if has library_in_valgrind valgrind cc; then
   watched=(valgrind -q --error-exitcode=9 --leak-check=full --show-leak-kinds=all --errors-for-leak-kinds=all)
-  for name in calls tiles; do
+  for name in calls tiles worlds; do
     if builds "library_${name}_in_valgrind" cc -std=c99 -g -O1 -o "${name}_watched" "$tests/$name.c" "${static[@]}"; then
-      runs "library_${name}_in_valgrind" 'roam.h says' "${watched[@]}" "./${name}_watched" 3 2000
+      runs "library_${name}_in_valgrind" 'roam.h says' "${watched[@]}" "./${name}_watched" 3 "$(calls_of "$name" 2000)"
     fi
   done
   if builds library_flight_in_valgrind cc -std=c99 -g -O1 -o flight_watched "$uses/flight.c" "${static[@]}"; then

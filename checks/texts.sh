@@ -81,7 +81,7 @@ for module in crates/run_laws/specs/*.antt; do
   module=$(basename "$module" .antt)
   case $module in ReportText | CertFile | PointFile | FitCertFile | Turns) ;; *) runs=$runs,run_laws.specs.$module ;; esac
 done
-engine=frame_loop,mesh_arrays,roam_mesh,deferred_loop,mesh_laws,view_priority,triangle_pool,bintree_addr
+engine=frame_loop,view_mesh,mesh_arrays,roam_mesh,deferred_loop,mesh_laws,view_priority,triangle_pool,bintree_addr
 page=run_laws.specs.Statement,run_laws.specs.Moment
 short() {
   local said

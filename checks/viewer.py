@@ -198,7 +198,7 @@ def listens(process):
     return found
 
 
-GOOD = [2000, 8000, 8000, 1500, 0, 100_000, 0, -300_000_000]
+GOOD = [2000, 0, 8000, 8000, 1500, 0, 100_000, 0, -300_000_000]
 
 
 def check_server(server):
@@ -227,8 +227,9 @@ def check_server(server):
     far, good = 1 << 31, tuple(GOOD)
     wrong = {
         "a budget of 1": ("/frame", (1,) + good[1:], 400), "a budget above the opened one": ("/frame", (6001,) + good[1:], 400),
-        "a camera out of range": ("/frame", (2000, far, 0, 0), 400), "a steep plane": ("/frame", good[:4] + (far, 0, 0, 0), 400),
-        "seven planes": ("/frame", good[:4] + 7 * good[4:], 413), "no numbers": ("/frame", (), 400), "five numbers": ("/frame", good[:5], 400),
+        "a camera out of range": ("/frame", (2000, 0, far, 0, 0), 400), "a steep plane": ("/frame", good[:5] + (far, 0, 0, 0), 400),
+        "seven planes": ("/frame", good[:5] + 7 * good[5:], 413), "no numbers": ("/frame", (), 400), "six numbers": ("/frame", good[:6], 400),
+        "a threshold below 0": ("/frame", (2000, -1) + good[2:], 400),
         "garbage": ("/frame", b"\xff\x00garbage", 400), "garbage of whole numbers": ("/frame", bytes(range(200, 256)) + bytes(8), 400),
         "long garbage": ("/frame", bytes(100_000), 413), "a point out of the grid": ("/raise", (side, 0, 4, 10), 400),
         "a radius of 0": ("/raise", (5, 5, 0, 10), 400), "a great change": ("/raise", (5, 5, 4, 1 << 40), 400),
@@ -254,8 +255,8 @@ def check_server(server):
         thread.join()
     decide("viewer_ten_requests_at_once", why)
 
-    for raw in (b"", b"POST /frame HTTP/1.1\r\nHost: 127.0.0.1:%d\r\nContent-Length: 64\r\n\r\nhalf" % server.port,
-                b"POST /frame HTTP/1.1\r\nHost: 127.0.0.1:%d\r\nContent-Length: 64\r\n\r\n" % server.port + struct.pack("<8q", *GOOD),
+    for raw in (b"", b"POST /frame HTTP/1.1\r\nHost: 127.0.0.1:%d\r\nContent-Length: 72\r\n\r\nhalf" % server.port,
+                b"POST /frame HTTP/1.1\r\nHost: 127.0.0.1:%d\r\nContent-Length: 72\r\n\r\n" % server.port + struct.pack("<9q", *GOOD),
                 b"\x16\x03\x01 no HTTP\r\n\r\n", b"POST /frame HTTP/1.1\r\nContent-Length: -4\r\n\r\n", b"GET /" + b"a" * 70_000):
         with socket.create_connection(("127.0.0.1", server.port)) as link:
             link.setsockopt(socket.SOL_SOCKET, socket.SO_LINGER, struct.pack("ii", 1, 0))
@@ -299,7 +300,7 @@ def check_worn():
     from calfrewin.fly import Flight
     from calfrewin.mesh import array_of
     flight = Flight(array_of([[0, 0, 0], [0, 100, 0], [0, 0, 0]]), 8, 10)
-    asked, engine = [7, 10, 10, 150, 0, 0, 1, -5], flight.engine
+    asked, engine = [7, 0, 10, 10, 150, 0, 0, 1, -5], flight.engine
     flight.lift([1, 1, 1, 20])
     first, why = flight.frame(asked), []
     for _ in range(999_999):
@@ -420,7 +421,7 @@ def measure(server, frames):
                 more += [a, b, 0, -round(a * x + b * y)]
                 more += [a // 2, b // 2, 80_000, -round(a // 2 * x + b // 2 * y - 4e8)]
             began = time.perf_counter()
-            status, body = server.ask("/frame", [most, round(x), round(y), 2000, *(more if planes else [])], link)
+            status, body = server.ask("/frame", [most, 0, round(x), round(y), 2000, *(more if planes else [])], link)
             spent.append(1000 * (time.perf_counter() - began))
             engine.append(sum(struct.unpack("<2I", body[44:52])) / 1000)
             assert status == 200, body

@@ -8,6 +8,7 @@ enum { OPEN, CLOSE, CAMERA, ADD_PLANE, CLEAR_PLANES, BUDGET, SET, RAISE, FRAME, 
 static const char *const names[CALLS] = { "open", "close", "camera", "add_plane", "clear_planes", "budget", "set", "raise", "frame", "indices", "leaves", "changed", "changes", "state",
     "positions", "compact", "strip", "deviation", "fit", "certificate", "look", "renew", "threshold" };
 #include "random_calls.h"
+#include "addresses.h"
 
 enum { SIDE = 33, POINTS = SIDE * SIDE, MOST = 2 * (SIDE - 1) * (SIDE - 1), ENGINES = 3, ROOM = 3 * MOST + 8 };
 static uint16_t heights[POINTS];

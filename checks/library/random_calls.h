@@ -1,5 +1,5 @@
-/* What programs of random calls share: a heap that counts its blocks and fails, the numbers, what a call has to answer, and the
- * geometry of addresses. Who includes it has the enum of the calls, its last one CALLS, and their names. */
+/* What programs of random calls share: a heap that counts its blocks and fails, the numbers, and what a call has to answer. Who
+ * includes it has the enum of the calls, its last one CALLS, and their names. */
 #include "roam.h"
 #include <stdbool.h>
 #include <stdio.h>
@@ -53,7 +53,7 @@ static size_t below(size_t end) {
 
 /* --- What a call has to answer. --- */
 
-static unsigned long made[CALLS], refused[CALLS][16];
+static unsigned long made[CALLS], refused[CALLS][ROAM_NOT_THERE + 1];
 static int call; /* the one that is being made */
 
 static void must(bool holds, const char *what) {
@@ -63,7 +63,7 @@ static void must(bool holds, const char *what) {
 }
 static void answers(int32_t answer, int32_t wanted) {
     made[call]++;
-    if (answer >= 0 && answer <= ROAM_SHRUNK) refused[call][answer]++;
+    if (answer >= 0 && answer <= ROAM_NOT_THERE) refused[call][answer]++;
     if (answer == wanted) return;
     fprintf(stderr, "calls: roam_%s answers %d, not %d\n", names[call], (int)answer, (int)wanted);
     abort();
@@ -78,44 +78,10 @@ static bool is_filled(const void *at, size_t size) {
 /* Whether memory ran out during a call that takes some. */
 static int32_t or_no_memory(int32_t wanted) { left = -1; return wanted == ROAM_OK && has_failed ? ROAM_NO_MEMORY : wanted; }
 
-/* --- Grids and addresses. --- */
-
-/* The number of the grid's level, or 0. */
+/* The number of the level of a grid of so many heights, or 0. */
 static unsigned level_of(size_t count) {
     for (unsigned n = 1; n <= 14; n++) if (count == ((size_t)1 << n | 1) * ((size_t)1 << n | 1)) return n;
     return 0;
-}
-
-static unsigned level(uint32_t address) { unsigned it = 0; while (address >> it > 3) it++; return it; }
-
-/* The corners of an address as places in the heights, by the halves on the way to it. */
-static void corners(uint32_t address, size_t side, uint32_t place[3]) {
-    long m = (long)side - 1, at[3][2] = { { 0, 0 }, { m, 0 }, { 0, m } };
-    if (address >> level(address) == 3) at[0][0] = at[0][1] = m, at[1][0] = 0, at[1][1] = m, at[2][0] = m, at[2][1] = 0;
-    for (unsigned k = level(address); k-- > 0;) {
-        long middle[2] = { (at[1][0] + at[2][0]) / 2, (at[1][1] + at[2][1]) / 2 };
-        int kept = (address >> k & 1) == 0 ? 1 : 2; /* the end of the base that the half has */
-        if (kept == 1) memcpy(at[2], at[1], sizeof at[2]), memcpy(at[1], at[0], sizeof at[1]);
-        else memcpy(at[1], at[2], sizeof at[1]), memcpy(at[2], at[0], sizeof at[2]);
-        memcpy(at[0], middle, sizeof middle);
-    }
-    for (int c = 0; c < 3; c++) place[c] = (uint32_t)(((long)side - 1 - at[c][1]) * (long)side + at[c][0]);
-}
-
-/* Leaves in order cover the square once: each begins where the one before ends. */
-static void test_leaves(const uint32_t *leaf, uint32_t count, size_t side) {
-    uint32_t end = (uint32_t)2 << 22;
-    for (uint32_t k = 0; k < count; k++) {
-        must(leaf[k] >= 2 && leaf[k] < 4 * (uint32_t)((side - 1) * (side - 1)), "an address that the grid does not have");
-        must(leaf[k] << (22 - level(leaf[k])) == end, "the leaves do not lie one behind the other");
-        end += (uint32_t)1 << (22 - level(leaf[k]));
-    }
-    must(end == (uint32_t)4 << 22, "the leaves do not cover the square");
-}
-
-/* Twice the area of a triangle of points, counterclockwise. */
-static int64_t doubled(const int64_t p[2], const int64_t q[2], const int64_t r[2]) {
-    return (q[0] - p[0]) * (r[1] - p[1]) - (r[0] - p[0]) * (q[1] - p[1]);
 }
 
 /* --- Arguments at the ends of their ranges. --- */
@@ -139,7 +105,7 @@ static void make_each(unsigned long wanted) {
 static void tell_all(void) {
     for (int k = 0; k < CALLS; k++) {
         printf("%s %lu", names[k], made[k]);
-        for (int a = 1; a <= ROAM_SHRUNK; a++) if (refused[k][a] > 0) printf(" %d:%lu", a, refused[k][a]);
+        for (int a = 1; a <= ROAM_NOT_THERE; a++) if (refused[k][a] > 0) printf(" %d:%lu", a, refused[k][a]);
         printf("\n");
     }
     printf("each answer is the one that roam.h says\n");

@@ -12,6 +12,7 @@ static const char *const names[CALLS] = {
     "fitter_deviation", "fitter_restore", "fit_with", "mosaic_open", "mosaic_close", "mosaic_next", "mosaic_required", "mosaic_put"
 };
 #include "random_calls.h"
+#include "addresses.h"
 
 /* --- The plain program: grids up to side 17, and the triangles of each level by address. --- */
 
