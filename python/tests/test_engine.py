@@ -26,7 +26,8 @@ def test_structures_and_calls_are_those_of_the_header(tmp_path):
     pairs = {"roam_handle": _library.Handle, "roam_frame_note": _library.FrameNote, "roam_plane": _library.Plane,
              "roam_changes_note": _library.ChangesNote, "roam_deviation_note": _library.DeviationNote,
              "roam_fit_note": _library.FitNote, "roam_state_note": _library.StateNote, "roam_fitter": _library.Handle,
-             "roam_mosaic": _library.Handle, "roam_tile_note": _library.TileNote, "roam_required_note": _library.RequiredNote}
+             "roam_mosaic": _library.Handle, "roam_tile_note": _library.TileNote, "roam_required_note": _library.RequiredNote,
+             "roam_page": _library.Handle, "roam_world": _library.Handle, "roam_world_note": _library.WorldNote}
     lines = [f'printf("{name} {field} %zu %zu\\n", offsetof({name}, {field}), sizeof((({name} *)0)->{field}));'
              for name, it in pairs.items() for field, *_ in it._fields_]
     lines += [f'printf("{name} - %zu 0\\n", sizeof({name}));' for name in pairs]

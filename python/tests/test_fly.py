@@ -31,11 +31,19 @@ def test_a_raster_of_any_shape_lies_at_the_far_left_of_the_square():
 
 def test_a_frame_is_the_engines_mesh_with_its_names():
     it = flight(hills(65, 65), 500)
-    frame = it.frame((500, 1000, 1000, 5000))
+    frame = it.frame((500, 0, 1000, 1000, 5000))
     names = names_of(frame)
     assert struct.unpack_from("<I", frame, 8)[0] == len(names) <= 500
     assert sum(2.0 / 2 ** int(name).bit_length() for name in names) == 1
     assert np.array_equal(np.sort(it.engine.leaves()), np.sort(names))
+
+
+def test_above_a_threshold_a_frame_has_fewer_triangles():
+    it = flight(hills(65, 65), 8192)
+    where = 1000, 1000, 5000
+    finest, coarser = (it.frame((8192, threshold, *where)) for threshold in (0, 2000))
+    assert len(names_of(coarser)) < len(names_of(finest)) and struct.unpack_from("<Q", coarser)[0] == 0
+    assert np.array_equal(names_of(it.frame((8192, 0, *where))), names_of(finest))
 
 
 def test_a_hill_stands_in_the_engine_and_on_the_page():
@@ -43,11 +51,12 @@ def test_a_hill_stands_in_the_engine_and_on_the_page():
     it.lift((4, 4, 2, 100))
     ground = np.frombuffer(it.ground(()), "<u2", offset=GROUND_HEAD.size).reshape(9, 9)
     assert ground[3:6, 3:6].tolist() == [[50, 50, 50], [50, 100, 50], [50, 50, 50]]
-    it.frame((128, 4, 4, 10))
+    it.frame((128, 0, 4, 4, 10))
     assert it.engine.deviation() == 0
 
 
-@pytest.mark.parametrize("numbers, told", [((1, 2), "with 2 numbers"), ((1, 0, 0, 0), "from 2 to"), ((2, 1 << 31, 0, 0), "x is 2147483648")])
+@pytest.mark.parametrize("numbers, told", [((1, 2), "with 2 numbers"), ((1, 0, 0, 0, 0), "from 2 to"), ((2, 0, 1 << 31, 0, 0), "x is 2147483648"),
+                                           ((2, -1, 0, 0, 0), "ratio is -1")])
 def test_a_wrong_frame_names_what_is_wrong(numbers, told):
     with pytest.raises(ValueError, match=told):
         flight(np.zeros((9, 9)), 128, 1.0).frame(numbers)

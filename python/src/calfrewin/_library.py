@@ -9,7 +9,7 @@ from ctypes import POINTER, c_char_p, c_int32, c_int64, c_size_t, c_uint16, c_ui
 from typing import Any
 
 __all__ = ["ChangesNote", "DeviationNote", "FitNote", "FrameNote", "Handle", "Plane", "RequiredNote", "StateNote", "TileNote",
-           "calls", "path"]
+           "WorldNote", "calls", "path"]
 
 
 class Handle(ctypes.Structure):
@@ -48,6 +48,11 @@ class TileNote(ctypes.Structure):
 
 class RequiredNote(ctypes.Structure):
     _fields_ = [("count", c_size_t), ("lacks", c_uint32), ("spare", c_uint32)]
+
+
+class WorldNote(ctypes.Structure):
+    _fields_ = [("worst", c_uint64), ("evaluations", c_uint64)] + [(name, c_uint32) for name in (
+        "triangles", "splits", "merges", "blocking", "need", "spare")]
 
 
 _HANDLE, _COUNT, _ARRAY = POINTER(Handle), POINTER(c_size_t), c_void_p
@@ -93,6 +98,18 @@ CALLS = {
     "mosaic_next": [_HANDLE, POINTER(TileNote)],
     "mosaic_required": [_HANDLE, c_uint32, c_uint32, _ARRAY, c_size_t, POINTER(RequiredNote)],
     "mosaic_put": [_HANDLE, c_uint32, c_uint32, _ARRAY, c_size_t],
+    "page_make": [_HANDLE, _ARRAY, c_size_t],
+    "page_drop": [_HANDLE],
+    "world_open": [_HANDLE, _HANDLE, c_uint32, c_uint32, c_uint32],
+    "world_close": [_HANDLE],
+    "world_load": [_HANDLE, c_uint32, c_uint32, c_uint32, _HANDLE],
+    "world_unload": [_HANDLE, c_uint32, c_uint32, c_uint32, _HANDLE],
+    "world_camera": [_HANDLE, *_PLACE],
+    "world_look": [_HANDLE, POINTER(Plane), c_size_t],
+    "world_threshold": [_HANDLE, c_uint64],
+    "world_budget": [_HANDLE, c_uint32],
+    "world_frame": [_HANDLE, POINTER(WorldNote)],
+    "world_leaves": _LIST,
 }
 HERE = pathlib.Path(__file__).resolve().parent
 PLACES = (

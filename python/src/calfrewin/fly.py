@@ -4,7 +4,8 @@
 The page asks by POST, with whole numbers of 64 bits, lowest byte first:
 
     /ground   nothing; the answer is the ground: GROUND_HEAD, then the heights, 16 bits each
-    /frame    budget, x, y, z, then a, b, c, d of each plane; the answer is FRAME_HEAD, then a name a triangle, 32 bits each
+    /frame    budget, threshold, x, y, z, then a, b, c, d of each plane; the answer is FRAME_HEAD, then a name a triangle,
+              32 bits each
     /raise    x, y, radius, dz: a hill of nested squares about a grid point, or a hole where dz is negative
 """
 from __future__ import annotations
@@ -31,7 +32,7 @@ VIEWER = pathlib.Path(__file__).resolve().parent / "viewer"
 PAGES = {"/": ("page.html", "text/html; charset=utf-8"), "/fly.js": ("fly.js", "text/javascript; charset=utf-8")}
 GROUND_HEAD = struct.Struct("<6I")  # side, spacing, most triangles, edits, columns and rows of the raster
 FRAME_HEAD = struct.Struct("<Q14I")  # the note, microseconds of frame and list, edits, and two zeros
-MOST_RADIUS, MOST_BODY = 64, 8 * 28
+MOST_RADIUS, MOST_BODY = 64, 8 * 29
 
 
 class Flight:
@@ -49,15 +50,16 @@ class Flight:
         self.planes: list[tuple[int, int, int, int]] = []
 
     def frame(self, numbers: Sequence[int]) -> bytes:
-        """The mesh for a place, within a budget and with planes."""
-        if len(numbers) < 4 or len(numbers) % 4:
-            raise ValueError(f"a frame is asked with {len(numbers)} numbers, and has to be with 4, 8, .. or 28")
+        """The mesh for a place, within a budget, above a threshold and with planes."""
+        if len(numbers) % 4 != 1 or len(numbers) < 5:
+            raise ValueError(f"a frame is asked with {len(numbers)} numbers, and has to be with 5, 9, .. or 29")
         began, engine = time.perf_counter(), self.engine
-        planes = [(numbers[k], numbers[k + 1], numbers[k + 2], numbers[k + 3]) for k in range(4, len(numbers), 4)]
+        planes = [(numbers[k], numbers[k + 1], numbers[k + 2], numbers[k + 3]) for k in range(5, len(numbers), 4)]
         if numbers[0] != self.budget:
             engine.budget(numbers[0])
             self.budget = numbers[0]
-        engine.camera(*numbers[1:4])
+        engine.threshold(numbers[1])  # costs nothing where it is in force
+        engine.camera(*numbers[2:5])
         if planes != self.planes:
             engine.look(planes)
             self.planes = planes
@@ -135,7 +137,7 @@ class Handler(http.server.BaseHTTPRequestHandler):
         if not 0 <= size <= MOST_BODY or not self.own() or self.path not in calls:
             self.close_connection = True  # what follows is not read
             self.answer(*((403, b"not our page\n") if not self.own() else (404, b"no such call\n")
-                          if self.path not in calls else (413, b"a body has at most 224 bytes, and a Content-Length\n")))
+                          if self.path not in calls else (413, b"a body has at most 232 bytes, and a Content-Length\n")))
             return
         body = self.rfile.read(size)
         try:

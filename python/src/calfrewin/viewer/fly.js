@@ -243,18 +243,23 @@ addEventListener("keydown", (e) => {
   }
 });
 
-// Asks for the mesh of a pose. Heights are drawn `lift` times as high: the engine's camera and planes are over the true ones.
+// How many pixels high an error is seen from a ratio: a priority is 65,536 times twice the greatest error below a triangle over
+// its distance.
+const pixelsOf = (ratio, lift) => ((ratio / 65536 / 2) * lift * (innerHeight / 2)) / Math.tan(HALF);
+
+// Asks for the mesh of a pose, with the fewest triangles that are good enough. Heights are drawn `lift` times as high: the engine's camera and planes are over the true ones.
 let transferMs = 0; // a request's time without the server's own part
 new PerformanceObserver((list) => list.getEntriesByType("resource").forEach((e) => {
   if (e.name.endsWith("/frame")) transferMs = e.duration - (e.serverTiming[0]?.duration ?? 0);
 })).observe({ type: "resource" });
 async function ask(p) {
   const lift = +$("lift").value, budget = +$("budget").value, ratio = innerWidth / innerHeight, view = looking(p, ratio);
+  const pixels = +$("pixels").value, threshold = Math.floor(pixels / pixelsOf(1, lift));
   const planes = $("planes").checked ? planesFor(p, view, ratio) : [];
-  const bytes = await call("frame", [budget, p.x, p.y, p.z / lift, ...planes.flatMap(([a, b, c, d]) => [a, b, c * lift, d])]);
+  const bytes = await call("frame", [budget, threshold, p.x, p.y, p.z / lift, ...planes.flatMap(([a, b, c, d]) => [a, b, c * lift, d])]);
   const words = new Uint32Array(bytes, 0, HEAD / 4), note = { worst: words[0] + words[1] * 2 ** 32 };
   WORDS.forEach((name, k) => { note[name] = words[2 + k]; });
-  return { p, lift, budget, planes, note, rows: view.rows, bytes, count: (bytes.byteLength - HEAD) / 4 };
+  return { p, lift, budget, pixels, planes, note, rows: view.rows, bytes, count: (bytes.byteLength - HEAD) / 4 };
 }
 
 // Which triangles were not in the last mesh that was drawn: `seen` has the frame of each name.
@@ -316,9 +321,8 @@ function draw(f) {
 
 const pixel = new Uint8Array(4), whole = (n) => n.toLocaleString("en"), ms = (v) => v.toFixed(1).padStart(5);
 let rate = 0, drawMs = 0, lowered = "";
-function tell({ note, budget, lift }, changed) {
-  // A priority is 65,536 times twice the greatest error below a triangle over its distance.
-  const pixels = ((note.worst / 65536 / 2) * lift * (innerHeight / 2)) / Math.tan(HALF);
+function tell({ note, budget, pixels: wanted, lift }, changed) {
+  const pixels = note.worst ? pixelsOf(note.worst, lift) : wanted;
   $("told").textContent = [
     `${whole(note.triangles)} triangles of at most ${whole(budget)}, ${whole(note.vertices)} vertices`,
     `off by at most ${pixels < 10 ? pixels.toFixed(1) : whole(Math.round(pixels))} pixels on this screen`,
