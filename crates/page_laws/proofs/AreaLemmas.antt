@@ -36,7 +36,7 @@ child-crossing (suc side) c area is =
     let r = is.right in let l = is.left in let t = is.top in let b = is.bottom in
     record { right = omega arith; left = omega arith; top = omega arith; bottom = omega arith }
 
-parent-overlaps : (n x : ℕ) (area : Area) → 4 ≤ x → overlaps (corners_of n x) area ≡ true →
+pub parent-overlaps : (n x : ℕ) (area : Area) → 4 ≤ x → overlaps (corners_of n x) area ≡ true →
     overlaps (corners_of n (x / 2)) area ≡ true
 parent-overlaps n x area deep over = made-overlaps (corners_of n (x / 2)) area (⊎_elim
     (λ (left : x ≡ 2 * (x / 2)). child-crossing 0 (corners_of n (x / 2)) area
@@ -87,7 +87,7 @@ page-offset n q r within =
 
 module _ (w : Pages) (q : ℕ) (t : Point) where
   -- the points of a page lie in its square
-  point-within : (p : Point) → IsPagePoint w.n q t p → IsBetweenEnds (page_area w q t) p.x p.y
+  pub point-within : (p : Point) → IsPagePoint w.n q t p → IsBetweenEnds (page_area w q t) p.x p.y
   point-within p (r, inside, is) = subst (λ (s : Point). IsBetweenEnds (page_area w q t) s.x s.y) (sym is)
       (let column = page-coordinate w.n q t.x r.x in
       let row = page-coordinate w.n q t.y r.y in

@@ -8,3 +8,4 @@ pub mod LoadedLemmas
 pub mod ChangeLemmas
 pub mod SharedLemmas
 pub mod AreaLemmas
+pub mod ClearLemmas

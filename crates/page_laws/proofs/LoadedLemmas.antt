@@ -30,16 +30,16 @@ use Rattle.page_laws.proofs.SquareLemmas.{tile-parent}
 -- two surfaces
 
 -- one has the heights at these corners that the other has at those
-record HaveSame (height other : Point → ℕ) (c d : Corners) : Type 0 where
-  apex : height c.apex ≡ other d.apex
-  v0 : height c.v0 ≡ other d.v0
-  v1 : height c.v1 ≡ other d.v1
+pub record HaveSame (height other : Point → ℕ) (c d : Corners) : Type 0 where
+  pub apex : height c.apex ≡ other d.apex
+  pub v0 : height c.v0 ≡ other d.v0
+  pub v1 : height c.v1 ≡ other d.v1
 
-corner-same : (height other : Point → ℕ) (c d : Corners) → HaveSame height other c d →
+pub corner-same : (height other : Point → ℕ) (c d : Corners) → HaveSame height other c d →
     corner_wedge height c ≡ corner_wedge other d
 corner-same height other c d same = let e = same.apex in let f = same.v0 in let g = same.v1 in rw (e, f, g) refl
 
-joined-same : (height other : Point → ℕ) (c d : Corners) (x y : KnownWedge) → bend height c ≡ bend other d →
+pub joined-same : (height other : Point → ℕ) (c d : Corners) (x y : KnownWedge) → bend height c ≡ bend other d →
     joined_wedge height c x y ≡ joined_wedge other d x y
 joined-same height other c d x y same = ap (λ k. record {
   thickness = max x.thickness y.thickness + k;
@@ -58,14 +58,14 @@ left_out true x y off = absurd (false≢true (sym off))
 left_out false x y off = refl
 
 module _ (n : ℕ) (height : Point → ℕ) (known : ℕ → Bool) where
-  under-unknown : (levels a : ℕ) → known a ≡ false →
+  pub under-unknown : (levels a : ℕ) → known a ≡ false →
       known_wedge_under levels n height known a ≡ corner_wedge height (corners_of n a)
   under-unknown zero a none = refl
   under-unknown (suc levels) a none = left_out (known a) (joined_wedge height (corners_of n a)
       (known_wedge_under levels n height known (2 * a)) (known_wedge_under levels n height known (2 * a + 1)))
       (corner_wedge height (corners_of n a)) none
 
-  under-known : (levels a : ℕ) → known a ≡ true →
+  pub under-known : (levels a : ℕ) → known a ≡ true →
       known_wedge_under (suc levels) n height known a ≡ joined_wedge height (corners_of n a)
       (known_wedge_under levels n height known (2 * a)) (known_wedge_under levels n height known (2 * a + 1))
   under-known levels a is = picked (known a) (joined_wedge height (corners_of n a)

@@ -1,7 +1,9 @@
 //! A page's heights with the wedges of its triangles.
 
-ghost use Rattle.std.specs.Prelude.{◌≡◌, ◌+◌, ◌*◌, ◌<◌, ◌≤◌, IfOk, if◌then◌else◌};
-ghost use Rattle.mesh_defs.specs.HeightField.{IsHeightField};
+ghost use Rattle.std.specs.Prelude.{◌≡◌, ◌+◌, ◌*◌, ◌^◌, ◌<◌, ◌≤◌, ◌≤ℤ◌, IfOk, if◌then◌else◌, slice_set};
+ghost use Rattle.roam_lanes.specs.Raising.{least_change, greatest_change};
+ghost use Rattle.mesh_defs.specs.HeightField.{IsHeightField, place_of};
+ghost use Rattle.mesh_defs.specs.State.{raised_heights};
 ghost use Rattle.mesh_defs.specs.Triangle.{level_of, corners_of};
 ghost use Rattle.page_wedges.specs.declared.join.TheConstants.{THICKEST};
 ghost use Rattle.page_wedges.specs.Page.{own_wedge, quarter_in, with_quarter, joined_in, half_in, IsAlone};
@@ -13,7 +15,7 @@ use page_laws::KnownWedge;
 use pgm_grid::Grid;
 use std::alloc::Global;
 use std::marker::Model;
-use wedgie_tree::{Wedges, wedge_laws};
+use wedgie_tree::{Area, Wedges, wedge_laws};
 
 /// The wedges of a page: those of its grid of heights, and of its four quarters with what finer pages have below them.
 ///
@@ -58,19 +60,78 @@ impl PageWedges {
         ensures turned { IfOk result (λ w. w.turned ≡ turned) }
         ensures alone { IfOk result IsAlone }
     {
-        let own = Wedges::build(alloc, grid)?;
-        let lower = own_of(&own, quarter(0));
-        let left = own_of(&own, quarter(1));
-        let upper = own_of(&own, quarter(2));
-        let right = own_of(&own, quarter(3));
-        Ok(PageWedges {
-            own,
+        let flat = KnownWedge {
+            thickness: 0,
+            low: 0,
+            high: 0,
+        };
+        let mut page = PageWedges {
+            own: Wedges::build(alloc, grid)?,
             turned,
-            lower,
-            left,
-            upper,
-            right,
-        })
+            lower: flat,
+            left: flat,
+            upper: flat,
+            right: flat,
+        };
+        page.read_quarters();
+        Ok(page)
+    }
+
+    // Gives each quarter the wedge that it has in the page's grid.
+    fn read_quarters(&mut self)
+        ensures value { self.new ≡ record self.old {
+          lower = own_wedge self.old.field 4;
+          left = own_wedge self.old.field 5;
+          upper = own_wedge self.old.field 6;
+          right = own_wedge self.old.field 7;
+        } }
+        ensures alone { IsAlone self.new }
+    {
+        // The grid has a first level.
+        let _some = self.own.grid();
+        self.lower = own_of(&self.own, quarter(0));
+        self.left = own_of(&self.own, quarter(1));
+        self.upper = own_of(&self.own, quarter(2));
+        self.right = own_of(&self.own, quarter(3));
+    }
+
+    /// Makes `h` the height of a point.
+    ///
+    /// It lies in column `x` from the left and row `y` from the bottom of the page's grid. All wedges follow, and those of
+    /// the quarters are as built: join them again where finer pages are loaded.
+    /// Cost (not proved): that of `Wedges::set`. Takes no memory.
+    pub fn set_height(&mut self, x: u32, y: u32, h: u16)
+        requires in_columns { x ≤ 2 ^ self.old.field.n }
+        requires in_rows { y ≤ 2 ^ self.old.field.n }
+        requires bounded { h ≤ self.old.field.maxval }
+        ensures field { self.new.field ≡ record self.old.field {
+          heights = slice_set self.old.field.heights (place_of self.old.field.n x y) h;
+        } }
+        ensures turned { self.new.turned ≡ self.old.turned }
+        ensures alone { IsAlone self.new }
+    {
+        self.own.set(x, y, h);
+        self.read_quarters();
+    }
+
+    /// Raises the heights of an area by `dz`.
+    ///
+    /// They are lowered where `dz` is negative, and brought into 0 to the bound of heights. All wedges follow, as in
+    /// `set_height`.
+    /// Cost (not proved): that of `Wedges::raise`. Takes no memory.
+    pub fn raise(&mut self, area: Area, dz: i32)
+        requires in_columns { area.x1 ≤ 2 ^ self.old.field.n }
+        requires in_rows { area.y1 ≤ 2 ^ self.old.field.n }
+        requires at_least { least_change ≤ℤ dz }
+        requires at_most { dz ≤ℤ greatest_change }
+        ensures field { self.new.field ≡ record self.old.field {
+          heights = raised_heights self.old.field area dz;
+        } }
+        ensures turned { self.new.turned ≡ self.old.turned }
+        ensures alone { IsAlone self.new }
+    {
+        self.own.raise(area, dz);
+        self.read_quarters();
     }
 
     /// The heights.
