@@ -66,7 +66,7 @@ half-then : (a k : ℕ) → a / 2 ^ suc k ≡ a / 2 / 2 ^ k
 half-then a k = ap (λ j. a / j) (pow-succ' 2 k) ∙ sym (div-div-eq-div-mul a 2 (2 ^ k))
 
 -- the page as joined has the wedges of its quarters
-is-joined : (s s' : Store) (q : ℕ) (t : Point) (page : Page) → AreSameTerrain s s' → s'.large ≡ s.large → s'.n ≡ s.n →
+pub is-joined : (s s' : Store) (q : ℕ) (t : Point) (page : Page) → AreSameTerrain s s' → s'.large ≡ s.large → s'.n ≡ s.n →
     AreJoined s' q t (joined_page s q t page)
 is-joined s s' q t page same large n zero small = sym (terrain-wedge s s' q t 0 same large n)
 is-joined s s' q t page same large n (suc zero) small = sym (terrain-wedge s s' q t 1 same large n)

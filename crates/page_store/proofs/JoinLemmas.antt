@@ -1,4 +1,5 @@
 -- The quarter of a page, joined again.
+use Rattle.std.proofs.Common.{unwrap_or}
 use Rattle.std.proofs.Common.{◌≡◌, ℕ, zero, suc, ◌+◌, ◌-◌, ◌*◌, ◌^◌, ◌<◌, ◌≤◌, sym, ◌∙◌, ap, ap₂, subst, arith, refl}
 use Rattle.std.proofs.Common.{⊎_elim, Bool, IsTrue, Option, Some, None, option_map, List, length, slice_index_or}
 use Rattle.std.proofs.Common.{slice_set}
@@ -11,6 +12,7 @@ use Rattle.page_laws.specs.Pages.{IsPyramid, square_above}
 use Rattle.page_laws.specs.Loaded.{known_wedge, AreSamples}
 use Rattle.page_laws.specs.declared.wedge.KnownWedge.{KnownWedge}
 use Rattle.page_wedges.specs.Page.{Page, with_quarter, joined_in}
+use Rattle.page_store.specs.Store.{maxval_of}
 use Rattle.page_store.specs.Store.{Store, top_of, cuts_of, place, page_at, grid_at, height_in, known_in}
 use Rattle.page_store.specs.Store.{AreJoined, joined_page, IsTable}
 use Rattle.page_store.specs.Change.{quarter_wedge, IsQuarterJoined, IsPageJoined}
@@ -42,11 +44,11 @@ quarter-turned page (suc (suc (suc _))) w = refl
 
 -- so the table stays one
 table-kept : (s : Store) (ys : List (Option Page)) → IsTable s → length ys ≡ length s.pages →
-    AreSameTerrain s (record s { pages = ys }) →
+    AreSameTerrain s (record s { pages = ys }) → maxval_of (record s { pages = ys }) ≡ maxval_of s →
     ((r : ℕ) (u : Point) (new : Page) → page_at (record s { pages = ys }) r u ≡ Some new →
     (old : Page) × (page_at s r u ≡ Some old) × (new.field ≡ old.field) × (new.turned ≡ old.turned)) →
     IsTable (record s { pages = ys })
-table-kept s ys i count same olds = record {
+table-kept s ys i count same bound olds = record {
   some = i.some;
   fits = i.fits;
   small = i.small;
@@ -57,6 +59,7 @@ table-kept s ys i count same olds = record {
       let p = i.placed r u o.0 o.1 in
       record {
         side = ap (λ (g : HeightField). g.n) o.2 ∙ p.side;
+        bound = ap (λ (g : HeightField). g.maxval) o.2 ∙ p.bound ∙ sym bound;
         field = subst IsHeightField (sym o.2) p.field;
         turned = o.3 ∙ p.turned;
         heights = subst (λ (h : Point → ℕ). AreSamples s.n r u h new.field.heights) (sym same.heights)
@@ -107,6 +110,8 @@ module _ (s : Store) (i : IsTable s) (q : ℕ) (t : Point) (k : ℕ) (page : Pag
     valid = table-kept s written i
         (length-set s.pages (place (cuts_of s q) t) (Some (with_quarter page k (quarter_wedge s q t k))))
         (same-terrain s (record s { pages = written }) refl refl grids)
+        (ap (λ o. unwrap_or (option_map (λ (g : HeightField). g.maxval) o) 0)
+        (grids (top_of s) (record { x = 0; y = 0 })))
         (λ r u new there. ⊎_elim
         (λ (same : (r ≡ q) × (u ≡ t)).
         let e : Some (with_quarter page k (quarter_wedge s q t k)) ≡ Some new =

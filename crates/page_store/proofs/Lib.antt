@@ -3,6 +3,7 @@ pub mod TableLemmas
 pub mod HeightLemmas
 pub mod WalkLemmas
 pub mod FoundLemmas
+pub mod LocateLemmas
 pub mod ValueLemmas
 pub mod AloneLemmas
 pub mod MakeLemmas
@@ -14,3 +15,6 @@ pub mod PutLemmas
 pub mod AgreementLemmas
 pub mod TakeLemmas
 pub mod UnloadLemmas
+pub mod EditLemmas
+pub mod RaiseLemmas
+pub mod RejoinLemmas

@@ -1,4 +1,5 @@
 -- A store with the coarsest page alone.
+use Rattle.std.proofs.Common.{unwrap_or, option_map}
 use Rattle.std.proofs.Common.{◌≡◌, ◌≢◌, ℕ, ◌+◌, ◌-◌, ◌*◌, ◌/◌, ◌^◌, ◌<◌, ◌≤◌, sym, ◌∙◌, ap, ap₂, subst, arith}
 use Rattle.std.proofs.Common.{⊎_elim, false, IsTrue, Option, Some, None, List, length, replicate}
 use Rattle.std.proofs.Common.{slice_index_or, slice_set, refl}
@@ -6,7 +7,7 @@ use Rattle.std.proofs.lemmas.Bool.{cases_lt}
 use Rattle.std.proofs.lemmas.List.{get_or-set_other, get_or-set_same, get_or-replicate, length-replicate, get_or_past}
 use Rattle.std.proofs.Math.ListN.{length-set}
 use Rattle.mesh_defs.specs.declared.point.Point.{Point}
-use Rattle.mesh_defs.specs.HeightField.{IsHeightField}
+use Rattle.mesh_defs.specs.HeightField.{HeightField, IsHeightField}
 use Rattle.mesh_defs.specs.Thickness.{height_of}
 use Rattle.bintree_laws.proofs.LatticeLemmas.{same_point}
 use Rattle.mosaic_laws.specs.Tile.{IsTile}
@@ -143,6 +144,8 @@ module _ (large : ℕ) (root : Page) (items : List (Option Page)) (fits : root.f
         let cuts : cuts_of first_store q ≡ 0 = omega arith in
         record {
           side = ap (λ (g : Page). g.field.n) is.is;
+          bound = ap (λ (g : Page). g.field.maxval) is.is
+              ∙ sym (ap (λ o. unwrap_or (option_map (λ (g : HeightField). g.maxval) (option_map (λ (g : Page). g.field) o)) 0) root-at);
           field = subst (λ (g : Page). IsHeightField g.field) (sym is.is) field;
           turned = ap (λ (g : Page). g.turned) is.is ∙ turned ∙ ap (λ k. is_turned k t) (sym cuts);
           heights = agreed-samples first_store q t page first-agreed at;

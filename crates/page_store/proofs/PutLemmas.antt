@@ -1,4 +1,5 @@
 -- A page put in its square.
+use Rattle.std.proofs.Common.{unwrap_or}
 use Rattle.std.proofs.Common.{◌≡◌, ℕ, zero, suc, ◌+◌, ◌-◌, ◌≤◌, ◌⊎◌, sym, ◌∙◌, ap, ap₂, subst, arith, refl}
 use Rattle.std.proofs.Common.{⊎_elim, inl, inr, Bool, false, IsTrue, Option, Some, None, is_some, option_map, slice_set}
 use Rattle.std.proofs.lemmas.Bool.{both_ways}
@@ -13,6 +14,7 @@ use Rattle.page_laws.specs.Loaded.{AreSamples}
 use Rattle.page_laws.proofs.ChangeLemmas.{with-this, with-other, load-nested, wedge-quarter}
 use Rattle.page_laws.proofs.LoadedLemmas.{wedge-heights}
 use Rattle.page_wedges.specs.Page.{Page, IsAlone}
+use Rattle.page_store.specs.Store.{top_of, maxval_of}
 use Rattle.page_store.specs.Store.{Store, cuts_of, place, page_at, pages_of, local_point, has_point, height_in, grid_at}
 use Rattle.page_store.specs.Store.{AreJoined, IsTable, IsStore}
 use Rattle.page_store.specs.Change.{AreOthersJoined, AreSameGrids}
@@ -98,6 +100,11 @@ module _ (s : Store) (i : IsStore s) (q : ℕ) (t : Point) (page : Page) (can : 
       (λ j. record { large = s.large; n = s.n; top = s.large - s.n; loaded = λ r u. loaded-same r u j })
       (load-nested (pages_of s) q t i.table.pyramid can.above can.beside)
 
+  -- the bound is that of before
+  put-bound : maxval_of put_store ≡ maxval_of s
+  put-bound = ap (λ o. unwrap_or (option_map (λ (g : HeightField). g.maxval) (option_map (λ (g : Page). g.field) o)) 0)
+      (put-others (top_of s) (record { x = 0; y = 0 }) (λ top. let coarse = can.coarse in omega arith))
+
   -- any two pages agree
 
   -- one that was there
@@ -166,6 +173,7 @@ module _ (s : Store) (i : IsStore s) (q : ℕ) (t : Point) (page : Page) (can : 
     placed = λ r u pg at. ⊎_elim
         (λ (new : (r ≡ q) × (u ≡ t) × (pg ≡ page)). record {
           side = ap (λ (g : Page). g.field.n) new.2 ∙ can.side;
+          bound = ap (λ (g : Page). g.field.maxval) new.2 ∙ can.bound ∙ sym put-bound;
           field = subst (λ (g : Page). IsHeightField g.field) (sym new.2) field;
           turned = ap (λ (g : Page). g.turned) new.2 ∙ turned
               ∙ sym (ap₂ (λ j v. is_turned (cuts_of s j) v) new.0 new.1);
@@ -175,6 +183,7 @@ module _ (s : Store) (i : IsStore s) (q : ℕ) (t : Point) (page : Page) (can : 
         let p = i.table.placed r u pg old in
         record {
           side = p.side;
+          bound = p.bound ∙ sym put-bound;
           field = p.field;
           turned = p.turned;
           heights = agreed-samples put_store r u pg put-agreed at;

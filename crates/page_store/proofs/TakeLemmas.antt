@@ -1,15 +1,18 @@
 -- A page taken out of its square.
+use Rattle.std.proofs.Common.{unwrap_or}
 use Rattle.std.proofs.Common.{◌≡◌, ℕ, ◌+◌, ◌-◌, ◌<◌, sym, ◌∙◌, ap, ap₂, subst, arith}
 use Rattle.std.proofs.Common.{refl, ⊎_elim, IsTrue, Option, Some, None, is_some, option_map}
 use Rattle.std.proofs.Common.{slice_set}
 use Rattle.std.proofs.Math.ListN.{length-set}
 use Rattle.mesh_defs.specs.declared.point.Point.{Point}
+use Rattle.mesh_defs.specs.HeightField.{HeightField}
 use Rattle.mesh_defs.specs.Thickness.{height_of}
 use Rattle.mosaic_laws.specs.Tile.{in_tile}
 use Rattle.page_laws.specs.Pages.{IsPyramid, IsLoadedPoint, without_page}
 use Rattle.page_laws.proofs.ChangeLemmas.{without-this, without-other, unload-nested, wedge-quarter}
 use Rattle.page_laws.proofs.LoadedLemmas.{wedge-heights}
 use Rattle.page_wedges.specs.Page.{Page, IsAlone}
+use Rattle.page_store.specs.Store.{top_of, maxval_of}
 use Rattle.page_store.specs.Store.{Store, cuts_of, place, page_at, grid_at, pages_of, local_point, has_point}
 use Rattle.page_store.specs.Store.{height_in, IsTable, IsStore}
 use Rattle.page_store.specs.Change.{AreOthersJoined, AreSameGrids}
@@ -69,6 +72,10 @@ module _ (s : Store) (i : IsStore s) (q : ℕ) (t : Point) (page : Page) (at : p
   take-agreed a r u v pg other p there there' has has' =
       old-height a u p pg there has ∙ sym (old-height r v p other there' has')
 
+  take-bound : maxval_of take_store ≡ maxval_of s
+  take-bound = ap (λ o. unwrap_or (option_map (λ (g : HeightField). g.maxval) (option_map (λ (g : Page). g.field) o)) 0)
+      (take-others (top_of s) (record { x = 0; y = 0 }) (λ top. omega arith))
+
   -- it is a table
   pub take-table : IsTable take_store
   take-table = record {
@@ -81,6 +88,7 @@ module _ (s : Store) (i : IsStore s) (q : ℕ) (t : Point) (page : Page) (at : p
         let p = i.table.placed r u pg (take-old r u pg there) in
         record {
           side = p.side;
+          bound = p.bound ∙ sym take-bound;
           field = p.field;
           turned = p.turned;
           heights = agreed-samples take_store r u pg take-agreed there;

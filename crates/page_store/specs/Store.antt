@@ -1,7 +1,7 @@
 -- The pages of a terrain that are loaded, in one table.
 -- The table has a place for each square of each resolution, the coarsest first; of one resolution row by row, and in a
 -- row by column. This project's own.
--- Words: Store, top_of, cuts_of, place, is_square, page_at, grid_at, pages_of, local_point, has_point, height_from,
+-- Words: Store, top_of, cuts_of, place, is_square, page_at, grid_at, maxval_of, pages_of, local_point, has_point, height_from,
 -- numbered, first_height, first_in, first_down, height_in, known_in, IsPlaced, AreJoined, joined_page, IsTable, IsStore.
 use Rattle.std.specs.Prelude.{◌≡◌, ℕ, zero, suc, ◌+◌, ◌-◌, ◌*◌, ◌/◌, ◌%◌, ◌^◌, ◌<◌, ◌≤◌, Bool, ◌&&◌, nat_eq, nat_le}
 use Rattle.std.specs.Prelude.{nat_lt, cond, Option, Some, None, is_some, option_map, unwrap_or, List, length}
@@ -44,6 +44,10 @@ page_at s q t = cond (is_square s q t) (slice_index_or s.pages (place (cuts_of s
 -- its grid of heights
 abbrev pub grid_at : Store → ℕ → Point → Option HeightField
 grid_at s q t = option_map (λ page. page.field) (page_at s q t)
+
+-- the bound of heights, which is that of the coarsest page
+abbrev pub maxval_of : Store → ℕ
+maxval_of s = unwrap_or (option_map (λ grid. grid.maxval) (grid_at s (top_of s) (record { x = 0; y = 0 }))) 0
 
 -- which pages are loaded
 abbrev pub pages_of : Store → Pages
@@ -93,9 +97,10 @@ height_in s p = unwrap_or (first_down s p (suc (top_of s))) 0
 abbrev pub known_in : Store → ℕ → Bool
 known_in s = is_known (pages_of s)
 
--- A page as it stands in its square: with its grid, its diagonal and the heights that all pages agree on.
+-- A page as it stands in its square: with its grid, its diagonal, and the heights and the bound that all pages agree on.
 pub record IsPlaced (s : Store) (q : ℕ) (t : Point) (page : Page) : Type 0 where
   pub side : page.field.n ≡ s.n
+  pub bound : page.field.maxval ≡ maxval_of s
   pub field : IsHeightField page.field
   pub turned : page.turned ≡ is_turned (cuts_of s q) t
   pub heights : AreSamples s.n q t (height_in s) page.field.heights

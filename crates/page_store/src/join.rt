@@ -10,8 +10,11 @@ ghost use Rattle.page_laws.specs.Loaded.{known_wedge};
 ghost use Rattle.page_wedges.specs.Page.{Page, with_quarter, joined_in};
 ghost use Rattle.page_wedges.specs.declared.join.TheConstants.{THICKEST};
 ghost use Rattle.page_store.specs.Store.{top_of, page_at, height_in, known_in, AreJoined, IsTable};
+ghost use Rattle.wedgie_tree.specs.Edits.{area_between};
+ghost use Rattle.page_store.specs.Edit.{IsNear, AreJoinedBut};
 ghost use Rattle.page_store.specs.Change.{IsQuarterJoined, IsPageJoined, AreSameGrids, AreOthersJoined};
 
+use crate::edits::span;
 use crate::part::Part;
 use crate::table::{Table, place};
 use crate::wedge::is_upper;
@@ -107,6 +110,61 @@ impl Table {
                 y: square.y / 2,
             };
             self.join_page(cuts, square);
+        }
+    }
+}
+
+impl Table {
+    /// Joins the pages that meet an area, but for the finest ones, from the next resolution up.
+    pub(crate) fn join_area(&mut self, low: Point, high: Point)
+        requires joined { AreJoinedBut self.old
+            (λ q t. (1 ≤ q) × IsNear self.old (area_between low.x low.y high.x high.y) q t) }
+        requires valid { IsTable self.old }
+        ensures grids { AreSameGrids self.old self.new }
+        ensures joined { (q : ℕ) (t : Point) (page : Page) → page_at self.new q t ≡ Some page →
+            AreJoined self.new q t page }
+        ensures valid { IsTable self.new }
+    {
+        for q in 1..self.large - self.n + 1 {
+            self.join_level(q, low, high);
+        }
+    }
+
+    /// Joins those of one resolution.
+    fn join_level(&mut self, q: u32, low: Point, high: Point)
+        requires some { 1 ≤ q }
+        requires coarse { q ≤ top_of self.old }
+        requires joined { AreJoinedBut self.old
+            (λ r t. (q ≤ r) × IsNear self.old (area_between low.x low.y high.x high.y) r t) }
+        requires valid { IsTable self.old }
+        ensures grids { AreSameGrids self.old self.new }
+        ensures joined { AreJoinedBut self.new
+            (λ r t. (q + 1 ≤ r) × IsNear self.new (area_between low.x low.y high.x high.y) r t) }
+        ensures valid { IsTable self.new }
+    {
+        let (first, end) = span(self.n + q, self.large - self.n - q, low.y, high.y);
+        for y in first..end {
+            self.join_row(q, y, low, high);
+        }
+    }
+
+    /// Joins those of one row of squares.
+    fn join_row(&mut self, q: u32, y: u32, low: Point, high: Point)
+        requires some { 1 ≤ q }
+        requires coarse { q ≤ top_of self.old }
+        requires in_rows { y < 2 ^ (top_of self.old - q) }
+        requires joined { AreJoinedBut self.old (λ r t. (q ≤ r)
+            × IsNear self.old (area_between low.x low.y high.x high.y) r t × (r ≡ q → y ≤ t.y)) }
+        requires valid { IsTable self.old }
+        ensures grids { AreSameGrids self.old self.new }
+        ensures joined { AreJoinedBut self.new (λ r t. (q ≤ r)
+            × IsNear self.new (area_between low.x low.y high.x high.y) r t × (r ≡ q → y + 1 ≤ t.y)) }
+        ensures valid { IsTable self.new }
+    {
+        let cuts = self.large - self.n - q;
+        let (first, end) = span(self.n + q, cuts, low.x, high.x);
+        for x in first..end {
+            self.join_page(cuts, Point { x, y });
         }
     }
 }

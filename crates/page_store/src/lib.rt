@@ -7,9 +7,11 @@
 #![tactic(auto)]
 
 mod agreement;
+mod edits;
 mod find;
 mod join;
 mod load;
+mod locate;
 mod part;
 mod store;
 mod table;
@@ -17,6 +19,7 @@ mod unload;
 mod wedge;
 
 pub use load::LoadFault;
+pub use locate::PageTriangle;
 pub use page_laws::KnownWedge;
 pub use page_wedges::PageWedges;
 pub use store::PageStore;

@@ -22,6 +22,8 @@ pub enum LoadFault {
     AlreadyLoaded,
     /// The page has not as many points a side as the others.
     WrongSide,
+    /// The page has not the bound of heights that the others have.
+    WrongBound,
     /// The page of the next coarser resolution is not loaded.
     CoarserMissing,
     /// A page beside that one is not loaded.
@@ -47,6 +49,9 @@ impl Table {
         }
         if grid.n() != self.n {
             return Some(LoadFault::WrongSide);
+        }
+        if grid.maxval() != self.maxval() {
+            return Some(LoadFault::WrongBound);
         }
         let above = Point {
             x: square.x / 2,

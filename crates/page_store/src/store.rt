@@ -1,17 +1,20 @@
 //! The pages of a terrain, with the wedges of their triangles over all that is loaded.
 
-ghost use Rattle.std.specs.Prelude.{◌≡◌, ◌≢◌, ℕ, ◌+◌, ◌-◌, ◌*◌, ◌<◌, ◌≤◌, ◌↔◌, IsTrue, false, IfOk, IfErr, OnOk};
+ghost use Rattle.std.specs.Prelude.{◌≡◌, ◌≢◌, ℕ, ◌+◌, ◌-◌, ◌*◌, ◌<◌, ◌≤◌, ◌≤ℤ◌, ◌↔◌, IsTrue, false, IfOk, IfErr, OnOk};
 ghost use Rattle.std.specs.Prelude.{OnErr, IfSome, IsSome, Some, None};
 ghost use Rattle.std.specs.Option.{option_copied};
 ghost use Rattle.mesh_defs.specs.declared.level.TheConstants.{GREATEST_LEVEL};
 ghost use Rattle.mesh_defs.specs.declared.point.Point.{Point};
 ghost use Rattle.mesh_defs.specs.Triangle.{level_of};
+ghost use Rattle.roam_lanes.specs.Raising.{least_change, greatest_change};
+ghost use Rattle.wedgie_tree.specs.Edits.{area_between};
 ghost use Rattle.page_laws.specs.Pages.{IsLoadedPoint};
 ghost use Rattle.page_laws.specs.Opened.{with_known_mate};
 ghost use Rattle.page_laws.specs.Loaded.{known_wedge};
 ghost use Rattle.page_wedges.specs.Page.{IsAlone};
 ghost use Rattle.page_wedges.specs.declared.join.TheConstants.{THICKEST};
-ghost use Rattle.page_store.specs.Store.{page_at, grid_at, pages_of, height_in, known_in, IsStore};
+ghost use Rattle.page_store.specs.Store.{page_at, grid_at, maxval_of, pages_of, height_in, known_in, IsStore};
+ghost use Rattle.page_store.specs.Edit.{HasLoadedPoint, IsRaisedTerrain};
 ghost use Rattle.page_store.specs.Load.{CanLoad, IsLoadFault};
 ghost use Rattle.page_store.specs.Unload.{IsFree, IsUnloadFault};
 
@@ -30,7 +33,7 @@ use std::marker::Model;
 /// A resolution q has heights 2^q grid steps apart; a square is told by its column and its row of that resolution.
 #[derive(Debug, Drop)]
 pub struct PageStore {
-    table: Table,
+    pub(crate) table: Table,
 }
 
 impl Model for PageStore {
@@ -165,5 +168,54 @@ impl PageStore {
         let page = self.table.take(cuts, square).unwrap();
         self.table.join_above(cuts, square);
         Ok(page)
+    }
+
+    /// The bound of heights.
+    pub fn maxval(&self) -> u16
+        ensures value { result ≡ maxval_of self.now }
+    {
+        self.table.maxval()
+    }
+
+    /// Makes `h` the height of a point, in each loaded page that has it.
+    ///
+    /// Says whether one has.
+    /// Cost (not proved): as that of `raise` of one point, twice. Takes no memory.
+    pub fn set_height(&mut self, p: Point, h: u16) -> bool
+        requires bounded { h ≤ maxval_of self.old }
+        ensures loaded { IsTrue result ↔ IsLoadedPoint (pages_of self.old) p }
+        ensures height { IsTrue result → height_in self.new p ≡ h }
+        ensures others { (r : Point) → (r ≡ p → ⊥) → height_in self.new r ≡ height_in self.old r }
+        ensures pages { pages_of self.new ≡ pages_of self.old }
+        ensures bound { maxval_of self.new ≡ maxval_of self.old }
+        ensures none { result ≡ false → self.new ≡ self.old }
+    {
+        let _before = self.large();
+        // To 0, and from there.
+        let loaded = self.raise(p.x, p.y, p.x, p.y, -65_535);
+        self.raise(p.x, p.y, p.x, p.y, i32::from(h));
+        loaded
+    }
+
+    /// Raises the loaded heights of an area by `dz`.
+    ///
+    /// The area has the columns x0 to x1 and the rows y0 to y1. Heights are lowered where `dz` is negative, and brought into
+    /// 0 to the bound, in each loaded page that has the point. Says whether there is such a point.
+    /// Cost (not proved): that of `PageWedges::raise` in each page that has a point there, and twelve heights for each page
+    /// that meets the area; a step for each square of each resolution that does. Takes no memory.
+    pub fn raise(&mut self, x0: u32, y0: u32, x1: u32, y1: u32, dz: i32) -> bool
+        requires at_least { least_change ≤ℤ dz }
+        requires at_most { dz ≤ℤ greatest_change }
+        ensures found { IsTrue result ↔ HasLoadedPoint self.old (area_between x0 y0 x1 y1) }
+        ensures raised { IsRaisedTerrain self.old self.new (area_between x0 y0 x1 y1) dz }
+        ensures none { result ≡ false → self.new ≡ self.old }
+    {
+        let low = Point { x: x0, y: y0 };
+        let high = Point { x: x1, y: y1 };
+        if !self.table.raise(low, high, dz) {
+            return false;
+        }
+        self.table.join_area(low, high);
+        true
     }
 }

@@ -6,7 +6,7 @@ ghost use Rattle.std.specs.Option.{option_copied};
 ghost use Rattle.mesh_defs.specs.declared.level.TheConstants.{GREATEST_LEVEL};
 ghost use Rattle.mosaic_laws.specs.Tile.{IsTile};
 ghost use Rattle.page_laws.specs.Pages.{is_turned};
-ghost use Rattle.page_store.specs.Store.{top_of, cuts_of, place, page_at, IsTable};
+ghost use Rattle.page_store.specs.Store.{top_of, cuts_of, place, page_at, maxval_of, IsTable};
 
 use mesh_defs::{NoMemory, Point};
 use page_wedges::PageWedges;
@@ -68,6 +68,15 @@ impl Table {
             return None;
         }
         self.page_in(cuts, square)
+    }
+
+    /// The bound of heights.
+    pub(crate) fn maxval(&self) -> u16
+        ensures value { result ≡ maxval_of self.now }
+    {
+        let _ = &self.large;
+        let root = self.page_in(0, Point { x: 0, y: 0 }).unwrap();
+        root.grid().maxval()
     }
 
     /// How often the terrain's side is halved down to a page of this resolution.

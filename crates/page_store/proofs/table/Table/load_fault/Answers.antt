@@ -26,6 +26,7 @@ returns-in-Some-clause-some c =
       grind (arith, common_steps),
       grind (arith, common_steps),
       grind (arith, common_steps),
+      grind (arith, common_steps),
       c.lacks_beside.ensures.no c.if-lacks_beside.false,
       c.in-Some.ensures.some,
     )
