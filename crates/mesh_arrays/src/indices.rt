@@ -26,8 +26,10 @@ pub fn write_indices(n: u32, triangles: &[Tri], out: &mut [u32])
     }
 }
 
-/// Writes the places of three corners from a place on.
-fn write_corners(n: u32, corners: Corners, out: &mut [u32], at: usize)
+/// Writes the places of three corners.
+///
+/// Those of apex, v0 and v1, from this place of the array on.
+pub fn write_corners(n: u32, corners: Corners, out: &mut [u32], at: usize)
     requires in_grid { n ≤ GREATEST_LEVEL }
     requires within { IsWithin (2 ^ n) corners }
     requires room { at + 3 ≤ length out.old }

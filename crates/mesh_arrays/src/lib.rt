@@ -19,7 +19,7 @@ mod walk;
 
 pub use bintree_addr::Tri;
 pub use changes::{Changes, list_changes};
-pub use indices::{write_addresses, write_indices};
+pub use indices::{write_addresses, write_corners, write_indices};
 pub use laws::{change_laws, index_laws};
 pub use list::LeafList;
 pub use mesh_defs::NoMemory;
