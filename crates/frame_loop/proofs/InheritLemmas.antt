@@ -1,6 +1,6 @@
 -- Counts of marks: of two lists together, of a list with one mark, and of the leaves below a triangle that passes its
 -- mark on.
-use Rattle.std.proofs.Common.{◌≡◌, ◌+◌, ◌≤◌, ◌++◌, ℕ, suc, Bool, true, false, cond, List, [], ◌∷◌, All, length, ap, sym}
+use Rattle.std.proofs.Common.{◌≡◌, ◌+◌, ◌*◌, ◌≤◌, ◌++◌, ℕ, suc, Bool, true, false, cond, List, [], ◌∷◌, All, length, ap, sym}
 use Rattle.std.proofs.Common.{◌∙◌, refl, subst, arith}
 use Rattle.std.specs.List.{count_by}
 use Rattle.std.proofs.lemmas.List.Sums.{sum_by-cons, sum_by-append}
@@ -8,12 +8,17 @@ use Rattle.std.proofs.lemmas.List.Elements.{All-head, All-tail, All-cons, All-ni
 use Rattle.mesh_defs.specs.declared.mark.Mark.{Mark}
 use Rattle.mesh_defs.specs.declared.mark.Mark.TheVariants.{Inside, Cut, Outside}
 use Rattle.mesh_defs.specs.ClosedSet.{leaves_under}
+use Rattle.mesh_defs.specs.Triangle.{IsSplittable}
 use Rattle.mesh_defs.specs.MeshText.{is_same_mark}
 use Rattle.mesh_laws.proofs.DescentLemmas.{IsDown, IsSplittable-down, All-leaves_under}
 use Rattle.mesh_defs.specs.State.{SceneState}
 use Rattle.frame_loop.specs.Marks.{marks_seen, HasMarks}
 use Rattle.frame_loop.specs.Turn.{mark_under}
-use Rattle.frame_loop.proofs.TurnLemmas.{IsPassedOn}
+
+-- a mark that both children have from their parent
+pub record IsPassedOn (n : ℕ) (mark : ℕ → Mark) (m : Mark) : Type 0 where
+  pub left : (a : ℕ) → IsSplittable n a → mark a ≡ m → mark (2 * a) ≡ m
+  pub right : (a : ℕ) → IsSplittable n a → mark a ≡ m → mark (2 * a + 1) ≡ m
 
 -- ---- lists
 

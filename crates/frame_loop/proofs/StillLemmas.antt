@@ -1,30 +1,18 @@
 -- That a frame after which nothing changed is followed by one that does nothing.
-use Rattle.std.proofs.Common.{◌≡◌, ℕ, ◌+◌, ◌<◌, false, inl, List, [], ◌∷◌, refl, sym, subst, arith}
-use Rattle.mesh_defs.specs.ClosedSet.{among}
-use Rattle.mesh_defs.specs.GridSet.{IsGridSet}
-use Rattle.mesh_defs.specs.Falling.{IsFalling}
-use Rattle.mesh_defs.proofs.ListLemmas.{among-in}
+use Rattle.std.proofs.Common.{◌≡◌, ℕ, ◌+◌, ◌<◌, false, inl, refl, sym, subst, arith}
 use Rattle.mesh_laws.specs.Steps.{begin}
-use Rattle.mesh_laws.proofs.RunLemmas.{run_set}
-use Rattle.mesh_laws.proofs.FrameRunLemmas.{merge_spares}
 use Rattle.mesh_laws.specs.Stamps.{is_due}
 use Rattle.deferred_loop.specs.Seen.{SeenMesh}
 use Rattle.deferred_loop.specs.Promise.{IsAtLeast}
 use Rattle.roam_mesh.specs.Mesh.{stamp_of, seen_of}
-use Rattle.roam_mesh.specs.Chosen.{SparesChosen}
 use Rattle.frame_loop.specs.Changes.{LeafChanges, no_changes}
 use Rattle.frame_loop.specs.Engine.{EngineState, IsEngine, IsRenewable, IsFrameDone, IsStill}
 use Rattle.frame_loop.specs.declared.note.FrameNote.{FrameNote}
 
--- where the mesh stays, no stamp is another
-same_asked : (s : SeenMesh) (count : ℕ) → IsAtLeast s s count count
-same_asked s count [] distinct each = omega arith
-same_asked s count (a ∷ rest) distinct each = absurd ((each a (among-in a (a ∷ rest) (inl refl))).1 refl)
-
 -- The mesh of a frame is that of the state: so a frame from there has no step and asks nothing.
-pub still_after : (before after : EngineState) (note : FrameNote) → IsFrameDone before after note →
-    IsStill after (record note { splits = 0; merges = 0 })
-still_after before after note done = record {
+pub still_after : ((s : SeenMesh) (count : ℕ) → IsAtLeast s s count count) → (before after : EngineState)
+    (note : FrameNote) → IsFrameDone before after note → IsStill after (record note { splits = 0; merges = 0 })
+still_after asked before after note done = record {
   state = refl;
   most = refl;
   odometer = refl;
@@ -39,7 +27,7 @@ still_after before after note done = record {
     bound = λ ranking chosen loose ranked closure are. omega arith;
   };
   most_asked = λ ranking chosen best all_open ranked closure each. omega arith;
-  least_asked = same_asked (seen_of after.mesh) after.evaluations;
+  least_asked = asked (seen_of after.mesh) after.evaluations;
   stamps = λ a entry. (
     subst (λ (k : ℕ). is_due k (stamp_of after.mesh a) ≡ false) (sym done.odometer) (done.stamps a entry).0,
     inl refl,
@@ -125,10 +113,3 @@ still_engine e is more =
       kept = is.kept;
       only = is.only;
     }
-
--- a frame comes through closed sets, and from such a set no merge is of a diamond that holds a chosen triangle
-pub spared : (n budget : ℕ) (priority : ℕ → ℕ) (start last : List ℕ) → IsGridSet n start → IsFalling n priority →
-    SparesChosen n budget priority start last
-spared n budget priority start last set falls ranking chosen ranked closure before after added removed reached =
-    merge_spares n budget priority ranking chosen (among last) before after ranked falls closure
-    (run_set n budget priority start before added removed set reached)

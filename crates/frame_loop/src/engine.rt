@@ -8,7 +8,6 @@ ghost use Rattle.mesh_defs.specs.ClosedSet.{IsClosed};
 ghost use Rattle.triangle_pool.specs.declared.pool.TheConstants.{MOST_LEAVES};
 ghost use Rattle.obj_write.specs.Numbers.{numbers_of};
 ghost use Rattle.mesh_defs.specs.HeightField.{side_of};
-ghost use Rattle.mesh_defs.specs.declared.level.TheConstants.{GREATEST_LEVEL};
 ghost use Rattle.wedgie_tree.specs.declared.wedges.TheConstants.{GREATEST_SPACING};
 ghost use Rattle.roam_mesh.specs.Mesh.{stamp_of, pool_members, OnlyEntriesStamped};
 ghost use Rattle.frame_loop.specs.Outlook.{AreBracketed};
@@ -26,7 +25,7 @@ use roam_mesh::Mesh;
 use std::alloc::Global;
 use std::marker::Model;
 use triangle_pool::Pool;
-use view_mesh::{expiry_laws, sight_laws};
+use view_mesh::{expiry_laws, leaf_room, sight_laws};
 use view_priority::{Camera, Meter, Outlook};
 use wedgie_tree::Wedges;
 
@@ -108,7 +107,7 @@ impl Engine {
         expiry_laws();
         let n = grid.n();
         let wedges = Wedges::build(alloc, grid)?;
-        let room = room(n, budget);
+        let room = leaf_room(n, budget);
         let mesh = Mesh::make(alloc, n, room)?;
         let lists = Lists::make(alloc, n, mesh.pool(), room)?;
         let Lists {
@@ -275,15 +274,4 @@ impl Engine {
         let _pool = self.mesh.pool();
         &self.numbers
     }
-}
-
-/// For how many leaves a mesh has room: for those of the budget, or for all that there can be.
-fn room(n: u32, budget: u32) -> u32
-    requires in_grid { n ≤ GREATEST_LEVEL }
-    requires some { 2 ≤ budget }
-    ensures value { result ≡ min budget (2 * 4 ^ n) }
-    ensures some { 2 ≤ result }
-    ensures few { result ≤ budget }
-{
-    budget.min(2 * 4u32.pow(n))
 }

@@ -1,17 +1,17 @@
 //! Planes that turn with the camera.
 
-ghost use Rattle.std.specs.Prelude.{◌≡◌, ◌*◌, ◌≤◌, not, true};
-ghost use Rattle.mesh_defs.specs.Triangle.{level_of};
-ghost use Rattle.mesh_defs.specs.State.{scene_of};
+ghost use Rattle.std.specs.Prelude.{◌≡◌, true};
+ghost use Rattle.mesh_defs.specs.BoundingBox.{box_of};
+ghost use Rattle.mesh_defs.specs.State.{SceneState, scene_of};
 ghost use Rattle.frame_loop.specs.Engine.{IsExpired, AreAllExpired};
-ghost use Rattle.frame_loop.specs.Turn.{with_planes, mark_under, is_turn, is_settled, is_turned};
+ghost use Rattle.frame_loop.specs.Turn.{with_planes, is_turned};
 
 use crate::engine::Engine;
-use bintree_addr::Tri;
-use cull_marks::{Mark, Planes};
+use bintree_addr::{Cuboid, Tri};
+use cull_marks::Planes;
 use roam_mesh::Mesh;
-use view_mesh::{Expiring, Expiry, expire_by, expiry_laws, sight_laws};
-use view_priority::{Outlook, view_laws};
+use view_mesh::{Boxes, expire_turned, expiry_laws, sight_laws};
+use view_priority::{Outlook, priority_laws};
 
 impl Engine {
     /// Puts a whole set of planes in force in the place of those before, and expires the stamps of those triangles
@@ -44,65 +44,29 @@ fn expire_by_turn(mesh: &mut Mesh, all_expired: bool, outlook: &Outlook, planes:
     ensures { IsExpired mesh.old mesh.new (is_turned outlook.now planes.now) }
 {
     if !all_expired {
-        expire_by(mesh, &Turn { outlook, planes });
+        expire_turned(mesh, &OutlookBoxes { outlook }, &outlook.planes, planes);
     }
 }
 
-/// The triangles that are turned by other planes: Outside before or after, and not both.
+/// The boxes of an outlook: each triangle has one.
 #[derive(Drop)]
-struct Turn<'a> {
+struct OutlookBoxes<'a> {
     outlook: &'a Outlook,
-    planes: &'a Planes,
 }
 
-impl<'a> Expiry for Turn<'a> {
-    ghost n = { λ t. t.outlook.now.grid.n };
+impl<'a> Boxes for OutlookBoxes<'a> {
+    ghost n = { λ b. b.outlook.now.grid.n };
 
-    ghost expires = { λ t. is_turned t.outlook.now t.planes.now };
+    ghost has_box = { λ b a. true };
 
-    // Where one is Inside, or Outside, before and after, all below it is so too.
-    fn at(&self, t: Tri) -> Expiring {
-        view_laws();
-        let (before, after) = marks(self.outlook, self.planes, t);
-        expiring_between(before, after)
+    ghost box_at = { λ b. let o : SceneState = b.outlook.now in box_of o.grid.n o.grid.heights o.view.spacing };
+
+    fn cuboid(&self, t: Tri) -> Option<Cuboid> {
+        let outlook = self.outlook;
+        Some(outlook.wedges.cuboid(t, outlook.spacing))
     }
-}
 
-/// What expires of a triangle that goes from one mark to another, and at or below it.
-fn expiring_between(before: Mark, after: Mark) -> Expiring
-    ensures own { result.itself ≡ is_turn before after }
-    ensures below { result.goes_on ≡ not (is_settled before after) }
-{
-    let itself = match before {
-        Mark::Outside => match after {
-            Mark::Outside => false,
-            Mark::Inside | Mark::Cut => true,
-        },
-        Mark::Inside | Mark::Cut => match after {
-            Mark::Outside => true,
-            Mark::Inside | Mark::Cut => false,
-        },
-    };
-    let goes_on = match before {
-        Mark::Outside => match after {
-            Mark::Outside => false,
-            Mark::Inside | Mark::Cut => true,
-        },
-        Mark::Inside => match after {
-            Mark::Inside => false,
-            Mark::Outside | Mark::Cut => true,
-        },
-        Mark::Cut => true,
-    };
-    Expiring { itself, goes_on }
-}
-
-/// The marks of a triangle under the planes in force, and under others.
-fn marks(outlook: &Outlook, planes: &Planes, t: Tri) -> (Mark, Mark)
-    requires level { level_of t ≤ 2 * outlook.now.grid.n }
-    ensures before { result.0 ≡ mark_under outlook.now outlook.now.view.planes t }
-    ensures after { result.1 ≡ mark_under outlook.now planes.now t }
-{
-    let cuboid = outlook.wedges.cuboid(t, outlook.spacing);
-    (outlook.planes.mark(&cuboid), planes.mark(&cuboid))
+    fn nest(&self) {
+        priority_laws();
+    }
 }

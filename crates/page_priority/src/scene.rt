@@ -2,13 +2,14 @@
 
 ghost use Rattle.std.specs.Prelude.{◌≡◌, ◌↔◌, ◌+◌, ◌-◌, ◌*◌, ◌/◌, ◌<◌, ◌≤◌, ◌^◌, IsSome, IfSome, IsTrue};
 ghost use Rattle.mesh_defs.specs.Triangle.{level_of};
+ghost use Rattle.cull_marks.specs.Cuboid.{as_box, IsWithinReach};
 ghost use Rattle.view_priority.specs.Meter.{counted};
-ghost use Rattle.page_priority.specs.Loaded.{is_open, loaded_wedge, loaded_mark, loaded_distance, loaded_priority};
-ghost use Rattle.page_priority.specs.Loaded.{loaded_readings};
+ghost use Rattle.page_priority.specs.Loaded.{is_open, loaded_wedge, loaded_box, loaded_mark, loaded_distance};
+ghost use Rattle.page_priority.specs.Loaded.{loaded_priority, loaded_readings};
 ghost use Rattle.page_priority.specs.Scene.{loaded_in};
 
 use crate::{LONGEST_WAY, Viewpoint, nesting_laws};
-use bintree_addr::{Rank, Tri};
+use bintree_addr::{Cuboid, Rank, Tri};
 use page_store::PageStore;
 use std::marker::Model;
 use view_priority::{Bounds, Factors, Meter};
@@ -74,6 +75,23 @@ impl<'a> LoadedScene<'a> {
                 (LONGEST_WAY, Bounds { hi, lo })
             }
         }
+    }
+
+    /// The box of a triangle, if it is open.
+    ///
+    /// Its ends are in world units.
+    ///
+    /// Cost (not proved): that of `PageStore::wedge`, and a step a level.
+    pub fn cuboid(&self, t: Tri) -> Option<Cuboid>
+        requires level { level_of t ≤ 2 * self.now.store.large }
+        ensures opened { IsSome result ↔ IsTrue (is_open (loaded_in self.now) t) }
+        ensures value { IfSome result (λ c. as_box c ≡ loaded_box (loaded_in self.now) t) }
+        ensures reach { IfSome result (λ c. IsWithinReach (2 ^ 24) (as_box c)) }
+    {
+        nesting_laws();
+        let wedge = self.store.wedge(t)?;
+        let n = self.store.large();
+        Some(self.viewpoint.cuboid(n, t, wedge.low, wedge.high))
     }
 
     /// What decides the priority of a triangle, if it is open.

@@ -66,8 +66,8 @@ impl<'a> Viewpoint<'a> {
         }
     }
 
-    // The box around the part of the surface that a triangle with these heights stands for.
-    fn cuboid(&self, n: u32, t: Tri, low: u16, high: u16) -> Cuboid
+    /// The box around the part of the surface that a triangle with these heights stands for.
+    pub(crate) fn cuboid(&self, n: u32, t: Tri, low: u16, high: u16) -> Cuboid
         requires in_grid { (1 ≤ n) × (n ≤ GREATEST_LEVEL) }
         requires level { level_of t ≤ 2 * n }
         requires ordered { low ≤ high }

@@ -1,3 +1,4 @@
 pub mod Sight
 pub mod Expiry
 pub mod Advance
+pub mod Turn

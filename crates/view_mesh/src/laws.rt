@@ -1,13 +1,20 @@
-//! Laws of stamps, as clauses of functions with empty bodies.
+//! Laws of stamps and of frames, as clauses of functions with empty bodies.
 
-ghost use Rattle.std.specs.Prelude.{◌≡◌, ℕ, ◌+◌, Bool, true, false, None};
+ghost use Rattle.std.specs.Prelude.{◌≡◌, ℕ, ◌+◌, Bool, true, false, None, List};
 ghost use Rattle.mesh_defs.specs.Triangle.{IsAddress};
 ghost use Rattle.mesh_defs.specs.State.{move_length};
+ghost use Rattle.mesh_defs.specs.Falling.{IsFalling};
+ghost use Rattle.mesh_defs.specs.GridSet.{IsGridSet};
+ghost use Rattle.mesh_laws.specs.Slots.{IsPool};
 ghost use Rattle.mesh_laws.specs.Stamps.{ReadingsHold, StampsHold};
-ghost use Rattle.deferred_loop.specs.Promise.{AreStampsGood};
+ghost use Rattle.deferred_loop.specs.declared.frame.Steps.{Steps};
+ghost use Rattle.deferred_loop.specs.Promise.{IsAtLeast, AreStampsGood};
+ghost use Rattle.deferred_loop.specs.Seen.{SeenMesh};
 ghost use Rattle.roam_mesh.specs.Mesh.{MeshState, stamp_of, seen_of, OnlyEntriesStamped};
+ghost use Rattle.roam_mesh.specs.Chosen.{SparesChosen};
 ghost use Rattle.view_mesh.specs.Sight.{Sight, priority_now, IsSamePriority, AreBracketed, IsSound};
 ghost use Rattle.view_mesh.specs.Expiry.{IsExpired, AreAllExpired};
+ghost use Rattle.view_mesh.specs.Advance.{IsAdvanced};
 
 use view_priority::view_laws;
 
@@ -55,4 +62,18 @@ pub fn expiry_laws()
     ensures same { (before after : MeshState) (expired others : ℕ → Bool) → OnlyEntriesStamped before →
         ((a : ℕ) → IsAddress before.pool.n a → expired a ≡ others a) →
         IsExpired before after expired → IsExpired before after others }
+{}
+
+/// A frame after another, with nothing changed in between, does nothing.
+///
+/// It makes no step and asks nothing, whatever is counted (`frame`): where the mesh stays, no stamp is another (`asked`),
+/// and no frame from a closed set merges a diamond that holds a triangle which greedy splitting picks (`spares`).
+pub fn still_laws()
+    ensures frame { (s : Sight) (budget odometer : ℕ) (before after : MeshState) (steps : Steps)
+        (count more asked : ℕ) → IsSound s → after.pool.n ≡ s.n → IsPool after.pool.n after.pool.pairs →
+        IsAdvanced s budget odometer before after steps count more →
+        IsAdvanced s budget odometer after after (record steps { splits = 0; merges = 0 }) asked asked }
+    ensures asked { (s : SeenMesh) (count : ℕ) → IsAtLeast s s count count }
+    ensures spares { (n budget : ℕ) (priority : ℕ → ℕ) (start last : List ℕ) → IsGridSet n start →
+        IsFalling n priority → SparesChosen n budget priority start last }
 {}

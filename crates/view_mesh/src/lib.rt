@@ -10,10 +10,14 @@ mod area;
 mod frame;
 mod laws;
 mod listed;
+mod room;
+mod turn;
 mod walk;
 
 pub use area::{expire_area, expire_each};
 pub use frame::advance;
-pub use laws::{expiry_laws, sight_laws};
+pub use laws::{expiry_laws, sight_laws, still_laws};
 pub use listed::expire_listed;
+pub use room::leaf_room;
+pub use turn::{Boxes, expire_turned};
 pub use walk::{Expiring, Expiry, expire_by};

@@ -5,8 +5,7 @@ use Rattle.mesh_laws.specs.Slots.{address_at, has_children, split_set}
 use Rattle.mesh_laws.proofs.DescentLemmas.{IsDown}
 use Rattle.frame_loop.specs.Turn.{mark_under}
 use Rattle.frame_loop.proofs.LeafListLemmas.{when_some, children_below, leaf_at}
-use Rattle.frame_loop.proofs.TurnLemmas.{IsPassedOn}
-use Rattle.frame_loop.proofs.InheritLemmas.{HasMarks-append, HasMarks-few, HasMarks-below, HasMarks-leaf}
+use Rattle.frame_loop.proofs.InheritLemmas.{IsPassedOn, HasMarks-append, HasMarks-few, HasMarks-below, HasMarks-leaf}
 use Rattle.frame_loop.proofs.marks.+count_under.Goals as goal
 
 pub mark-own-requires : goal.mark-own-requires

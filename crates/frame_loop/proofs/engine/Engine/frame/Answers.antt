@@ -13,7 +13,7 @@ use Rattle.frame_loop.specs.Changes.{no_changes, changes_of, AreChangesOf}
 use Rattle.frame_loop.proofs.PoolLemmas.{members_leaves_at}
 use Rattle.frame_loop.specs.Engine.{EngineState, IsStill, engine_of, mesh_seen}
 use Rattle.frame_loop.specs.declared.note.FrameNote.{FrameNote}
-use Rattle.frame_loop.proofs.StillLemmas.{still_after, still_on, still_engine, spared}
+use Rattle.frame_loop.proofs.StillLemmas.{still_after, still_on, still_engine}
 use Rattle.frame_loop.proofs.engine.Engine.frame.Goals as goal
 
 pub invariant_of-self : goal.invariant_of-self
@@ -52,7 +52,7 @@ returns-in-Some-clause-certificate c =
 
 pub returns-in-Some-clause-spares : goal.returns-in-Some-clause-spares
 returns-in-Some-clause-spares c = rw (← c.self.view_is)
-    (spared _ _ _ _ _ (subst (λ k. IsGridSet k (pool_members c.self.inside.mesh.pool)) c.self.invariant.0.n
+    (c.still_laws.ensures.spares _ _ _ _ _ (subst (λ k. IsGridSet k (pool_members c.self.inside.mesh.pool)) c.self.invariant.0.n
     (split_list-closed c.self.inside.mesh.pool.n c.self.inside.mesh.pool.pairs c.pool-pool.ensures.valid))
     (c.scene_laws.ensures.falls c.self.inside.outlook))
 
@@ -70,7 +70,7 @@ invariant_of-self-2 c = (
       (sym c.without_steps.ensures ∙ same_Some c.without_steps.result note is)
       (subst (λ (z : EngineState). IsStill z (record c.frame_anew-told.result { splits = 0; merges = 0 }))
       (sym c.self-2.view_is)
-      (still_after c.args.self.now c.frame_anew-told.new.self c.frame_anew-told.result c.frame_anew-told.ensures.done)),
+      (still_after c.still_laws.ensures.asked c.args.self.now c.frame_anew-told.new.self c.frame_anew-told.result c.frame_anew-told.ensures.done)),
 )
 
 pub returns-clause-unblocked : goal.returns-clause-unblocked
