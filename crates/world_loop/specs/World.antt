@@ -1,6 +1,7 @@
 -- A world between two calls: what is loaded of a terrain, a view of it, and the mesh that follows the view.
 -- All of it is this project's own.
--- Words: WorldState, loaded_of, sight_of, priority_in, is_split, mesh_seen, IsWorld, IsWorn, IsFrameDone.
+-- Words: WorldState, world_of, loaded_of, sight_of, priority_in, is_split, mesh_seen, IsWorld, IsWorn, IsFrameDone,
+-- IsStill.
 use Rattle.std.specs.Prelude.{◌≡◌, ◌⊎◌, ℕ, ◌*◌, ◌^◌, ◌≤◌, min, Bool, List, length}
 use Rattle.mesh_defs.specs.declared.counters.TheConstants.{CHANGES_AT_FRAME, LONGEST_WAY}
 use Rattle.mesh_defs.specs.ClosedSet.{leaves_of, among}
@@ -23,6 +24,17 @@ pub record WorldState : Type 0 where
   pub most : ℕ
   pub mesh : MeshState
   pub odometer : ℕ
+
+-- a world, of the values that it is made of
+abbrev pub world_of : Store → View → ℕ → ℕ → MeshState → ℕ → WorldState
+world_of store view budget most mesh odometer = record {
+  store = store;
+  view = view;
+  budget = budget;
+  most = most;
+  mesh = mesh;
+  odometer = odometer;
+}
 
 -- what a mesh follows over it
 abbrev pub sight_of : LoadedState → Sight
@@ -76,3 +88,7 @@ pub record IsFrameDone (before after : WorldState) (note : WorldNote) : Type 0 w
   pub mesh : IsAdvanced (sight_of (loaded_of before)) before.budget before.odometer before.mesh after.mesh note.steps
       0 note.evaluations
   pub triangles : note.triangles ≡ length (mesh_seen after)
+
+-- A frame from here does nothing, and this is what it tells.
+abbrev pub IsStill : WorldState → WorldNote → Type 0
+IsStill w note = IsFrameDone w w note

@@ -25,7 +25,7 @@ use crate::world::World;
 use mesh_defs::CHANGES_AT_FRAME;
 use page_priority::{LoadedGauge, LoadedScene, Viewpoint, loaded_laws};
 use roam_mesh::Mesh;
-use view_mesh::advance;
+use view_mesh::{advance, still_laws};
 use view_priority::Meter;
 
 impl World {
@@ -36,8 +36,8 @@ impl World {
     /// diamond is merged that holds a triangle which greedy splitting picks (`spares`). It splits open triangles alone
     /// (`open`), so each of its vertices is a point of a loaded page (`vertices`).
     ///
-    /// Cost (not proved): that of `Mesh::advance`, and a step for each coarser page of a triangle that is asked. Takes no
-    /// memory.
+    /// Cost (not proved): that of `Mesh::advance`, and a step for each coarser page of a triangle that is asked; nothing
+    /// where no call has changed what is loaded or seen since the frame before. Takes no memory.
     pub fn frame(&mut self) -> Result<WorldNote, Worn>
         ensures worn { IsErr result ↔ IsWorn self.old }
         ensures err { IsErr result → self.new ≡ self.old }
@@ -61,11 +61,35 @@ impl World {
             IsTrue (is_mesh_vertex self.new.store.large (mesh_seen self.new) p) →
             IsLoadedPoint (pages_of self.new.store) p) }
     {
-        world_laws();
         loaded_laws();
+        let _valid = self.store.large();
         if self.is_worn() {
             return Err(Worn);
         }
+        Ok(self.frame_due())
+    }
+
+    /// The same, where the counters leave room for it: it does nothing where nothing has changed.
+    fn frame_due(&mut self) -> WorldNote
+        requires splits { self.old.mesh.pool.splits < CHANGES_AT_FRAME }
+        requires merges { self.old.mesh.pool.merges < CHANGES_AT_FRAME }
+        ensures { IsFrameDone self.old self.new result }
+    {
+        if let Some(note) = self.still {
+            self.list.stay();
+            return note;
+        }
+        self.frame_anew()
+    }
+
+    /// The same, whatever has changed.
+    fn frame_anew(&mut self) -> WorldNote
+        requires splits { self.old.mesh.pool.splits < CHANGES_AT_FRAME }
+        requires merges { self.old.mesh.pool.merges < CHANGES_AT_FRAME }
+        ensures { IsFrameDone self.old self.new result }
+    {
+        world_laws();
+        still_laws();
         let _valid = self.store.large();
         let viewpoint = Viewpoint {
             camera: &self.camera,
@@ -80,7 +104,8 @@ impl World {
         let _before = self.mesh.pool();
         let note = advance_mesh(&mut self.mesh, scene, self.budget, self.odometer);
         list_changed(self.mesh.pool(), self.mesh.changed(), &mut self.list);
-        Ok(note)
+        self.still = Some(note.without_steps());
+        note
     }
 
     /// Whether the counters of the mesh leave no room for another frame.

@@ -6,18 +6,22 @@
 
 #![tactic(auto)]
 
+mod draws;
+mod edits;
 mod frame;
 mod laws;
 mod listing;
+mod look;
 mod moves;
 mod note;
 mod paging;
 mod world;
 
 pub use cull_marks::Planes;
+pub use draws::{Draw, draw_laws};
 pub use laws::world_laws;
 pub use mesh_defs::{NoMemory, Point};
 pub use note::{WorldNote, Worn};
-pub use page_store::{LoadFault, PageStore, PageWedges, UnloadFault};
+pub use page_store::{LoadFault, PageStore, PageTriangle, PageWedges, UnloadFault};
 pub use view_priority::Camera;
 pub use world::World;

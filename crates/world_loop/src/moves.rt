@@ -7,7 +7,6 @@ ghost use Rattle.view_priority.specs.Bounds.{viewed_from};
 ghost use Rattle.view_mesh.specs.Expiry.{IsExpired};
 
 use crate::world::World;
-use cull_marks::Planes;
 use mesh_defs::LONGEST_WAY;
 use view_mesh::{expire_each, expiry_laws, sight_laws};
 use view_priority::Camera;
@@ -31,6 +30,10 @@ impl World {
         sight_laws();
         expiry_laws();
         let way = self.camera.way_to(camera);
+        if way == 0 {
+            return;
+        }
+        self.still = None;
         self.camera = camera;
         if self.odometer + way > LONGEST_WAY {
             expire_each(&mut self.mesh);
@@ -46,38 +49,33 @@ impl World {
         requires few { budget ≤ self.old.most }
         ensures { self.new ≡ record self.old { budget = budget } }
     {
+        if budget == self.budget {
+            return;
+        }
+        self.still = None;
         self.budget = budget;
     }
 
-    /// Puts a whole set of planes in force in the place of those before, and expires all stamps.
+    /// Puts another threshold in force, and expires all stamps.
     ///
+    /// The next frames split no triangle whose thickness over distance is at most that but where a neighbour forces it.
+    /// Does nothing where the threshold is in force.
     /// Cost (not proved): a step for each triangle of the mesh.
-    pub fn look(&mut self, planes: &Planes)
-        ensures rest { self.new ≡ record self.old {
-          view = record self.old.view { planes = planes.now };
-          mesh = self.new.mesh;
-        } }
-        ensures mesh { IsExpired self.old.mesh self.new.mesh (λ a. true) }
-    {
-        sight_laws();
-        expiry_laws();
-        expire_each(&mut self.mesh);
-        self.planes.put(planes);
-    }
-
-    /// Puts another threshold in force, and expires all stamps: the next frames split no triangle whose thickness over
-    /// distance is at most that but where a neighbour forces it.
-    ///
-    /// Cost (not proved): that of `look`.
     pub fn threshold(&mut self, threshold: u64)
+        ensures same { threshold ≡ self.old.view.threshold → self.new ≡ self.old }
         ensures rest { self.new ≡ record self.old {
           view = record self.old.view { threshold = threshold };
           mesh = self.new.mesh;
         } }
-        ensures mesh { IsExpired self.old.mesh self.new.mesh (λ a. true) }
+        ensures mesh { (threshold ≡ self.old.view.threshold → ⊥) →
+            IsExpired self.old.mesh self.new.mesh (λ a. true) }
     {
         sight_laws();
         expiry_laws();
+        if threshold == self.threshold {
+            return;
+        }
+        self.still = None;
         expire_each(&mut self.mesh);
         self.threshold = threshold;
     }

@@ -54,6 +54,7 @@ impl World {
         let _only = self.mesh.pool();
         match self.store.load(q, square, page) {
             Ok(()) => {
+                self.still = None;
                 expire_area(&mut self.mesh, area_of(&self.store, q, square));
                 Ok(())
             }
@@ -89,6 +90,7 @@ impl World {
         match self.store.unload(q, square) {
             Ok(page) => {
                 let _after = self.store.large();
+                self.still = None;
                 expire_area(&mut self.mesh, area_of(&self.store, q, square));
                 Ok(page)
             }

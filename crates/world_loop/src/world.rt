@@ -5,10 +5,10 @@ ghost use Rattle.mesh_defs.specs.View.{start_view};
 ghost use Rattle.wedgie_tree.specs.declared.wedges.TheConstants.{GREATEST_SPACING};
 ghost use Rattle.triangle_pool.specs.declared.pool.TheConstants.{MOST_LEAVES};
 ghost use Rattle.mesh_laws.specs.Slots.{split_set};
-ghost use Rattle.mesh_defs.specs.declared.level.TheConstants.{GREATEST_LEVEL};
 ghost use Rattle.view_mesh.specs.Sight.{AreBracketed};
 ghost use Rattle.world_loop.specs.World.{loaded_of, sight_of, mesh_seen};
 
+use crate::note::WorldNote;
 use bintree_addr::Tri;
 use cull_marks::Planes;
 use mesh_arrays::LeafList;
@@ -18,6 +18,7 @@ use roam_mesh::Mesh;
 use std::alloc::Global;
 use std::marker::Model;
 use triangle_pool::Pool;
+use view_mesh::leaf_room;
 use view_priority::Camera;
 
 /// What is loaded of a terrain, a view of it, and the mesh that follows the view.
@@ -39,36 +40,29 @@ pub struct World {
     pub(crate) budget: u32,
     /// How far the camera has gone since stamps were last given up, added up over the three axes.
     pub(crate) odometer: u64,
+    /// What a frame would tell, where nothing has changed since the last one.
+    pub(crate) still: Option<WorldNote>,
 }
 
 impl Model for World {
-    ghost use Rattle.std.specs.Prelude.{◌≡◌};
+    ghost use Rattle.std.specs.Prelude.{◌≡◌, Some};
     ghost use Rattle.mesh_defs.specs.ClosedSet.{leaves_of};
     ghost use Rattle.mesh_laws.specs.Slots.{split_set};
     ghost use Rattle.view_priority.specs.Camera.{view_above};
-    ghost use Rattle.world_loop.specs.World.{WorldState, IsWorld};
+    ghost use Rattle.world_loop.specs.declared.note.WorldNote.{WorldNote};
+    ghost use Rattle.world_loop.specs.World.{WorldState, world_of, IsWorld, IsStill};
 
     ghost Value = { WorldState };
 
-    ghost view = { λ w. record {
-      store = w.store;
-      view = view_above w.threshold w.camera w.spacing w.planes;
-      budget = w.budget;
-      most = w.most;
-      mesh = w.mesh;
-      odometer = w.odometer;
-    } };
+    ghost view = { λ w. world_of w.store (view_above w.threshold w.camera w.spacing w.planes) w.budget w.most w.mesh
+        w.odometer };
 
-    ghost invariant = { λ w. IsWorld (record {
-      store = w.store;
-      view = view_above w.threshold w.camera w.spacing w.planes;
-      budget = w.budget;
-      most = w.most;
-      mesh = w.mesh;
-      odometer = w.odometer;
-    })
+    ghost invariant = { λ w. IsWorld (world_of w.store
+        (view_above w.threshold w.camera w.spacing w.planes) w.budget w.most w.mesh w.odometer)
         × (w.list.leaves ≡ leaves_of w.store.large (split_set w.mesh.pool.pairs))
-        × (w.list.most ≡ w.mesh.pool.most) };
+        × (w.list.most ≡ w.mesh.pool.most)
+        × ((note : WorldNote) → w.still ≡ Some note → IsStill (world_of w.store
+        (view_above w.threshold w.camera w.spacing w.planes) w.budget w.most w.mesh w.odometer) note) };
 }
 
 impl World {
@@ -94,7 +88,7 @@ impl World {
         ensures odometer { IfOk result (λ w. w.odometer ≡ 0) }
     {
         let n = store.large();
-        let room = room(n, budget);
+        let room = leaf_room(n, budget);
         let mesh = Mesh::make(alloc, n, room)?;
         let list = LeafList::new(alloc, mesh.pool(), room)?;
         Ok(World {
@@ -108,6 +102,7 @@ impl World {
             most: budget,
             budget,
             odometer: 0,
+            still: None,
         })
     }
 
@@ -151,15 +146,4 @@ impl World {
     {
         self.mesh.pool()
     }
-}
-
-/// For how many leaves a mesh has room: for those of the budget, or for all that there can be.
-fn room(n: u32, budget: u32) -> u32
-    requires in_grid { n ≤ GREATEST_LEVEL }
-    requires some { 2 ≤ budget }
-    ensures value { result ≡ min budget (2 * 4 ^ n) }
-    ensures some { 2 ≤ result }
-    ensures few { result ≤ budget }
-{
-    budget.min(2 * 4u32.pow(n))
 }

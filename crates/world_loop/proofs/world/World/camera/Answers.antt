@@ -1,4 +1,5 @@
 use Rattle.std.proofs.Common.{◌+◌, refl, sym, subst, arith}
+use Rattle.std.proofs.lemmas.Option.{none-some}
 use Rattle.view_priority.specs.Camera.{view_above}
 use Rattle.view_mesh.specs.Sight.{AreBracketed}
 use Rattle.page_priority.specs.Scene.{TerrainState, loaded_in}
@@ -28,4 +29,5 @@ invariant_of-self-2 c =
       },
       c.self.invariant.1,
       c.self.invariant.2,
+      λ note is. absurd (none-some note is),
     )

@@ -1,10 +1,12 @@
 use Rattle.std.proofs.Common.{◌≡◌, ℕ, refl, sym, ◌∙◌, ap, subst, arith}
+use Rattle.std.proofs.lemmas.Option.{none-some}
+use Rattle.mesh_defs.specs.declared.point.Point.{Point}
 use Rattle.mesh_defs.specs.State.{Area}
 use Rattle.mesh_defs.specs.Triangle.{corners_of}
 use Rattle.bintree_laws.specs.Areas.{overlaps}
 use Rattle.triangle_pool.specs.Slots.{PoolState}
 use Rattle.page_laws.specs.Pages.{page_area}
-use Rattle.page_store.specs.Store.{pages_of}
+use Rattle.page_store.specs.Store.{grid_at, pages_of}
 use Rattle.page_store.specs.Load.{IsLoadFault}
 use Rattle.page_priority.specs.Scene.{TerrainState, loaded_in}
 use Rattle.view_priority.specs.Camera.{view_above}
@@ -55,13 +57,23 @@ invariant_of-self c =
       },
       rw (pool, large) c.self.invariant.1,
       rw pool c.self.invariant.2,
+      λ note is. absurd (none-some note is),
     )
+
+pub invariant_of-self-in-Err : goal.invariant_of-self-in-Err
+invariant_of-self-in-Err c =
+    let same : c.load.new.self ≡ c.self.inside.store = c.in-Err.ensures.err in rw same c.self.invariant
 
 pub returns-in-Ok-clause-mesh : goal.returns-in-Ok-clause-mesh
 returns-in-Ok-clause-mesh c =
     subst (λ (w : WorldState). IsExpired w.mesh c.expire_area.new.mesh
     (λ a. overlaps (corners_of w.store.large a) (page_area (pages_of w.store) c.args.q c.args.square))) c.self.view_is
     (met c)
+
+pub returns-in-Ok-clause-others : goal.returns-in-Ok-clause-others
+returns-in-Ok-clause-others c =
+    subst (λ (w : WorldState). (r : ℕ) (u : Point) → (r ≡ c.args.q → u ≡ c.args.square → ⊥) →
+    grid_at c.load.new.self r u ≡ grid_at w.store r u) c.self.view_is c.in-Ok.ensures.others
 
 pub returns-in-Err-clause-fault : goal.returns-in-Err-clause-fault
 returns-in-Err-clause-fault c =

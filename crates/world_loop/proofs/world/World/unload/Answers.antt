@@ -1,4 +1,5 @@
 use Rattle.std.proofs.Common.{◌≡◌, ℕ, refl, sym, ◌∙◌, ap, subst, arith}
+use Rattle.std.proofs.lemmas.Option.{none-some}
 use Rattle.mesh_defs.specs.State.{Area}
 use Rattle.mesh_defs.specs.Triangle.{corners_of}
 use Rattle.bintree_laws.specs.Areas.{overlaps}
@@ -62,7 +63,12 @@ invariant_of-self c =
       },
       rw (pool, large) c.self.invariant.1,
       rw pool c.self.invariant.2,
+      λ note is. absurd (none-some note is),
     )
+
+pub invariant_of-self-in-Err : goal.invariant_of-self-in-Err
+invariant_of-self-in-Err c =
+    let same : c.unload.new.self ≡ c.self.inside.store = c.in-Err.ensures.err in rw same c.self.invariant
 
 pub returns-in-Ok-clause-mesh : goal.returns-in-Ok-clause-mesh
 returns-in-Ok-clause-mesh c =
