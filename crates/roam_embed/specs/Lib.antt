@@ -17,3 +17,5 @@ pub mod Fitter
 pub mod FitWith
 pub mod Mosaics
 pub mod Worlds
+pub mod WorldDraws
+pub mod Edits

@@ -27,7 +27,8 @@ use Rattle.view_mesh.specs.Expiry.{IsExpired}
 use Rattle.page_store.specs.Store.{Store, page_at, grid_at, pages_of, height_in}
 use Rattle.page_store.specs.Load.{CanLoad}
 use Rattle.page_store.specs.Unload.{IsFree}
-use Rattle.world_loop.specs.World.{WorldState, priority_in, mesh_seen, IsWorn, IsFrameDone}
+use Rattle.world_loop.specs.World.{WorldState, loaded_of, priority_in, mesh_seen, IsWorn, IsFrameDone}
+use Rattle.world_loop.specs.Turn.{is_turned}
 use Rattle.world_loop.specs.declared.note.WorldNote.{WorldNote}
 use Rattle.roam_embed.specs.declared.answer.Answer.{Answer}
 use Rattle.roam_embed.specs.declared.answer.Answer.TheVariants.{Done, NoMemory, BadBudget, BadCamera, BadPlane}
@@ -82,7 +83,7 @@ pub record IsWorldCameraMoved (before after : WorldState) (place : CameraAt) (an
       IsExpired before.mesh after.mesh (λ a. true) × (after.odometer ≡ 0)
   pub kept : (answer ≡ Done → ⊥) → after ≡ before
 
--- just these planes are in force, and all stamps are expired
+-- just these planes are in force, and the stamps of what they turn are expired
 pub record AreWorldPlanesPut (before after : WorldState) (planes : List PlaneNumbers) (answer : Answer) : Type 0 where
   pub done : (answer ≡ Done) ↔ (All (λ p. IsPlane (plane_of p)) planes × (length planes ≤ MOST_PLANES))
   pub bad_plane : (answer ≡ BadPlane) ↔ (All (λ p. IsPlane (plane_of p)) planes → ⊥)
@@ -91,14 +92,15 @@ pub record AreWorldPlanesPut (before after : WorldState) (planes : List PlaneNum
     view = record before.view { planes = planes_of planes };
     mesh = after.mesh;
   }
-  pub expired : answer ≡ Done → IsExpired before.mesh after.mesh (λ a. true)
+  pub expired : answer ≡ Done → IsExpired before.mesh after.mesh (is_turned (loaded_of before) (planes_of planes))
   pub kept : (answer ≡ Done → ⊥) → after ≡ before
 
--- the threshold is replaced, and all stamps are expired
+-- the threshold is replaced, and all stamps are expired; nothing changes where it is in force
 pub record IsWorldThresholdPut (before after : WorldState) (ratio : ℕ) (answer : Answer) : Type 0 where
   pub done : answer ≡ Done
   pub put : after ≡ record before { view = record before.view { threshold = ratio }; mesh = after.mesh }
-  pub expired : IsExpired before.mesh after.mesh (λ a. true)
+  pub same : ratio ≡ before.view.threshold → after ≡ before
+  pub expired : (ratio ≡ before.view.threshold → ⊥) → IsExpired before.mesh after.mesh (λ a. true)
 
 -- the budget is replaced
 pub record IsWorldBudgetPut (before after : WorldState) (triangles : ℕ) (answer : Answer) : Type 0 where

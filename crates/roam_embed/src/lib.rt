@@ -12,6 +12,7 @@ mod border;
 mod bytes;
 mod certificate;
 mod changed;
+mod draws;
 mod fitted;
 mod fitter;
 mod fitting;
@@ -32,6 +33,7 @@ mod world;
 pub use answer::Answer;
 pub use certificate::tell_certificate;
 pub use changed::tell_changes;
+pub use draws::tell_world_draws;
 pub use fitted::tell_fit_with;
 pub use fitter::{
     Fitter, fit_points, open_fitter, refine_points, restore_mesh, tell_border,
@@ -40,7 +42,10 @@ pub use fitter::{
 pub use fitting::{GREATEST_TOLERANCE, tell_fit};
 pub use frame_loop::MOST_FRAMES;
 pub use frames::{make_frame, tell_standing};
-pub use ground::{GREATEST_CHANGE, put_height, raise_area};
+pub use ground::{
+    GREATEST_CHANGE, put_height, raise_area, raise_page, raise_world, set_page_height,
+    set_world_height,
+};
 pub use laws::{compact_laws, limit_laws};
 pub use looking::put_planes;
 pub use make::open_engine;
@@ -57,4 +62,4 @@ pub use world::{
     load_page, make_world_frame, move_world_camera, open_world, put_world_budget, put_world_planes,
     put_world_threshold, tell_world_leaves, unload_page,
 };
-pub use world_loop::World;
+pub use world_loop::{Draw, World};
