@@ -20,8 +20,9 @@ extern "C" {
 #endif
 
 /* What calls answer. Where two causes hold it is ROAM_IS_EMPTY, else the lesser number, and ROAM_NO_MEMORY last, but in
- * roam_world_unload, where that comes before the others. A call that answers anything but ROAM_OK has changed nothing and
- * written nothing, but that roam_world_open loses its page where memory runs out. */
+ * roam_world_unload, where that comes before the others, and roam_world_draws, where ROAM_NOT_THERE comes before ROAM_NO_ROOM.
+ * A call that answers anything but ROAM_OK has changed nothing and written nothing, but that roam_world_open loses its page
+ * where memory runs out, and that roam_world_draws tells how much room it needs. */
 enum roam_answer {
     ROAM_OK = 0,
     ROAM_NO_MEMORY = 1,       /* out of memory */
@@ -316,10 +317,20 @@ typedef struct roam_world_note {
     uint32_t spare;                /* 0 */
 } roam_world_note;
 
+/* A run of triangles that are of one page: `triangles` from the triangle `first` on, three indices each. */
+typedef struct roam_draw {
+    uint32_t q, column, row;       /* the page's resolution, and the column and row of its square */
+    uint32_t first, triangles;
+} roam_draw;
+
 /* Makes a page of `count` heights, rows from the far side as roam_open takes them. They are copied; all memory of a page is taken
- * here, about 7 bytes a height. ROAM_BAD_GRID, ROAM_NO_MEMORY. A full handle lets go of what it had, unless the call fails. */
+ * here, about 3 bytes a height. ROAM_BAD_GRID, ROAM_NO_MEMORY. A full handle lets go of what it had, unless the call fails. */
 int32_t roam_page_make(roam_page *p, const uint16_t *heights, size_t count);
 int32_t roam_page_drop(roam_page *p);
+
+/* As roam_set and roam_raise, in steps of the page's own grid. ROAM_IS_EMPTY: the handle has no page. Takes no memory. */
+int32_t roam_page_set_height(roam_page *p, uint32_t x, uint32_t y, uint16_t height);
+int32_t roam_page_raise(roam_page *p, uint32_t x0, uint32_t y0, uint32_t x1, uint32_t y1, int32_t dz);
 
 /* Opens a world of a terrain of 2^large grid steps a side, of which the page covers the whole; the page goes out of its handle.
  * `budget` is the most triangles that a mesh may have, `spacing` the length of a grid step in units of height. ROAM_IS_EMPTY: the
@@ -343,8 +354,13 @@ int32_t roam_world_load(roam_world *w, uint32_t q, uint32_t column, uint32_t row
  * these two: there is none for what a full handle has, a block of fixed size. */
 int32_t roam_world_unload(roam_world *w, uint32_t q, uint32_t column, uint32_t row, roam_page *p);
 
-/* As roam_camera, roam_look, roam_threshold and roam_budget; (0, 0) is the near left point of the terrain. A way has no end here, and
- * each change of planes or threshold asks anew for every triangle. */
+/* As roam_set and roam_raise, in grid steps of the terrain, in each loaded page that has such a point; (0, 0) is the near left point.
+ * ROAM_NOT_THERE: no loaded page has one. A page that is loaded later has to agree, so change those too that are not loaded, by
+ * roam_page_set_height and roam_page_raise, in the same order. Takes no memory. */
+int32_t roam_world_set_height(roam_world *w, uint32_t x, uint32_t y, uint16_t height);
+int32_t roam_world_raise(roam_world *w, uint32_t x0, uint32_t y0, uint32_t x1, uint32_t y1, int32_t dz);
+
+/* As roam_camera, roam_look, roam_threshold and roam_budget; (0, 0) is the near left point of the terrain. A way has no end here. */
 int32_t roam_world_camera(roam_world *w, int64_t x, int64_t y, int64_t z);
 int32_t roam_world_look(roam_world *w, const roam_plane *planes, size_t count);
 int32_t roam_world_threshold(roam_world *w, uint64_t ratio);
@@ -357,6 +373,15 @@ int32_t roam_world_frame(roam_world *w, roam_world_note *out);
 
 /* As roam_leaves: the addresses are those of a grid of 2^large grid steps a side. */
 int32_t roam_world_leaves(roam_world *w, uint32_t *out, size_t places, size_t *triangles);
+
+/* Writes what to draw: runs of triangles in the order of roam_world_leaves, each run of one page, the finest loaded one that its
+ * triangles lie in; and three indices for each triangle as roam_indices writes them, but places among the heights of that page as
+ * roam_page_make took them. So one vertex buffer for each page, filled when it is loaded, serves every frame. Neighbouring runs
+ * are of different pages, and a page may have several. There is room for `places` runs and `room` indices. ROAM_NOT_THERE: a page
+ * that the mesh needs was unloaded since the last frame, so make one. ROAM_NO_ROOM: *draws and *triangles are what is needed;
+ * there are no more runs than triangles. Costs a step for each coarser page of a triangle, twice; takes no memory. */
+int32_t roam_world_draws(roam_world *w, roam_draw *out, size_t places, size_t *draws, uint32_t *indices, size_t room,
+                         size_t *triangles);
 
 #ifdef __cplusplus
 }

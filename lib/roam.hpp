@@ -13,6 +13,7 @@
 #include <iterator>
 #include <stdexcept>
 #include <string>
+#include <tuple>
 #include <utility>
 #include <vector>
 
@@ -344,6 +345,7 @@ public:
 /// The heights of a page of a terrain, or nothing: made on any thread, and put into a world.
 class page : public owner<roam_page, roam_page_drop> {
     friend class world;
+    friend class pager; // of roam_pager.hpp
 
 public:
     page() noexcept = default;
@@ -353,6 +355,13 @@ public:
         return told(roam_page_make(&h, some(heights), size(heights, count)), "make");
     }
     template <class Heights> result make(const Heights &heights) { return make(std::data(heights), std::size(heights)); }
+    /// In steps of the page's own grid.
+    result set_height(uint32_t x, uint32_t y, uint16_t height) {
+        return told(roam_page_set_height(&h, x, y, height), "set_height");
+    }
+    result raise(uint32_t x0, uint32_t y0, uint32_t x1, uint32_t y1, int32_t dz) {
+        return told(roam_page_raise(&h, x0, y0, x1, y1, dz), "raise");
+    }
 
 #ifndef ROAM_ANSWERS
     template <class Heights> explicit page(const Heights &heights) { make(heights); }
@@ -361,6 +370,8 @@ public:
 
 /// One mesh over a terrain of pages that come and go, or nothing. Coordinates and units are those of roam.h.
 class world : public owner<roam_world, roam_world_close> {
+    friend class pager;
+
 public:
     world() noexcept = default;
 
@@ -378,6 +389,13 @@ public:
     result unload(page &p, uint32_t q, uint32_t column, uint32_t row) {
         return told(roam_world_unload(&h, q, column, row, &p.h), "unload");
     }
+    /// In grid steps of the terrain, in each loaded page that has such a point; pages that are loaded later have to agree.
+    result set_height(uint32_t x, uint32_t y, uint16_t height) {
+        return told(roam_world_set_height(&h, x, y, height), "set_height");
+    }
+    result raise(uint32_t x0, uint32_t y0, uint32_t x1, uint32_t y1, int32_t dz) {
+        return told(roam_world_raise(&h, x0, y0, x1, y1, dz), "raise");
+    }
     result camera(int64_t x, int64_t y, int64_t z) { return told(roam_world_camera(&h, x, y, z), "camera"); }
     result look(const roam_plane *planes, size_t count) { // in the place of those before
         return told(roam_world_look(&h, some(planes), size(planes, count)), "look");
@@ -387,7 +405,17 @@ public:
     result budget(uint32_t triangles) { return told(roam_world_budget(&h, triangles), "budget"); }
     result frame(roam_world_note &out) { return told(roam_world_frame(&h, &out), "frame"); }
     result leaves(uint32_t *out, size_t places, size_t &n) { return listed(roam_world_leaves, out, places, n, "leaves"); }
+    /// Runs of triangles, each of one page; see roam_world_draws.
+    result draws(roam_draw *out, size_t places, size_t &runs, uint32_t *indices, size_t room, size_t &triangles) {
+        return told(runs_of(out, places, runs, indices, room, triangles), "draws");
+    }
 
+private:
+    int32_t runs_of(roam_draw *out, size_t places, size_t &runs, uint32_t *indices, size_t room, size_t &triangles) noexcept {
+        return roam_world_draws(&h, some(out), size(out, places), &runs, some(indices), size(indices, room), &triangles);
+    }
+
+public:
 #ifndef ROAM_ANSWERS
     world(page &coarsest, uint32_t large, uint32_t budget, uint32_t spacing) { open(coarsest, large, budget, spacing); }
     roam_world_note frame() { return noted(roam_world_frame, "frame"); }
@@ -397,6 +425,25 @@ public:
         const auto write = [&] { return roam_world_leaves(&h, out.data(), out.size(), &count); };
         told(with_room(out, write), "leaves");
         out.resize(count);
+    }
+    /// The same by page, in vectors made as long as is needed: one draw for each page that has triangles.
+    void draws(std::vector<roam_draw> &out, std::vector<uint32_t> &indices) {
+        const auto page_of = [](const roam_draw &d) { return std::make_tuple(d.q, d.column, d.row); };
+        std::vector<roam_draw> runs;
+        std::vector<uint32_t> corners;
+        size_t count = 0, triangles = 0;
+        if (runs_of(nullptr, 0, count, nullptr, 0, triangles) == ROAM_NO_ROOM) runs.resize(count), corners.resize(3 * triangles);
+        draws(runs.data(), runs.size(), count, corners.data(), corners.size(), triangles);
+        std::stable_sort(runs.begin(), runs.end(),
+                         [&](const roam_draw &a, const roam_draw &b) { return page_of(a) < page_of(b); });
+        out.clear(), indices.clear();
+        for (roam_draw run : runs) {
+            const uint32_t *from = corners.data() + 3 * size_t{run.first};
+            run.first = static_cast<uint32_t>(indices.size() / 3);
+            indices.insert(indices.end(), from, from + 3 * size_t{run.triangles});
+            if (!out.empty() && page_of(out.back()) == page_of(run)) out.back().triangles += run.triangles;
+            else out.push_back(run);
+        }
     }
 #endif
 };

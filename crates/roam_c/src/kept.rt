@@ -1,7 +1,11 @@
 //! What a handle may own.
 
+ghost use Rattle.std.specs.Prelude.{◌≡◌, ◌≢◌, MatchOption};
+ghost use Rattle.mesh_defs.specs.HeightField.{HeightField};
+
 use frame_loop::Engine;
 use roam_embed::{Fitter, Mosaic, Page, World};
+use std::mem::replace;
 
 /// What a handle owns.
 #[derive(Drop)]
@@ -18,4 +22,26 @@ pub enum Kept {
     World(World),
     /// Nothing, while a call makes something else of what was kept.
     Nothing,
+}
+
+/// Keeps this from now on.
+pub(crate) fn keep(kept: &mut Kept, now: Kept)
+    ensures { kept.new ≡ now }
+{
+    *kept = now;
+}
+
+/// Takes the page out, if that is what is kept.
+pub(crate) fn take_page(kept: &mut Kept) -> Option<Page>
+    ensures { MatchOption result
+        (((page : HeightField) → kept.old ≢ Kept.Page page) × (kept.new ≡ kept.old))
+        (λ page. kept.old ≡ Kept.Page page) }
+{
+    match replace(kept, Kept::Nothing) {
+        Kept::Page(page) => Some(page),
+        other => {
+            keep(kept, other);
+            None
+        }
+    }
 }

@@ -7,9 +7,11 @@
 
 #![tactic(auto)]
 
+mod draws;
 mod fitter;
 mod found;
 mod handle;
+mod heights;
 mod kept;
 mod life;
 mod lists;
@@ -21,6 +23,7 @@ mod state;
 mod told;
 mod worlds;
 
+pub use draws::roam_world_draws;
 pub use fitter::{
     roam_fit_with, roam_fitter_border, roam_fitter_close, roam_fitter_deviation, roam_fitter_fit,
     roam_fitter_indices, roam_fitter_leaves, roam_fitter_more, roam_fitter_open,
@@ -28,6 +31,7 @@ pub use fitter::{
 };
 pub use found::{roam_certificate, roam_fit};
 pub use handle::{Handle, crossing};
+pub use heights::{roam_page_raise, roam_page_set_height, roam_world_raise, roam_world_set_height};
 pub use kept::Kept;
 pub use life::{roam_close, roam_open};
 pub use lists::{roam_changed, roam_changes, roam_indices, roam_leaves};
@@ -37,7 +41,7 @@ pub use mosaics::{
 };
 pub use paging::{roam_world_load, roam_world_unload};
 pub use roam_embed::{
-    Deviation, Fitted, Frame, Mosaic, Page, PlaneNumbers, Required, Standing, Tile, World,
+    Deviation, Draw, Fitted, Frame, Mosaic, Page, PlaneNumbers, Required, Standing, Tile, World,
     WorldFrame,
 };
 pub use shapes::{roam_compact, roam_deviation, roam_positions, roam_strip};

@@ -4,13 +4,13 @@ ghost use Rattle.std.specs.Prelude.{◌≡◌, ◌≢◌, Some};
 ghost use Rattle.mesh_defs.specs.HeightField.{HeightField};
 ghost use Rattle.roam_c.specs.declared.kept.Kept.{Kept};
 ghost use Rattle.roam_c.specs.Handle.{OnKept, OnOther};
+ghost use Rattle.roam_embed.specs.Worlds.{IsUnloadAnswer, IsPageUnloaded};
 ghost use Rattle.roam_c.specs.Worlds.{IsKeptLoaded, IsPagePut, IsPageHanded};
 
 use crate::handle::{Handle, on, put, take};
-use crate::kept::Kept;
+use crate::kept::{Kept, keep, take_page};
 use roam_embed::{Answer, World, load_page, unload_page};
 use std::alloc::Global;
-use std::mem::replace;
 
 /// Puts the page of a handle into the square in this column and row of its resolution. The handle is empty then; after a
 /// refusal all is as before.
@@ -70,17 +70,14 @@ fn load_kept(world: &mut World, q: u32, column: u32, row: u32, kept: &mut Kept) 
     ensures other { ((page : HeightField) → kept.old ≢ Kept.Page page) →
         (world.new ≡ world.old) × (kept.new ≡ kept.old) × (result ≡ Answer.IsEmpty) }
 {
-    match replace(kept, Kept::Nothing) {
-        Kept::Page(page) => match load_page(world, q, column, row, page) {
-            Ok(()) => Answer::Done,
-            Err((answer, page)) => {
-                *kept = Kept::Page(page);
-                answer
-            }
-        },
-        other => {
-            *kept = other;
-            Answer::IsEmpty
+    let Some(page) = take_page(kept) else {
+        return Answer::IsEmpty;
+    };
+    match load_page(world, q, column, row, page) {
+        Ok(()) => Answer::Done,
+        Err((answer, page)) => {
+            keep(kept, Kept::Page(page));
+            answer
         }
     }
 }
@@ -120,15 +117,30 @@ fn unload_held(
 ) -> Answer
     ensures { IsPageHanded world.old world.new q (record { x = column; y = row }) p.old.value p.new.value result }
 {
-    match Box::new(alloc, Kept::Nothing) {
-        Ok(mut kept) => match unload_page(world, q, column, row) {
-            Ok(page) => {
-                *kept.as_mut() = Kept::Page(page);
-                put(p, kept, alloc);
-                Answer::Done
-            }
-            Err(answer) => answer,
-        },
-        Err(_) => Answer::NoMemory,
+    let Ok(mut kept) = Box::new(alloc, Kept::Nothing) else {
+        return Answer::NoMemory;
+    };
+    match unload_kept(world, q, column, row, kept.as_mut()) {
+        Answer::Done => {
+            put(p, kept, alloc);
+            Answer::Done
+        }
+        answer => answer,
+    }
+}
+
+/// The same, into what is kept.
+fn unload_kept(world: &mut World, q: u32, column: u32, row: u32, kept: &mut Kept) -> Answer
+    ensures cause { IsUnloadAnswer world.old.store q (record { x = column; y = row }) result }
+    ensures unloaded { result ≡ Answer.Done → (page : HeightField) × (kept.new ≡ Kept.Page page)
+        × IsPageUnloaded world.old world.new q (record { x = column; y = row }) page }
+    ensures same { result ≢ Answer.Done → (world.new ≡ world.old) × (kept.new ≡ kept.old) }
+{
+    match unload_page(world, q, column, row) {
+        Ok(gone) => {
+            keep(kept, Kept::Page(gone));
+            Answer::Done
+        }
+        Err(answer) => answer,
     }
 }

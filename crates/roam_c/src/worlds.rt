@@ -1,6 +1,6 @@
 //! Pages, and worlds of them.
 
-ghost use Rattle.std.specs.Prelude.{◌≡◌, ◌≢◌, ⊤, None, Some, pos};
+ghost use Rattle.std.specs.Prelude.{◌≡◌, ◌≢◌, ⊤, None, Some, MatchOption, pos};
 ghost use Rattle.mesh_defs.specs.HeightField.{HeightField};
 ghost use Rattle.world_loop.specs.World.{WorldState, mesh_seen};
 ghost use Rattle.roam_embed.specs.Listed.{AreNumbersTold};
@@ -12,13 +12,12 @@ ghost use Rattle.roam_c.specs.Handle.{IsNumberOfSome, OnKept, OnOther};
 ghost use Rattle.roam_c.specs.Worlds.{IsKeptOpened, IsWorldMade};
 
 use crate::handle::{Handle, close, hold, on, put, take};
-use crate::kept::Kept;
+use crate::kept::{Kept, keep, take_page};
 use roam_embed::{
-    Answer, PlaneNumbers, WorldFrame, make_page, make_world_frame, move_world_camera, open_world,
-    put_world_budget, put_world_planes, put_world_threshold, tell_world_leaves,
+    Answer, Page, PlaneNumbers, WorldFrame, make_page, make_world_frame, move_world_camera,
+    open_world, put_world_budget, put_world_planes, put_world_threshold, tell_world_leaves,
 };
 use std::alloc::Global;
-use std::mem::replace;
 
 /// Makes a page of these heights, and lets go of what the handle had. After a refusal the handle is as before.
 #[unsafe(no_mangle)]
@@ -83,22 +82,27 @@ fn open_kept(alloc: Global, kept: &mut Kept, large: u32, budget: u32, spacing: u
     ensures other { ((page : HeightField) → kept.old ≢ Kept.Page page) →
         (kept.new ≡ kept.old) × (result ≡ Answer.IsEmpty) }
 {
-    match replace(kept, Kept::Nothing) {
-        Kept::Page(page) => match open_world(alloc, page, large, budget, spacing) {
-            Ok(world) => {
-                *kept = Kept::World(world);
-                Answer::Done
-            }
-            Err((answer, Some(page))) => {
-                *kept = Kept::Page(page);
-                answer
-            }
-            Err((answer, None)) => answer,
-        },
-        other => {
-            *kept = other;
-            Answer::IsEmpty
+    let Some(page) = take_page(kept) else {
+        return Answer::IsEmpty;
+    };
+    match open_world(alloc, page, large, budget, spacing) {
+        Ok(world) => {
+            keep(kept, Kept::World(world));
+            Answer::Done
         }
+        Err((answer, rest)) => {
+            keep_page(kept, rest);
+            answer
+        }
+    }
+}
+
+/// Keeps the page, if there is one.
+fn keep_page(kept: &mut Kept, page: Option<Page>)
+    ensures { MatchOption page (kept.new ≡ kept.old) (λ page. kept.new ≡ Kept.Page page) }
+{
+    if let Some(page) = page {
+        keep(kept, Kept::Page(page));
     }
 }
 
