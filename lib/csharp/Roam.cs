@@ -1,8 +1,10 @@
 // The calls of roam.h for C#, by P/Invoke: libroam.so has to be where the loader finds it. Coordinates, units and ranges are
-// those of roam.h; a refused call throws a RoamException with its answer, and has changed nothing. An engine, a fitter or a
-// mosaic is used by one thread at a time, whichever it is: a lock, where one is wanted, is the caller's. One that is not
-// disposed of keeps its memory.
+// those of roam.h; a refused call throws a RoamException with its answer, and has changed nothing. An engine, a fitter, a
+// mosaic, a page or a world is used by one thread at a time, whichever it is: a lock, where one is wanted, is the caller's. One
+// that is not disposed of keeps its memory.
 using System;
+using System.Collections.Generic;
+using System.Linq;
 using System.Runtime.InteropServices;
 
 namespace Roam {
@@ -51,6 +53,19 @@ namespace Roam {
     [StructLayout(LayoutKind.Sequential)]
     public struct Plane {
         public long A, B, C, D;
+    }
+
+    /// What a frame of a world did, and what its mesh is.
+    [StructLayout(LayoutKind.Sequential)]
+    public struct WorldNote {
+        public ulong Worst, Evaluations;
+        public uint Triangles, Splits, Merges, Blocking, Need, Spare;
+    }
+
+    /// What to draw of one page of a world: so many triangles from the triangle First on, three indices each.
+    [StructLayout(LayoutKind.Sequential)]
+    public struct Draw {
+        public uint Q, Column, Row, First, Triangles;
     }
 
     /// What a renderer knows of its view, in the library's terms. A number out of range is an ArgumentOutOfRangeException.
@@ -141,6 +156,24 @@ namespace Roam {
         [DllImport(Library)] public static extern int roam_mosaic_next(ref Handle h, out TileNote tile);
         [DllImport(Library)] public static extern int roam_mosaic_required(ref Handle h, uint column, uint row, [Out] uint[] to, UIntPtr places, out RequiredNote note);
         [DllImport(Library)] public static extern int roam_mosaic_put(ref Handle h, uint column, uint row, uint[] border, UIntPtr count);
+
+        [DllImport(Library)] public static extern int roam_page_make(ref Handle h, ushort[] heights, UIntPtr count);
+        [DllImport(Library)] public static extern int roam_page_drop(ref Handle h);
+        [DllImport(Library)] public static extern int roam_page_set_height(ref Handle h, uint x, uint y, ushort height);
+        [DllImport(Library)] public static extern int roam_page_raise(ref Handle h, uint x0, uint y0, uint x1, uint y1, int dz);
+        [DllImport(Library)] public static extern int roam_world_open(ref Handle h, ref Handle coarsest, uint large, uint budget, uint spacing);
+        [DllImport(Library)] public static extern int roam_world_close(ref Handle h);
+        [DllImport(Library)] public static extern int roam_world_load(ref Handle h, uint q, uint column, uint row, ref Handle page);
+        [DllImport(Library)] public static extern int roam_world_unload(ref Handle h, uint q, uint column, uint row, ref Handle page);
+        [DllImport(Library)] public static extern int roam_world_set_height(ref Handle h, uint x, uint y, ushort height);
+        [DllImport(Library)] public static extern int roam_world_raise(ref Handle h, uint x0, uint y0, uint x1, uint y1, int dz);
+        [DllImport(Library)] public static extern int roam_world_camera(ref Handle h, long x, long y, long z);
+        [DllImport(Library)] public static extern int roam_world_look(ref Handle h, Plane[] planes, UIntPtr count);
+        [DllImport(Library)] public static extern int roam_world_threshold(ref Handle h, ulong threshold);
+        [DllImport(Library)] public static extern int roam_world_budget(ref Handle h, uint triangles);
+        [DllImport(Library)] public static extern int roam_world_frame(ref Handle h, out WorldNote note);
+        [DllImport(Library)] public static extern int roam_world_leaves(ref Handle h, [Out] uint[] to, UIntPtr places, out UIntPtr triangles);
+        [DllImport(Library)] public static extern int roam_world_draws(ref Handle h, [Out] Draw[] to, UIntPtr places, out UIntPtr draws, [Out] uint[] indices, UIntPtr room, out UIntPtr triangles);
 
         public static void Must(int answer) { if (answer != 0) throw new RoamException((Answer)answer); }
         public static T[] There<T>(T[] array, string name) { // never null, and never without an element
@@ -290,6 +323,95 @@ namespace Roam {
         public void Put(uint column, uint row, uint[] border, int count) {
             if (count < 0 || count > Calls.There(border, "border").Length) throw new ArgumentOutOfRangeException("count");
             Calls.Must(Calls.roam_mosaic_put(ref h, column, row, Calls.There(border, "border"), (UIntPtr)count));
+        }
+    }
+
+    /// The heights of a page of a terrain: made on any thread, and put into a world. It is empty then.
+    public sealed class Page : IDisposable {
+        internal Handle h;
+
+        internal Page() { }
+        /// Copies side x side heights, rows from the far side to the near one. All memory is taken here.
+        public Page(ushort[] heights) {
+            Calls.Must(Calls.roam_page_make(ref h, Calls.There(heights, "heights"), (UIntPtr)heights.Length));
+        }
+        public void Dispose() { Calls.roam_page_drop(ref h); }
+        /// Steps of the page's own grid, from its near left point.
+        public void SetHeight(uint x, uint y, ushort height) { Calls.Must(Calls.roam_page_set_height(ref h, x, y, height)); }
+        public void Raise(uint x0, uint y0, uint x1, uint y1, int dz) { Calls.Must(Calls.roam_page_raise(ref h, x0, y0, x1, y1, dz)); }
+    }
+
+    /// One mesh over a terrain of pages that come and go. Column 0 is the left one, row 0 the near one.
+    public sealed class World : IDisposable {
+        Handle h;
+
+        /// A terrain of 2^large grid steps a side, which the page covers; the page is empty then. All memory but that of pages is
+        /// taken here; where it runs out the page is lost.
+        public World(Page coarsest, uint large, uint budget, uint spacing) {
+            Calls.Must(Calls.roam_world_open(ref h, ref There(coarsest, "coarsest").h, large, budget, spacing));
+        }
+        public void Dispose() { Calls.roam_world_close(ref h); }
+
+        static Page There(Page page, string name) {
+            if (page == null) throw new ArgumentNullException(name);
+            return page;
+        }
+        /// Puts a page to its place, and it is empty then; or it is refused, and is still there.
+        public void Load(Page page, uint q, uint column, uint row) {
+            Calls.Must(Calls.roam_world_load(ref h, q, column, row, ref There(page, "page").h));
+        }
+        /// Takes the page of a square out.
+        public Page Unload(uint q, uint column, uint row) {
+            var page = new Page();
+            Calls.Must(Calls.roam_world_unload(ref h, q, column, row, ref page.h));
+            return page;
+        }
+        public void Camera(long x, long y, long z) { Calls.Must(Calls.roam_world_camera(ref h, x, y, z)); }
+        public void Look(params Plane[] planes) {
+            Calls.Must(Calls.roam_world_look(ref h, Calls.There(planes, "planes"), (UIntPtr)planes.Length));
+        }
+        public void Threshold(ulong ratio) { Calls.Must(Calls.roam_world_threshold(ref h, ratio)); }
+        public void Budget(uint triangles) { Calls.Must(Calls.roam_world_budget(ref h, triangles)); }
+        public WorldNote Frame() { WorldNote note; Calls.Must(Calls.roam_world_frame(ref h, out note)); return note; }
+        /// Writes the addresses of the triangles, those of a grid of 2^large grid steps a side, and answers how many there are.
+        public int Leaves(uint[] to) { return Calls.Fill(Calls.roam_world_leaves, ref h, to); }
+
+        /// In each loaded page that has such a point; grid steps of the terrain. Pages that are loaded later have to agree.
+        public void SetHeight(uint x, uint y, ushort height) { Calls.Must(Calls.roam_world_set_height(ref h, x, y, height)); }
+        public void Raise(uint x0, uint y0, uint x1, uint y1, int dz) {
+            Calls.Must(Calls.roam_world_raise(ref h, x0, y0, x1, y1, dz));
+        }
+
+        /// What to draw of each page that has triangles; `indices` becomes an array of three places in the page's heights for each.
+        public Draw[] Draws(out uint[] indices) {
+            var runs = new Draw[1]; // first asks how many there are
+            var corners = new uint[1];
+            UIntPtr count, triangles;
+            var answer = (Answer)Calls.roam_world_draws(ref h, runs, UIntPtr.Zero, out count, corners, UIntPtr.Zero, out triangles);
+            if (answer == Answer.NoRoom) {
+                runs = new Draw[(int)count];
+                corners = new uint[3 * (int)triangles];
+                answer = (Answer)Calls.roam_world_draws(ref h, runs, count, out count, corners, (UIntPtr)corners.Length, out triangles);
+            }
+            Calls.Must((int)answer);
+            return ByPage(runs, corners, out indices);
+        }
+
+        /// The same triangles with one draw for each page.
+        static Draw[] ByPage(Draw[] runs, uint[] corners, out uint[] indices) {
+            var draws = new List<Draw>();
+            indices = new uint[corners.Length];
+            uint first = 0;
+            foreach (var page in runs.GroupBy(it => new { it.Q, it.Column, it.Row })) {
+                var draw = new Draw { Q = page.Key.Q, Column = page.Key.Column, Row = page.Key.Row, First = first };
+                foreach (Draw run in page) {
+                    Array.Copy(corners, 3 * (int)run.First, indices, 3 * (int)first, 3 * (int)run.Triangles);
+                    first += run.Triangles;
+                }
+                draw.Triangles = first - draw.First;
+                draws.Add(draw);
+            }
+            return draws.ToArray();
         }
     }
 }

@@ -6,15 +6,20 @@
 //! count these units, and (0, 0) is the near left grid point.
 //!
 //! A terrain that is larger than one grid is cut into tiles: a [`Fitter`] finds the mesh of one tile for which points are
-//! required, and a [`Mosaic`] tells which points these are, until all meshes are one mesh without cracks.
+//! required, and a [`Mosaic`] tells which points these are, until all meshes are one mesh without cracks. A [`World`]
+//! makes, frame by frame, one mesh over a terrain of [`Page`]s that come and go.
 //!
 //! What `roam.h` asks of C is kept by the types: one owner, one call at a time (`&mut self`; each may move to another
 //! thread, and is not shared), slices as long as they say. It is for Linux on x86-64, with a Rust of 1.63 or newer.
 
 use std::{error, fmt, ptr};
 
+mod worlds;
+pub use worlds::{Draw, Page, Refused, Square, World, WorldNote};
+
 mod c {
     #[repr(C)]
+    #[derive(Debug)]
     pub struct Handle {
         pub mark: u64,
         pub at: *mut u8,
