@@ -15,7 +15,7 @@ use crate::cert::Cert;
 use crate::cert_line::CertLine;
 use crate::fault::{CertFault, push};
 use crate::limits::{MOST_LEAVES, MOST_REASONS};
-use crate::reading::read_line;
+use crate::reading::next_line;
 use bintree_addr::Tri;
 use certificate_laws::Reason;
 use std::alloc::Global;
@@ -82,16 +82,11 @@ impl CertReader {
         ensures bad_line { self.old.refusal ≡ None →
             (result ≡ Err CertFault.BadLine) ↔ (cert_line_in self.old.n self.old.read bytes.now ≡ None) }
     {
-        if let Some(fault) = self.refusal {
-            return Err(fault);
-        }
-        let outcome = match read_line(bytes, self.n) {
-            None => Err(CertFault::BadLine),
-            Some(line) => take(&mut self.camera, &mut self.leaves, &mut self.reasons, line),
+        let outcome = match next_line(self.refusal, bytes, self.n) {
+            Ok(line) => take(&mut self.camera, &mut self.leaves, &mut self.reasons, line),
+            Err(fault) => Err(fault),
         };
-        if let Err(fault) = outcome {
-            self.refusal = Some(fault);
-        }
+        self.refusal = outcome.err();
         outcome
     }
 

@@ -10,7 +10,7 @@ ghost use Rattle.certificate_laws.specs.declared.limits.TheConstants.{MOST_REASO
 
 use crate::fault::{CertFault, push};
 use crate::fit_line::FitLine;
-use crate::reading::read_line;
+use crate::reading::next_line;
 use certificate_laws::{FitCert, MOST_REASONS, Off};
 use std::alloc::Global;
 use std::marker::Model;
@@ -74,22 +74,17 @@ impl FitCertReader {
         ensures bad_line { self.old.refusal ≡ None →
             (result ≡ Err CertFault.BadLine) ↔ (fit_line_in self.old.n self.old.read bytes.now ≡ None) }
     {
-        if let Some(fault) = self.refusal {
-            return Err(fault);
-        }
-        let outcome = match read_line(bytes, self.n) {
-            None => Err(CertFault::BadLine),
-            Some(line) => take(
+        let outcome = match next_line(self.refusal, bytes, self.n) {
+            Ok(line) => take(
                 &mut self.tolerance,
                 &mut self.mesh,
                 &mut self.needed,
                 &mut self.beyond,
                 line,
             ),
+            Err(fault) => Err(fault),
         };
-        if let Err(fault) = outcome {
-            self.refusal = Some(fault);
-        }
+        self.refusal = outcome.err();
         outcome
     }
 

@@ -1,10 +1,13 @@
 //! From the bytes of a line to what it says.
 
-ghost use Rattle.std.specs.Prelude.{◌≡◌, ℕ, ◌+◌, ◌*◌, ◌^◌, ◌<◌, ◌≤◌, List, Option, IfSome};
+ghost use Rattle.std.specs.Prelude.{◌≡◌, ℕ, ◌+◌, ◌*◌, ◌^◌, ◌<◌, ◌≤◌, List, Option, IfSome, IfOk, IfErr, None, Some};
+ghost use Rattle.std.specs.Prelude.{Err};
 ghost use Rattle.mesh_defs.specs.declared.level.TheConstants.{GREATEST_LEVEL};
 ghost use Rattle.text_laws.specs.Fields.{fields_of};
 ghost use Rattle.cert_text.specs.Lines.{line_of, number_below, address_in};
+ghost use Rattle.cert_text.specs.declared.fault.CertFault.{CertFault as CertFaultSeen};
 
+use crate::fault::CertFault;
 use bintree_addr::Tri;
 use roam_num::read_dec;
 use roam_script::{MOST_LINE_BYTES, without_cr};
@@ -42,6 +45,26 @@ pub(crate) fn read_line<L: FromFields>(bytes: &[u8], n: u32) -> Option<L>
         return None;
     }
     L::from_fields(without_cr(bytes), n)
+}
+
+/// What one line more says, in a text of the grid of side 2^n of which no line was refused; or why it is refused.
+pub(crate) fn next_line<L: FromFields>(
+    refusal: Option<CertFault>,
+    bytes: &[u8],
+    n: u32,
+) -> Result<L, CertFault>
+    requires in_grid { (1 ≤ n) × (n ≤ GREATEST_LEVEL) }
+    ensures sticky { (fault : CertFaultSeen) → refusal ≡ Some fault → result ≡ Err fault }
+    ensures no_refusal { IfOk result (λ _. refusal ≡ None) }
+    ensures value { IfOk result (λ line. L.read n bytes.now ≡ Some line) }
+    ensures of_grid { IfOk result (L.IsOf n) }
+    ensures bad_line { refusal ≡ None → IfErr result
+        (λ fault. (fault ≡ CertFaultSeen.BadLine) × (L.read n bytes.now ≡ None)) }
+{
+    match refusal {
+        Some(fault) => Err(fault),
+        None => read_line(bytes, n).ok_or(CertFault::BadLine),
+    }
 }
 
 /// The triangle whose address the field is, if it is less than `end`.

@@ -1,5 +1,5 @@
 -- A fitted mesh is judged by a certificate: what the calls of a check come to.
-use Rattle.std.proofs.Common.{◌≡◌, ◌≢◌, ℕ, ◌+◌, ◌≤◌, inl, inr, List, Some, None, Result, Ok, Err, IfOk, take}
+use Rattle.std.proofs.Common.{◌≡◌, ◌≢◌, ℕ, ◌+◌, ◌≤◌, inl, inr, List, Option, Some, None, Result, Ok, Err, IfOk, take}
 use Rattle.std.proofs.Common.{slice_get, IsTrue, false, refl}
 use Rattle.std.proofs.Common.{sym, ◌∙◌, subst, arith}
 use Rattle.mesh_defs.specs.HeightField.{HeightField}
@@ -8,7 +8,7 @@ use Rattle.certificate_laws.specs.declared.fit_reason.FitVerdict.{FitVerdict}
 use Rattle.certificate_laws.specs.declared.fit_reason.FitVerdict.TheVariants as verdict
 use Rattle.run_laws.specs.declared.status.Status.{Status}
 use Rattle.run_laws.specs.declared.status.Status.TheVariants as ends
-use Rattle.run_words.specs.Words.{FitChecking, CheckFit, Job, OnGrid}
+use Rattle.run_words.specs.Words.{FitChecking, CheckFit, Job, OnGrid, Command}
 use Rattle.run_words.specs.Jobs.{file_count, is_check}
 use Rattle.run_laws.specs.CertFile.{fit_cert_in, FitCertHasRead}
 use Rattle.run_laws.specs.Certify.{IsFitFaultless}
@@ -20,12 +20,14 @@ use Rattle.run_laws.specs.Moment.{Moment}
 use Rattle.run_laws.specs.Leaving.{Runs, HasOpened, ReadsGrid, TellsLast}
 use Rattle.run_laws.proofs.RunLemmas.{fails-then, certified-runs, rejected-runs}
 use Rattle.run_laws.proofs.RunLemmas.{tells-as}
+use Rattle.run_certify.specs.declared.mesh_file.CheckStop.{CheckStop}
+use Rattle.run_certify.specs.declared.mesh_file.CheckStop.TheVariants as stop
 use Rattle.run_certify.specs.declared.fit_verdict_report.Judgement.{Judgement}
 use Rattle.run_certify.specs.declared.fit_verdict_report.Judgement.TheVariants.{Certified, Rejected, BadLine}
 use Rattle.run_certify.specs.declared.fit_verdict_report.Judgement.TheVariants.{MeshDiffers}
 use Rattle.run_certify.specs.Judging.{JudgesNoMemory}
 use Rattle.run_certify.specs.FitJudging.{fit_judged_text, fit_judged_status, fit_mesh_opens, judged_outcome}
-use Rattle.run_certify.specs.FitJudging.{IsFaultlessFile, JudgesFault}
+use Rattle.run_certify.specs.FitJudging.{IsFaultlessFile, JudgesFault, EndsCheck}
 use Rattle.run_certify.proofs.JudgingLemmas.{judges-memory, judges-fault}
 
 -- what comparing a file with the text of these triangles comes to is what a verdict leads to that certifies them
@@ -101,6 +103,23 @@ module _ (before middle last now : Moment) (name : List ℕ) (job : Job) (more :
       rejected-runs before middle last now name job grid (more + 1) status read opened _ (omega (arith, some))
       (omega (arith, whole)) check none_rejected
       (job-judged (MeshDiffers place) (1 + (more + 1)) (omega arith) judged) (tells-as is_text is_end tells)
+
+-- A check ends by what it came to: by its line, or where it stopped.
+pub check-ends : (before last now : Moment) (command : Option Command) (n : ℕ) (judged : Result Judgement CheckStop)
+    (status : Status) → EndsCheck n judged last now status → {opens ended does : Judgement → Type 0}
+    → IfOk judged opens → IfOk judged ended → IfOk judged does
+    → ((judgement : Judgement) → opens judgement → ended judgement → does judgement →
+    TellsLast last now (fit_judged_text n judgement) (fit_judged_status judgement) status →
+    Runs before now command status None)
+    → (judged ≡ Err stop.NoMemory → Runs before last command ends.NoMemory None)
+    → (judged ≡ Err stop.Failed → Runs before last command ends.ReadFault None)
+    → Runs before now command status None
+check-ends before last now command n (Ok judgement) status tells opened is_end judged runs spent failed =
+    runs judgement opened is_end judged tells
+check-ends before last now command n (Err stop.NoMemory) status (same, is) opened is_end judged runs spent failed =
+    rw (same, is) (spent refl)
+check-ends before last now command n (Err stop.Failed) status (same, is) opened is_end judged runs spent failed =
+    rw (same, is) (failed refl)
 
 -- A check of a mesh alone.
 module _ (before middle now : Moment) (name : List ℕ) (c : FitChecking) (grid : HeightField)

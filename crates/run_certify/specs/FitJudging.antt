@@ -1,7 +1,7 @@
 -- What a check of a fitted mesh by a certificate comes to, and where it stops.
 -- Words: fit_judged_text, fit_judged_status, fit_mesh_opens, judged_outcome, IsFaultlessFile, NoMemoryBehind,
--- FailsBehind, JudgesFault.
-use Rattle.std.specs.Prelude.{◌≡◌, ℕ, ◌+◌, ◌⊎◌, List, Some, Result, Ok}
+-- FailsBehind, JudgesFault, EndsCheck.
+use Rattle.std.specs.Prelude.{◌≡◌, ℕ, ◌+◌, ◌⊎◌, List, Some, Result, Ok, Err}
 use Rattle.mesh_defs.specs.HeightField.{HeightField}
 use Rattle.roam_edge.specs.Shelf.{NamedFile, bytes_of}
 use Rattle.certificate_laws.specs.declared.reason.Reject.TheVariants as view
@@ -11,7 +11,9 @@ use Rattle.run_laws.specs.Fit.{fit_text}
 use Rattle.run_laws.specs.ReportText.{certified_fit_line, fit_rejection, rejection}
 use Rattle.run_laws.specs.Outcome.{Outcome, text_outcome}
 use Rattle.run_laws.specs.Moment.{Moment}
-use Rattle.run_laws.specs.Leaving.{HasOpened, HasFailed, MeshHasRead}
+use Rattle.run_laws.specs.Leaving.{HasOpened, HasFailed, MeshHasRead, TellsLast}
+use Rattle.run_certify.specs.declared.mesh_file.CheckStop.{CheckStop}
+use Rattle.run_certify.specs.declared.mesh_file.CheckStop.TheVariants as stop
 use Rattle.run_certify.specs.declared.fit_verdict_report.Judgement.{Judgement}
 use Rattle.run_certify.specs.declared.fit_verdict_report.Judgement.TheVariants.{Certified, Rejected, BadLine}
 use Rattle.run_certify.specs.declared.fit_verdict_report.Judgement.TheVariants.{MeshDiffers}
@@ -71,3 +73,10 @@ JudgesFault {C = C} certificate mesh spacing grid has_read file faultless before
     × ((files : List NamedFile) → before.shelf.files ≡ Some files → file (bytes_of files certificate) ≡ Ok cert)
     × faultless cert triangles
     × HasFailed before now 2 mesh (MeshHasRead (fit_text spacing grid triangles)))
+
+-- how a check over the grid with this n ends by what it came to: its line is told, the last text; else nothing is called
+abbrev pub EndsCheck : ℕ → Result Judgement CheckStop → Moment → Moment → Status → Type 0
+EndsCheck n (Ok judgement) before now status =
+    TellsLast before now (fit_judged_text n judgement) (fit_judged_status judgement) status
+EndsCheck n (Err stop.NoMemory) before now status = (now ≡ before) × (status ≡ ends.NoMemory)
+EndsCheck n (Err stop.Failed) before now status = (now ≡ before) × (status ≡ ends.ReadFault)

@@ -7,16 +7,14 @@ ghost use Rattle.run_words.specs.FitView.{fit_checking_seen, AreFitBounds};
 ghost use Rattle.run_laws.specs.Leaving.{Runs};
 
 use crate::fit_goal::goal_in;
-use crate::fit_judging::{FitCheck, judge};
-use crate::fit_verdict_report::judgement_report;
-use crate::mesh_file::CheckStop;
+use crate::fit_judging::{FitCheck, end_check, judge};
 use bintree_addr::Tri;
 use cert_text::FitCertReader;
 use certificate_laws::{FitCert, FitVerdict, Target as Goal};
 use fit_certify::{check, mesh_of};
 use pgm_grid::Grid;
 use roam_edge::NoMemory;
-use run_files::{Outside, end_with_text, grid_or_end};
+use run_files::{Outside, grid_or_end};
 use run_laws::Status;
 use run_words::FitCheckWords;
 use std::alloc::Global;
@@ -37,8 +35,9 @@ pub fn run_fit_check<O: Outside>(
         Ok(grid) => grid,
         Err(status) => return status,
     };
-    let goal = goal_in(words.target, grid.n());
-    match judge::<FitCertReader, Goal, O>(
+    let n = grid.n();
+    let goal = goal_in(words.target, n);
+    let judged = judge::<FitCertReader, Goal, O>(
         alloc,
         &grid,
         &goal,
@@ -46,15 +45,8 @@ pub fn run_fit_check<O: Outside>(
         words.mesh,
         words.spacing,
         outside,
-    ) {
-        Ok(judgement) => end_with_text(
-            judgement_report(grid.n(), &judgement).as_slice(),
-            judgement.status(),
-            outside,
-        ),
-        Err(CheckStop::NoMemory) => Status::NoMemory,
-        Err(CheckStop::Failed) => Status::ReadFault,
-    }
+    );
+    end_check(n, judged, outside)
 }
 
 impl FitCheck<FitCert> for Goal {

@@ -4,6 +4,7 @@ ghost use Rattle.std.specs.Prelude.{ℕ, ◌≡◌, ◌^◌, ◌<◌, ◌≤◌,
 ghost use Rattle.std.specs.Prelude.{length};
 ghost use Rattle.mesh_defs.specs.Triangle.{level_of};
 ghost use Rattle.mesh_defs.specs.HeightField.{HeightField};
+ghost use Rattle.mesh_defs.specs.declared.level.TheConstants.{GREATEST_LEVEL};
 ghost use Rattle.roam_edge.specs.Shelf.{NamedFile, bytes_of};
 ghost use Rattle.wedgie_tree.specs.declared.wedges.TheConstants.{GREATEST_SPACING};
 ghost use Rattle.certificate_laws.specs.declared.fit_reason.FitVerdict.{FitVerdict};
@@ -16,16 +17,17 @@ ghost use Rattle.run_laws.specs.Leaving.{HasOpened, HasFailed, MeshHasRead};
 ghost use Rattle.run_files.specs.LineStage.{LinesHaveRead};
 ghost use Rattle.run_certify.specs.Judging.{JudgesNoMemory};
 ghost use Rattle.run_certify.specs.FitJudging.{fit_judged_status, fit_mesh_opens, judged_outcome, IsFaultlessFile};
-ghost use Rattle.run_certify.specs.FitJudging.{NoMemoryBehind, FailsBehind, JudgesFault};
+ghost use Rattle.run_certify.specs.FitJudging.{NoMemoryBehind, FailsBehind, JudgesFault, EndsCheck};
 
-use crate::fit_verdict_report::Judgement;
+use crate::fit_verdict_report::{Judgement, judgement_report};
 use crate::mesh_file::{CheckStop, difference};
 use bintree_addr::Tri;
 use certificate_laws::FitVerdict;
 use mesh_compare::difference_laws;
 use pgm_grid::Grid;
 use roam_edge::NoMemory;
-use run_files::{CertStop, LineReader, Outside, read_lines};
+use run_files::{CertStop, LineReader, Outside, end_with_text, read_lines};
+use run_laws::Status;
 use std::alloc::Global;
 
 /// What certificates of type `C` are checked for.
@@ -187,5 +189,26 @@ fn judge_mesh<O: Outside>(
         }),
         Ok(Some(at)) => Ok(Judgement::MeshDiffers(at)),
         Err(stop) => Err(stop),
+    }
+}
+
+/// Ends a check over the grid of side 2^n by what it came to.
+pub(crate) fn end_check<O: Outside>(
+    n: u32,
+    judged: Result<Judgement, CheckStop>,
+    outside: &mut O,
+) -> Status
+    requires in_grid { n ≤ GREATEST_LEVEL }
+    ensures same { O.is_same outside.old outside.new }
+    ensures ends { EndsCheck n judged (O.moment outside.old) (O.moment outside.new) result }
+{
+    match judged {
+        Ok(judgement) => end_with_text(
+            judgement_report(n, &judgement).as_slice(),
+            judgement.status(),
+            outside,
+        ),
+        Err(CheckStop::NoMemory) => Status::NoMemory,
+        Err(CheckStop::Failed) => Status::ReadFault,
     }
 }

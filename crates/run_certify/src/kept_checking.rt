@@ -9,9 +9,7 @@ ghost use Rattle.run_words.specs.FitView.{kept_checking_seen, AreKeptBounds};
 ghost use Rattle.run_laws.specs.Leaving.{Runs};
 
 use crate::fit_goal::tolerance;
-use crate::fit_judging::{FitCheck, judge};
-use crate::fit_verdict_report::judgement_report;
-use crate::mesh_file::CheckStop;
+use crate::fit_judging::{FitCheck, end_check, judge};
 use crate::points::points_or_end;
 use bintree_addr::{Point, Tri};
 use cert_text::KeptCertReader;
@@ -19,7 +17,7 @@ use certificate_laws::{FitVerdict, KeptCert};
 use fit_certify::{check_kept, mesh_of_kept};
 use pgm_grid::Grid;
 use roam_edge::NoMemory;
-use run_files::{Outside, end_with_text, grid_or_end};
+use run_files::{Outside, grid_or_end};
 use run_laws::Status;
 use run_words::KeptCheckWords;
 use std::alloc::Global;
@@ -45,11 +43,12 @@ pub fn run_kept_check<O: Outside>(
         Ok(points) => points,
         Err(status) => return status,
     };
+    let n = grid.n();
     let goal = KeptGoal {
-        tolerance: tolerance(words.thousandths, grid.n()),
+        tolerance: tolerance(words.thousandths, n),
         points: &points,
     };
-    match judge::<KeptCertReader, KeptGoal<'_>, O>(
+    let judged = judge::<KeptCertReader, KeptGoal<'_>, O>(
         alloc,
         &grid,
         &goal,
@@ -57,15 +56,8 @@ pub fn run_kept_check<O: Outside>(
         words.mesh,
         words.spacing,
         outside,
-    ) {
-        Ok(judgement) => end_with_text(
-            judgement_report(grid.n(), &judgement).as_slice(),
-            judgement.status(),
-            outside,
-        ),
-        Err(CheckStop::NoMemory) => Status::NoMemory,
-        Err(CheckStop::Failed) => Status::ReadFault,
-    }
+    );
+    end_check(n, judged, outside)
 }
 
 /// An error, and the points that a mesh has to keep.
