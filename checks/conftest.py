@@ -10,6 +10,7 @@ from typing import Any
 
 import pytest
 
+from fitters import Library
 from place import Place
 
 CHECKS = Path(__file__).resolve().parent
@@ -55,6 +56,11 @@ def prefix(archive: Path, tmp_path_factory: Any) -> Path:
     folder: Path = tmp_path_factory.mktemp("prefix")
     ran(sys.executable, TOP / "lib/build", folder, archive)
     return folder
+
+
+@pytest.fixture(scope="session")
+def library(prefix: Path) -> Library:
+    return Library(prefix)
 
 
 @pytest.fixture

@@ -1,4 +1,4 @@
-"""The fitters and mosaics of the library for the tables of checks, by the words of roam.h alone."""
+"""The fitters, mosaics, pages and worlds of the library for the tables of checks, by the words of roam.h alone."""
 from __future__ import annotations
 
 import ctypes
@@ -9,6 +9,7 @@ from pathlib import Path
 from typing import Any, Optional
 
 OK, BAD_GRID, OUTSIDE_GRID, NO_ROOM, IS_EMPTY, BAD_TOLERANCE, BAD_MESH, SHRUNK = 0, 2, 8, 11, 12, 13, 14, 15
+BAD_CHANGE, BAD_PAGE, NOT_THERE = 9, 16, 17
 UNCOUNTED = 0xFFFFFFFF  # the tolerance of a point that does not count
 
 
@@ -33,9 +34,19 @@ class FitNote(ctypes.Structure):
                 ("vertices", ctypes.c_uint32)]
 
 
+class WorldNote(ctypes.Structure):
+    _fields_ = [("worst", ctypes.c_uint64), ("evaluations", ctypes.c_uint64)] + [
+        (name, ctypes.c_uint32) for name in ("triangles", "splits", "merges", "blocking", "need", "spare")]
+
+
+class Plane(ctypes.Structure):
+    _fields_ = [(name, ctypes.c_int64) for name in "abcd"]
+
+
 HANDLE, SIZE, WORD = ctypes.POINTER(Handle), ctypes.c_size_t, ctypes.c_uint32
 HEIGHTS, WORDS, COUNT = ctypes.POINTER(ctypes.c_uint16), ctypes.POINTER(WORD), ctypes.POINTER(SIZE)
-LIST, FIT = (HANDLE, WORDS, SIZE, COUNT), (WORD, WORDS, SIZE, WORDS, SIZE)
+LIST, FIT, SQUARE = (HANDLE, WORDS, SIZE, COUNT), (WORD, WORDS, SIZE, WORDS, SIZE), (WORD, WORD, WORD)
+SET, RAISE = (WORD, WORD, ctypes.c_uint16), (WORD, WORD, WORD, WORD, ctypes.c_int32)
 CALLS = {
     "fitter_open": (HANDLE, HEIGHTS, SIZE), "fitter_close": (HANDLE,), "fitter_fit": (HANDLE, *FIT, WORDS),
     "fitter_more": (HANDLE, *FIT, WORDS), "fitter_indices": LIST, "fitter_leaves": LIST, "fitter_border": LIST,
@@ -44,6 +55,14 @@ CALLS = {
     "mosaic_open": (HANDLE, WORD, WORD, WORD), "mosaic_close": (HANDLE,),
     "mosaic_next": (HANDLE, ctypes.POINTER(TileNote)), "mosaic_put": (HANDLE, WORD, WORD, WORDS, SIZE),
     "mosaic_required": (HANDLE, WORD, WORD, WORDS, SIZE, ctypes.POINTER(RequiredNote)),
+    "page_make": (HANDLE, HEIGHTS, SIZE), "page_drop": (HANDLE,),
+    "page_set_height": (HANDLE, *SET), "page_raise": (HANDLE, *RAISE),
+    "world_set_height": (HANDLE, *SET), "world_raise": (HANDLE, *RAISE),
+    "world_open": (HANDLE, HANDLE, WORD, WORD, WORD), "world_close": (HANDLE,),
+    "world_load": (HANDLE, *SQUARE, HANDLE), "world_unload": (HANDLE, *SQUARE, HANDLE),
+    "world_camera": (HANDLE, *3 * (ctypes.c_int64,)), "world_look": (HANDLE, ctypes.POINTER(Plane), SIZE),
+    "world_threshold": (HANDLE, ctypes.c_uint64), "world_budget": (HANDLE, WORD),
+    "world_frame": (HANDLE, ctypes.POINTER(WorldNote)), "world_leaves": LIST,
 }
 
 
@@ -160,3 +179,66 @@ class Mosaic:
 
     def put(self, tile: tuple[int, int], border: Sequence[int]) -> None:
         self.library.call("mosaic_put", self.handle, *tile, words(border), len(border))
+
+
+class Page:
+    """A page over heights, rows from the far side to the near one; once a world has taken it, it is empty."""
+
+    def __init__(self, library: Library, heights: Sequence[int]) -> None:
+        self.library, self.handle = library, Handle()
+        library.call("page_make", self.handle, words(heights, ctypes.c_uint16), len(heights))
+
+    def drop(self) -> None:
+        self.library.call("page_drop", self.handle)
+
+    def set_height(self, x: int, y: int, height: int) -> None:
+        self.library.call("page_set_height", self.handle, x, y, height)
+
+    def raise_area(self, area: tuple[int, int, int, int], dz: int) -> None:
+        self.library.call("page_raise", self.handle, *area, dz)
+
+
+class World:
+    """A world of a terrain of 2^large grid steps a side, over its coarsest page."""
+
+    def __init__(self, library: Library, coarsest: Page, large: int, budget: int, spacing: int) -> None:
+        self.library, self.handle, self.triangles = library, Handle(), 2
+        library.call("world_open", self.handle, coarsest.handle, large, budget, spacing)
+
+    def close(self) -> None:
+        self.library.call("world_close", self.handle)
+
+    def load(self, square: tuple[int, int, int], page: Page) -> None:
+        self.library.call("world_load", self.handle, *square, page.handle)
+
+    def unload(self, square: tuple[int, int, int], page: Page) -> None:
+        self.library.call("world_unload", self.handle, *square, page.handle)
+
+    def set_height(self, x: int, y: int, height: int) -> None:
+        self.library.call("world_set_height", self.handle, x, y, height)
+
+    def raise_area(self, area: tuple[int, int, int, int], dz: int) -> None:
+        self.library.call("world_raise", self.handle, *area, dz)
+
+    def camera(self, at: tuple[int, int, int]) -> None:
+        self.library.call("world_camera", self.handle, *at)
+
+    def look(self, planes: Sequence[tuple[int, int, int, int]]) -> None:
+        self.library.call("world_look", self.handle, words([Plane(*it) for it in planes], Plane), len(planes))
+
+    def threshold(self, ratio: int) -> None:
+        self.library.call("world_threshold", self.handle, ratio)
+
+    def budget(self, triangles: int) -> None:
+        self.library.call("world_budget", self.handle, triangles)
+
+    def frame(self) -> WorldNote:
+        note = WorldNote()
+        self.library.call("world_frame", self.handle, note)
+        self.triangles = note.triangles
+        return note
+
+    def leaves(self) -> list[int]:
+        out, count = (WORD * self.triangles)(), SIZE()
+        self.library.call("world_leaves", self.handle, out, self.triangles, count)
+        return list(out)[:count.value]

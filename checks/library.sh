@@ -113,10 +113,15 @@ for cc in g++ clang++; do
         runs "library_${name}_$cc" '' "./${name}_$cc"
       fi
     done
+    if builds "library_world_$cc" "${c[@]}" -o "world_$cc" "$uses/world.cpp" "${static[@]}"; then
+      runs "library_world_$cc" '' bash -c '"$0" >world.txt && cmp world.txt "$1"' "./world_$cc" "$uses/expected/world.txt"
+    fi
     for year in 17 20; do
-      if builds "library_answers_${year}_$cc" "${c[@]}" "-std=c++$year" -fno-exceptions -o "answers_$cc" "$tests/answers.cpp" "${static[@]}"; then
-        runs "library_answers_${year}_$cc" '' "./answers_$cc"
-      fi
+      for name in answers pages; do
+        if builds "library_${name}_${year}_$cc" "${c[@]}" "-std=c++$year" -fno-exceptions -o "${name}_$cc" "$tests/$name.cpp" "${static[@]}"; then
+          runs "library_${name}_${year}_$cc" '' "./${name}_$cc"
+        fi
+      done
     done
   fi
 done
@@ -137,11 +142,11 @@ if has library_by_cmake cmake make; then
 fi
 
 # The loops of docs/LIBRARY.md, each in a function of its own, and that of README.md.
-# block LANGUAGE [PAGE [tiles]]: the page's code in this language: without `tiles` what does not stand under "Tiles that meet", else that.
+# block LANGUAGE [PAGE [WORD]]: the page's code in this language that stands under the heading `## WORD that ..`, or else under no such one.
 block() {
-  awk -v begin="\`\`\`$1" -v tiles="${3:+1}" '
-    $0 == begin { inside = 1; next } /^```/ { inside = 0 } !inside && /^## / { under = $0 == "## Tiles that meet" }
-    inside && under == (tiles != "")' "$top/${2:-docs/LIBRARY.md}"
+  awk -v begin="\`\`\`$1" -v word="${3:-}" '
+    $0 == begin { inside = 1; next } /^```/ { inside = 0 } !inside && /^## / { under = $3 == "that" ? $2 : "" }
+    inside && under == word' "$top/${2:-docs/LIBRARY.md}"
 }
 where='int flying, int64_t x, int64_t y, int64_t z)'
 if has library_loops_of_the_docs cc c++; then
@@ -157,16 +162,26 @@ if has library_loops_of_the_docs cc c++; then
     echo '#include "roam.h"'
     echo 'const uint16_t *heights_of(roam_tile_note tile); void keep(roam_tile_note tile, roam_fitter *f);'
     echo 'int fit(uint32_t columns, uint32_t rows, uint32_t side, uint32_t *points) {'
-    block c docs/LIBRARY.md tiles
+    block c docs/LIBRARY.md Tiles
     echo 'return roam_fitter_close(&f) == ROAM_OK && roam_mosaic_close(&m) == ROAM_OK; }'
   } >tiles.c
   {
     echo '#include "roam.hpp"'
     echo 'std::vector<uint16_t> heights_of(uint32_t column, uint32_t row);'
     echo 'void fit(uint32_t columns, uint32_t rows, uint32_t side) {'
-    block cpp docs/LIBRARY.md tiles
+    block cpp docs/LIBRARY.md Tiles
     echo '}'
   } >tiles.cpp
+  {
+    echo '#include "roam_pager.hpp"'
+    echo 'std::vector<uint16_t> heights_of(uint32_t q, uint32_t column, uint32_t row);'
+    echo "void fly(uint32_t n, uint32_t large, uint32_t spacing, $where {"
+    block cpp docs/LIBRARY.md Pages | grep -v '^#'
+    echo '}'
+  } >pages.cpp
+  if builds library_pages_of_the_docs c++ -std=c++17 -Wall -Wextra -Werror -c "-I$prefix/include" pages.cpp; then
+    ok library_pages_of_the_docs
+  fi
   if builds library_tiles_of_the_docs cc -std=c99 -Wall -Wextra -Werror -pedantic -c "-I$prefix/include" tiles.c &&
     builds library_tiles_of_the_docs c++ -std=c++17 -Wall -Wextra -Werror -c "-I$prefix/include" tiles.cpp; then
     ok library_tiles_of_the_docs
@@ -177,6 +192,10 @@ if has library_loops_of_the_docs cc c++; then
     ok library_loops_of_the_docs
   fi
 fi
+
+# Programs with threads, and the last line of each.
+threads=("$uses/threads.cpp" "$tests/pages.cpp")
+declare -A last=([threads]='one after the other' [pages]='the pages around a camera')
 
 # --- The same under sanitizers, from libFuzzer, and in valgrind. ---
 
@@ -193,9 +212,12 @@ if [ -n "$sanitizer" ]; then
   if builds library_flight_sanitized "${c[@]}" -std=c99 -o flight_sanitized "$uses/flight.c" "${static[@]}"; then
     runs library_flight_sanitized '20 frames' ./flight_sanitized "$jacksboro" 2000 90 20
   fi
-  if builds library_threads_sanitized "${cpp[@]}" -std=c++17 -pthread -o threads_sanitized "$uses/threads.cpp" "${static[@]}"; then
-    runs library_threads_sanitized 'one after the other' ./threads_sanitized
-  fi
+  for file in "${threads[@]}"; do
+    name=$(basename "$file" .cpp)
+    if builds "library_${name}_sanitized" "${cpp[@]}" -std=c++17 -pthread -o "${name}_sanitized" "$file" "${static[@]}"; then
+      runs "library_${name}_sanitized" "${last[$name]}" "./${name}_sanitized"
+    fi
+  done
   for name in calls tiles worlds; do
     if builds "library_${name}_sanitized" "${c[@]}" -std=c99 -o "${name}_sanitized" "$tests/$name.c" "${static[@]}"; then
       runs "library_${name}_sanitized" 'roam.h says' "./${name}_sanitized" 2 "$(calls_of "$name" 200000)"
@@ -212,9 +234,12 @@ for cc in clang++ g++; do
   "$cc" -g -O1 -fsanitize=thread -x c++ -o empty empty.c >said 2>&1 && ./empty && racing=$cc && break
 done
 if [ -n "$racing" ]; then
-  if builds library_threads_without_races "$racing" -std=c++17 -g -O1 -fsanitize=thread -pthread -o threads_racing "$uses/threads.cpp" "${static[@]}"; then
-    runs library_threads_without_races 'one after the other' ./threads_racing
-  fi
+  for file in "${threads[@]}"; do
+    name=$(basename "$file" .cpp)
+    if builds "library_${name}_without_races" "$racing" -std=c++17 -g -O1 -fsanitize=thread -pthread -o "${name}_racing" "$file" "${static[@]}"; then
+      runs "library_${name}_without_races" "${last[$name]}" "./${name}_racing"
+    fi
+  done
 else
   skip library_threads_without_races 'no compiler with the sanitizer of threads is there'
 fi
@@ -241,11 +266,14 @@ if has library_in_valgrind valgrind cc; then
   if builds library_flight_in_valgrind cc -std=c99 -g -O1 -o flight_watched "$uses/flight.c" "${static[@]}"; then
     runs library_flight_in_valgrind '4 frames' "${watched[@]}" ./flight_watched "$jacksboro" 500 90 4
   fi
-  if has library_threads_in_valgrind c++ &&
-    builds library_threads_in_valgrind c++ -std=c++17 -g -O1 -pthread -o threads_watched "$uses/threads.cpp" "${static[@]}"; then
-    runs library_threads_in_valgrind 'one after the other' "${watched[@]}" ./threads_watched
-    runs library_threads_in_helgrind 'one after the other' valgrind -q --tool=helgrind --error-exitcode=9 ./threads_watched 20
-  fi
+  for file in "${threads[@]}"; do
+    name=$(basename "$file" .cpp)
+    if has "library_${name}_in_valgrind" c++ &&
+      builds "library_${name}_in_valgrind" c++ -std=c++17 -g -O1 -pthread -o "${name}_watched" "$file" "${static[@]}"; then
+      runs "library_${name}_in_valgrind" "${last[$name]}" "${watched[@]}" "./${name}_watched"
+      runs "library_${name}_in_helgrind" "${last[$name]}" valgrind -q --tool=helgrind --error-exitcode=9 "./${name}_watched" 20
+    fi
+  done
 fi
 
 # --- Python: the example's reports, its mesh and certificate, and the loop of the docs. The rest is in python/tests. ---

@@ -63,18 +63,21 @@ class Terrain:
         self.wedges = self.wedges or self.all_wedges()
         return self.wedges[a]
 
+    def corner_wedge(self, a):
+        own = [self.heights[point] for point in self.corners[a]]
+        return 0, min(own), max(own)
+
+    def joined_wedge(self, a, left, right):
+        """By its centre and the wedges of its children."""
+        _, v0, v1 = self.corners[a]
+        deviation = abs(2 * self.heights[self.base_midpoint(a)] - self.heights[v0] - self.heights[v1])
+        return max(left[0], right[0]) + deviation, min(left[1], right[1]), max(left[2], right[2])
+
     def all_wedges(self):
         """From the finest triangles up."""
         wedges = [None] * len(self.corners)
         for a in reversed(self.addresses):
-            apex, v0, v1 = self.corners[a]
-            if a >= self.finest:
-                own = [self.heights[point] for point in (apex, v0, v1)]
-                wedges[a] = 0, min(own), max(own)
-            else:
-                (e, low, high), (f, low2, high2) = wedges[2 * a], wedges[2 * a + 1]
-                deviation = abs(2 * self.heights[self.base_midpoint(a)] - self.heights[v0] - self.heights[v1])
-                wedges[a] = max(e, f) + deviation, min(low, low2), max(high, high2)
+            wedges[a] = self.corner_wedge(a) if a >= self.finest else self.joined_wedge(a, wedges[2 * a], wedges[2 * a + 1])
         return wedges
 
     def box(self, a):

@@ -158,9 +158,6 @@ pub fn half() -> bool {
 
 <!-- generated: words tri_laws.Mate tri_laws.Edge.IsEdge -->
 <!-- end -->
-
-<!-- generated: words * -->
-<!-- end -->
 """,
     "docs/ARCHITECTURE.md": "# Architecture, for whoever reads\n\n<!-- generated: storeys -->\n<!-- end -->\n",
 }
@@ -243,9 +240,6 @@ def test_definitions_have_the_words_that_other_crates_name(small: Path) -> None:
         "|`IsMate`|the mate of a: the other triangle with the same base|[Mate](../crates/tri_laws/specs/Mate.antt)|",
         "|`IsEdge`|an edge|[Edge](../crates/tri_laws/specs/Edge.antt)|",
     ]
-    alone = small / "docs/DEFINITIONS.md"
-    alone.write_text("# Definitions, for whoever reads\n\n<!-- generated: words * -->\n<!-- end -->\n", encoding="utf-8")
-    assert "|`IsMate`|" in made(small, "docs/DEFINITIONS.md") and "IsEdge" not in made(small, "docs/DEFINITIONS.md")
 
 
 def test_a_page_that_differs_is_named_and_then_made(small: Path, capsys: Any) -> None:
@@ -262,7 +256,7 @@ def test_a_page_that_differs_is_named_and_then_made(small: Path, capsys: Any) ->
     assert capsys.readouterr().err == "crates/low/README.md is not what tools/pages.py makes\n"
 
 
-@pytest.mark.parametrize("text", ["<!-- generated: storeys -->\n", "<!-- generated: unheard-of -->\n<!-- end -->\n"])
+@pytest.mark.parametrize("text", ["<!-- generated: words low -->\n", "<!-- generated: unheard-of -->\n<!-- end -->\n"])
 def test_a_block_without_end_and_one_of_no_kind_are_refused(small: Path, text: str) -> None:
     (small / "docs/OTHER.md").write_text(f"# Other, for whoever reads\n\n{text}", encoding="utf-8")
     with pytest.raises(SystemExit):

@@ -27,11 +27,6 @@ from random_runs import Roll, random_runs
 Triangle = tuple[tuple[int, int], ...]
 
 
-@pytest.fixture(scope="session")
-def library(prefix: Path) -> Library:
-    return Library(prefix)
-
-
 # --- The checker of cracks, over meshes by hand: a square of two grid steps, and what is wrong with it. ---
 
 LOWER, LEFT, UPPER, RIGHT = (((1, 1), (0, 0), (2, 0)), ((1, 1), (0, 2), (0, 0)), ((1, 1), (2, 2), (0, 2)),

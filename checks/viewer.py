@@ -29,7 +29,8 @@ import zlib
 TOP = pathlib.Path(__file__).resolve().parents[1]
 FRAMES = 10
 SKY = (148, 176, 209)
-HEAD = struct.Struct("<6I")  # of the ground: side, spacing, most triangles, edits, columns and rows of the raster
+HEAD = struct.Struct("<8I")  # of the ground: side, spacing, most triangles, edits, columns and rows of the raster, a page's side, pages
+AT = struct.Struct("<4I")  # of each page: resolution, column, row, and the edit that changed it last
 
 
 def decide(name, why):
@@ -203,10 +204,12 @@ GOOD = [2000, 0, 8000, 8000, 1500, 0, 100_000, 0, -300_000_000]
 
 def check_server(server):
     """The server's calls, right and wrong."""
-    status, ground = server.ask("/ground", [])
-    side, spacing, most, edits, columns, rows = HEAD.unpack(ground[:HEAD.size])
-    decide("viewer_ground", [] if status == 200 and len(ground) == HEAD.size + 2 * side * side
-           and (spacing, most, edits, columns, rows) == (90, 6000, 0, side, side) else [status, len(ground), ground[:HEAD.size]])
+    status, ground = server.ask("/ground", [-1])
+    side, spacing, most, edits, columns, rows, of_page, pages = HEAD.unpack(ground[:HEAD.size])
+    known = server.ask("/ground", [0])[1]
+    decide("viewer_ground", [] if status == 200 and len(ground) == HEAD.size + AT.size + 2 * side * side and known == ground[:len(known)]
+           and (spacing, most, edits, columns, rows, of_page, pages) == (90, 6000, 0, side, side, side, 1) and len(known) == HEAD.size + AT.size
+           else [status, len(ground), ground[:HEAD.size], len(known)])
 
     def frame(link=None):
         """The same frame as ever: what is wrong with its answer."""
@@ -229,7 +232,7 @@ def check_server(server):
         "a budget of 1": ("/frame", (1,) + good[1:], 400), "a budget above the opened one": ("/frame", (6001,) + good[1:], 400),
         "a camera out of range": ("/frame", (2000, 0, far, 0, 0), 400), "a steep plane": ("/frame", good[:5] + (far, 0, 0, 0), 400),
         "seven planes": ("/frame", good[:5] + 7 * good[5:], 413), "no numbers": ("/frame", (), 400), "six numbers": ("/frame", good[:6], 400),
-        "a threshold below 0": ("/frame", (2000, -1) + good[2:], 400),
+        "a threshold below 0": ("/frame", (2000, -1) + good[2:], 400), "a ground of no edit": ("/ground", (), 400),
         "garbage": ("/frame", b"\xff\x00garbage", 400), "garbage of whole numbers": ("/frame", bytes(range(200, 256)) + bytes(8), 400),
         "long garbage": ("/frame", bytes(100_000), 413), "a point out of the grid": ("/raise", (side, 0, 4, 10), 400),
         "a radius of 0": ("/raise", (5, 5, 0, 10), 400), "a great change": ("/raise", (5, 5, 4, 1 << 40), 400),
@@ -273,11 +276,12 @@ def check_server(server):
 
 def check_lift(server):
     """Ground is raised in the engine and in what the page gets, the same: a new server over the new ground makes the same mesh."""
-    before = server.ask("/ground", [])[1]
+    before = server.ask("/ground", [-1])[1]
     why = [] if server.ask("/raise", [100, 90, 8, 3000])[0] == 200 == server.ask("/raise", [3, 250, 20, -5000])[0] else ["refused"]
-    after = server.ask("/ground", [])[1]
-    side, _, _, edits, _, _, earlier = HEAD.unpack(after[:HEAD.size]) + struct.unpack("<I", before[12:16])
-    numbers, old = (struct.unpack(f"<{side * side}H", it[HEAD.size:]) for it in (after, before))
+    side, _, _, earlier, *_ = HEAD.unpack(before[:HEAD.size])
+    after = server.ask("/ground", [earlier])[1]
+    edits = HEAD.unpack(after[:HEAD.size])[3]
+    numbers, old = (struct.unpack(f"<{side * side}H", it[HEAD.size + AT.size:]) for it in (after, before))
     place = (side - 1 - 90) * side + 100
     why += [] if edits == earlier + 2 and numbers[place] == old[place] + 3000 else [f"{edits} edits, {old[place]} to {numbers[place]}"]
     with tempfile.NamedTemporaryFile(suffix=".pgm") as file:
@@ -297,9 +301,9 @@ def check_worn():
     """A flight whose engine has made its million frames goes on: its counts begin again, and mesh, planes and ground stay."""
     sys.path[:0] = [str(TOP / "python/src")]
     import calfrewin
-    from calfrewin.fly import Flight
+    from calfrewin.flight import GridFlight
     from calfrewin.mesh import array_of
-    flight = Flight(array_of([[0, 0, 0], [0, 100, 0], [0, 0, 0]]), 8, 10)
+    flight = GridFlight(array_of([[0, 0, 0], [0, 100, 0], [0, 0, 0]]), 8, 10)
     asked, engine = [7, 0, 10, 10, 150, 0, 0, 1, -5], flight.engine
     flight.lift([1, 1, 1, 20])
     first, why = flight.frame(asked), []
@@ -323,29 +327,89 @@ def check_browser(server, picture, chromium):
     with tempfile.TemporaryDirectory(ignore_cleanup_errors=True) as profile:
         browser = Browser(chromium, profile)
         try:
-            printed = len(server.lines)
-            browser.call("Page.navigate", url=f"http://127.0.0.1:{server.port}/?frames={FRAMES}&triangles=3000")
-            done = browser.wait('document.title === "done"', 240)
-            told, lines = browser.said, [line.split(" ", 2)[2].strip() for line in server.lines[printed:]]
-            decide("viewer_ten_frames_are_drawn", [] if done and len(told) == FRAMES else [f"{len(told)} frames", *browser.wrong])
-            decide("viewer_no_error_in_the_console", browser.wrong)
-            decide("viewer_each_frame_is_the_servers", [f"drawn: {mine}; of the server: {theirs}" for mine, theirs in zip(told, lines)
-                   if mine.split(" ", 2)[2] != theirs] + ([] if len(lines) >= FRAMES else ["frames are missing"])
-                   + ([] if len(set(lines)) > FRAMES // 2 else ["the frames are the same"]))
-            png = browser.picture()
+            png = check_frames(server, browser, "viewer")
             pathlib.Path(picture).write_bytes(png)
-            decide("viewer_picture_has_terrain_below_and_sky_above", shown(pixels(png)))
-            before = struct.unpack("<4I", server.ask("/ground", [])[1][:16])[3]
+            before = struct.unpack("<4I", server.ask("/ground", [0])[1][:16])[3]
             browser.click(400, 420)
             ground = b""
             for _ in range(50):
-                ground = server.ask("/ground", [])[1]
+                ground = server.ask("/ground", [before])[1]
                 if struct.unpack("<4I", ground[:16])[3] != before:
                     break
                 time.sleep(0.1)
             decide("viewer_a_click_raises_the_ground", [] if struct.unpack("<4I", ground[:16])[3] == before + 1 else ["no edit came"])
         finally:
             browser.close()
+
+
+WIDE = 4097  # more points a side than one grid of the viewer has
+
+
+def across(k):
+    """A part of the height of a point, by its column or by its row: 61 numbers along 1,000 points and more."""
+    return 60 * round(30 + 22 * math.sin(k / 150) + 8 * math.sin(k / 23))
+
+
+@functools.lru_cache(maxsize=None)
+def row_of(level):
+    return struct.pack(f">{WIDE}H", *(level + across(column) for column in range(WIDE)))
+
+
+def pages_of(ground):
+    """Of the pages that an answer has: where each lies, and its heights."""
+    *_, of_page, count = HEAD.unpack(ground[:HEAD.size])
+    heads = [AT.unpack_from(ground, HEAD.size + AT.size * k) for k in range(count)]
+    begin, size = HEAD.size + AT.size * count, 2 * of_page * of_page
+    return of_page, {head[:3]: struct.unpack_from(f"<{of_page * of_page}H", ground, begin + size * k) for k, head in enumerate(heads)}
+
+
+def check_pages(chromium):
+    """A ground that is larger than one grid is flown in pages, which have the heights of the file."""
+    with tempfile.NamedTemporaryFile(suffix=".pgm") as file, tempfile.TemporaryDirectory(ignore_cleanup_errors=True) as profile:
+        file.write(f"P5\n{WIDE} {WIDE}\n65535\n".encode())
+        file.writelines(row_of(across(row)) for row in range(WIDE))
+        file.flush()
+        server, levels = Server(file.name, 6000, "--report"), set()
+        browser = Browser(chromium, profile) if chromium else None
+        try:
+            until = time.monotonic() + 120
+            while len(levels) < 5 and time.monotonic() < until:
+                status, body = server.ask("/frame", [2000, 0, 90 * 2000, 90 * 2000, 9000])
+                of_page, pages = pages_of(server.ask("/ground", [-1])[1])
+                levels = {q for q, _, _ in pages}
+            why = [] if status == 200 and levels == {0, 1, 2, 3, 4} else [f"status {status}, resolutions {levels}"]
+            last, low = of_page - 1, 2 * min(map(across, range(WIDE)))
+            for (q, column, row), heights in pages.items():
+                for k in range(0, len(heights), 4099):
+                    x, y = column * last + k % of_page << q, (row + 1) * last - k // of_page << q
+                    if heights[k] != across(x) + across(WIDE - 1 - y) - low:
+                        why.append(f"page {q} {column} {row} has another height at its place {k}")
+            decide("viewer_pages_come_with_the_heights_of_the_file", why)
+            refused = server.ask("/raise", [5, 5, 4, 10])
+            decide("viewer_pages_are_not_raised", [] if refused[0] == 400 and b"2049 points a side" in refused[1] else [refused])
+            if browser:
+                check_frames(server, browser, "viewer_pages")
+        finally:
+            if browser:
+                browser.close()
+            server.process.terminate()
+            server.process.wait()
+
+
+def check_frames(server, browser, name):
+    """Ten frames of the recorded path; the picture of the last."""
+    printed = len(server.lines)
+    browser.call("Page.navigate", url=f"http://127.0.0.1:{server.port}/?frames={FRAMES}&triangles=3000")
+    done = browser.wait('document.title === "done"', 240)
+    told, lines = browser.said, [line.split(" ", 2)[2].strip() for line in server.lines[printed:]]
+    decide(f"{name}_ten_frames_are_drawn", [] if done and len(told) == FRAMES else [f"{len(told)} frames", *browser.wrong])
+    decide(f"{name}_no_error_in_the_console", browser.wrong)
+    decide(f"{name}_each_frame_is_the_servers", [f"drawn: {mine}; of the server: {theirs}" for mine, theirs in zip(told, lines)
+           if mine.split(" ", 2)[2] != theirs] + ([] if len(lines) >= FRAMES else ["frames are missing"])
+           + ([] if len(set(lines)) > FRAMES // 2 else ["the frames are the same"]))
+    png = browser.picture()
+    decide(f"{name}_picture_has_terrain_below_and_sky_above", shown(pixels(png)))
+    return png
 
 
 def check_sea(chromium):
@@ -408,7 +472,7 @@ def measure(server, frames):
         words = pathlib.Path(f"/proc/{server.process.pid}/stat").read_text().rpartition(")")[2].split()
         return 1000 * (int(words[11]) + int(words[12])) / os.sysconf("SC_CLK_TCK")
 
-    side, spacing, most, _ = struct.unpack("<4I", server.ask("/ground", [])[1][:16])
+    side, spacing, most, _ = struct.unpack("<4I", server.ask("/ground", [0])[1][:16])
     for name, planes in {"no planes": False, "four planes anew": True}.items():
         link, spent, engine, start = server.connect(), [], [], 0.0
         for k in range(frames):
@@ -468,6 +532,7 @@ def main():
             check_browser(server, words[1], words[2])
             check_sea(words[2])
             check_tiles(words[0], words[2])
+        check_pages(words[2] if len(words) == 3 else None)
         check_lift(server)
         check_worn()
         decide("viewer_server_stays_and_says_nothing_wrong", [it.strip() for it in server.errors] + ([] if server.process.poll() is None else ["it ended"]))

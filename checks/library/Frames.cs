@@ -1,6 +1,8 @@
 // Roam.cs over a hill of nine points: a frame found by hand, its indices, what is refused, an engine that goes from thread to
-// thread, and use after Dispose; and two tiles that become one mesh.
+// thread, and use after Dispose; two tiles that become one mesh; and pages that come and go.
 using System;
+using System.Collections.Generic;
+using System.Linq;
 using System.Threading;
 using Roam;
 
@@ -74,6 +76,7 @@ static class Frames {
         last.Join();
         Must(AnswerOf(() => engine.Frame()) == Answer.IsEmpty, "a frame of none");
         Tiles(hill);
+        Pages();
         Console.WriteLine("frames of C#");
     }
 
@@ -138,5 +141,119 @@ static class Frames {
         Must(AnswerOf(() => mosaic.Put(1, 0, found, 0)) == Answer.Shrunk, "a tile that shrinks");
         Must(AnswerOf(() => new Mosaic(1, 1, 4)) == Answer.BadGrid, "a mosaic of tiles of four points a side");
         mosaic.Dispose();
+    }
+
+    // The heights of a page of side 2^n + 1, from the far side on.
+    static ushort[] Heights(int n, int q, int column, int row) {
+        int side = 1 << n;
+        var heights = new ushort[(side + 1) * (side + 1)];
+        for (int k = 0; k < heights.Length; k++) {
+            int x = (column * side + k % (side + 1)) << q, y = (row * side + side - k / (side + 1)) << q;
+            heights[k] = (ushort)((37 * x + 101 * y + 53 * x * y) % 256);
+        }
+        return heights;
+    }
+    static void LoadAll(World world, int q) {
+        for (int k = 0; k < 16 >> 2 * q; k++) {
+            int column = k % (4 >> q), row = k / (4 >> q);
+            using (var page = new Page(Heights(1, q, column, row))) {
+                world.Load(page, (uint)q, (uint)column, (uint)row);
+                Must(AnswerOf(() => world.Load(page, 0, 0, 0)) == Answer.IsEmpty, "a page that is in a world is in its handle");
+            }
+        }
+    }
+
+    // The triangles that a world draws are those that an engine writes for the whole grid, each by its corners in turn.
+    static void DrawsAreIndices(World world, Engine engine, int triangles) {
+        uint[] places, indices = new uint[3 * 128];
+        Draw[] draws = world.Draws(out places);
+        Must(engine.Indices(indices) == triangles && places.Length == 3 * triangles, "how many triangles are drawn");
+        var wanted = new HashSet<string>();
+        for (int k = 0; k < triangles; k++) wanted.Add(indices[3 * k] + " " + indices[3 * k + 1] + " " + indices[3 * k + 2]);
+        uint first = 0;
+        foreach (Draw draw in draws) {
+            Func<uint, uint> place = k => // in the whole grid, of the k-th index
+                (8 - ((draw.Row * 2 + 2 - places[k] / 3) << (int)draw.Q)) * 9 + ((draw.Column * 2 + places[k] % 3) << (int)draw.Q);
+            Must(draw.First == first, "where a draw begins");
+            for (uint k = 3 * first; k < 3 * (first + draw.Triangles); k += 3)
+                Must(wanted.Remove(place(k) + " " + place(k + 1) + " " + place(k + 2)), "a triangle that is drawn");
+            first += draw.Triangles;
+        }
+        Must(wanted.Count == 0 && draws.Select(it => new { it.Q, it.Column, it.Row }).Distinct().Count() == draws.Length, "a draw a page");
+    }
+
+    // Heights that are changed in each page that has the point, and in a page that is not loaded.
+    static void Edits(World world, Engine engine) {
+        world.Budget(40);
+        world.Threshold(0);
+        engine.Budget(40);
+        engine.Threshold(0);
+        world.SetHeight(4, 4, 900);
+        engine.Set(4, 4, 900);
+        world.Raise(0, 0, 3, 1, 7);
+        engine.Raise(0, 0, 3, 1, 7);
+        ulong worst = world.Frame().Worst;
+        Must(worst > 0 && worst == engine.Frame().Worst, "a frame of changed heights");
+        Must(AnswerOf(() => world.SetHeight(9, 0, 1)) == Answer.OutsideGrid, "a point outside a terrain");
+        Must(AnswerOf(() => world.Raise(0, 0, 1, 1, 65536)) == Answer.BadChange, "a change that is too great");
+        using (var page = world.Unload(0, 2, 2)) {
+            Must(AnswerOf(() => world.SetHeight(5, 5, 1)) == Answer.NotThere, "a point that is not there");
+            Must(AnswerOf(() => page.SetHeight(3, 0, 1)) == Answer.OutsideGrid, "a point outside a page");
+            page.Raise(0, 0, 0, 0, 1);
+            Must(AnswerOf(() => world.Load(page, 0, 2, 2)) == Answer.BadPage, "a page of other heights");
+            page.SetHeight(0, 0, 900);
+            world.Load(page, 0, 2, 2);
+        }
+    }
+
+    // A terrain of nine points a side in pages of three: with all of them loaded, what an engine finds over the whole grid.
+    static void Pages() {
+        var coarsest = new Page(Heights(1, 2, 0, 0));
+        Must(AnswerOf(() => new World(coarsest, 3, 1, 10)) == Answer.BadBudget, "a budget of 1");
+        Must(AnswerOf(() => new World(coarsest, 15, 128, 10)) == Answer.BadGrid, "a terrain that is too large");
+        Must(AnswerOf(() => new World(coarsest, 3, 128, 0)) == Answer.BadSpacing, "no spacing");
+        var world = new World(coarsest, 3, 128, 10);
+        Must(AnswerOf(() => new World(coarsest, 3, 128, 10)) == Answer.IsEmpty, "a page that opened a world");
+        using (var early = new Page(Heights(1, 0, 0, 0)))
+            Must(AnswerOf(() => world.Load(early, 0, 0, 0)) == Answer.BadPage, "a page too early");
+        LoadAll(world, 1);
+        LoadAll(world, 0);
+        using (var engine = new Engine(Heights(3, 0, 0, 0), 128, 10)) {
+            uint[] leaves = new uint[128], wanted = new uint[128];
+            for (uint budget = 128; budget > 2; budget /= 2) {
+                var plane = new Plane { A = 1, D = 5 };
+                world.Camera(budget, 40, 90);
+                world.Budget(budget);
+                world.Threshold(budget);
+                world.Look(plane);
+                engine.Camera(budget, 40, 90);
+                engine.Budget(budget);
+                engine.Threshold(budget);
+                engine.Look(plane);
+                WorldNote note = world.Frame();
+                Note twin = engine.Frame();
+                Must(note.Worst == twin.Worst && note.Blocking == twin.Blocking, "a frame of a world");
+                Must(world.Leaves(leaves) == engine.Leaves(wanted), "how many addresses a world has");
+                for (uint k = 0; k < note.Triangles; k++) Must(leaves[k] == wanted[k], "the addresses of a world");
+                DrawsAreIndices(world, engine, (int)note.Triangles);
+            }
+            Edits(world, engine);
+        }
+        Must(AnswerOf(() => world.Unload(1, 1, 1)) == Answer.BadPage, "a page with finer ones over it");
+        uint[] places;
+        world.Budget(128);
+        world.Threshold(0);
+        world.Frame();
+        using (var page = world.Unload(0, 3, 2)) {
+            Must(AnswerOf(() => world.Draws(out places)) == Answer.NotThere, "a page that is drawn is not there");
+            Must(AnswerOf(() => world.Unload(0, 3, 2)) == Answer.NotThere, "a page that is not there");
+            world.Load(page, 0, 3, 2);
+        }
+        Must(AnswerOf(() => world.Camera(0, 0, 1L << 31)) == Answer.BadCamera, "a far camera of a world");
+        Must(AnswerOf(() => world.Budget(129)) == Answer.BadBudget, "a budget above that at opening");
+        Must(AnswerOf(() => world.Look(new Plane[7])) == Answer.TooManyPlanes, "seven planes of a world");
+        Must(AnswerOf(() => new Page(new ushort[8])) == Answer.BadGrid, "a page of eight heights");
+        world.Dispose();
+        Must(AnswerOf(() => world.Frame()) == Answer.IsEmpty, "a world that is disposed of");
     }
 }

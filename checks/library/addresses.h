@@ -17,7 +17,7 @@ static void corners(uint32_t address, size_t side, uint32_t place[3]) {
 }
 
 /* Leaves in order cover the square once: each begins where the one before ends. */
-static void test_leaves(const uint32_t *leaf, uint32_t count, size_t side) {
+static inline void test_leaves(const uint32_t *leaf, uint32_t count, size_t side) {
     uint32_t end = (uint32_t)2 << 22;
     for (uint32_t k = 0; k < count; k++) {
         must(leaf[k] >= 2 && leaf[k] < 4 * (uint32_t)((side - 1) * (side - 1)), "an address that the grid does not have");
@@ -28,6 +28,6 @@ static void test_leaves(const uint32_t *leaf, uint32_t count, size_t side) {
 }
 
 /* Twice the area of a triangle of points, counterclockwise. */
-static int64_t doubled(const int64_t p[2], const int64_t q[2], const int64_t r[2]) {
+static inline int64_t doubled(const int64_t p[2], const int64_t q[2], const int64_t r[2]) {
     return (q[0] - p[0]) * (r[1] - p[1]) - (r[0] - p[0]) * (q[1] - p[1]);
 }

@@ -5,10 +5,12 @@
  * usage: worlds SEED COUNT      until each call was made COUNT times
  *        worlds ends            each allocation refused in turn
  * With -DFUZZER the numbers are those of libFuzzer. */
-enum { PAGE_MAKE, PAGE_DROP, WORLD_OPEN, WORLD_CLOSE, WORLD_LOAD, WORLD_UNLOAD, WORLD_CAMERA, WORLD_LOOK, WORLD_THRESHOLD, WORLD_BUDGET,
-       WORLD_FRAME, WORLD_LEAVES, CALLS };
-static const char *const names[CALLS] = { "page_make", "page_drop", "world_open", "world_close", "world_load", "world_unload",
-    "world_camera", "world_look", "world_threshold", "world_budget", "world_frame", "world_leaves" };
+enum { PAGE_MAKE, PAGE_DROP, PAGE_SET_HEIGHT, PAGE_RAISE, WORLD_OPEN, WORLD_CLOSE, WORLD_LOAD, WORLD_UNLOAD, WORLD_SET_HEIGHT,
+       WORLD_RAISE, WORLD_CAMERA, WORLD_LOOK, WORLD_THRESHOLD, WORLD_BUDGET, WORLD_FRAME, WORLD_LEAVES, WORLD_DRAWS,
+       CALLS };
+static const char *const names[CALLS] = { "page_make", "page_drop", "page_set_height", "page_raise", "world_open", "world_close",
+    "world_load", "world_unload", "world_set_height", "world_raise",
+    "world_camera", "world_look", "world_threshold", "world_budget", "world_frame", "world_leaves", "world_draws" };
 #include "random_calls.h"
 
 enum { SIDE = 17, POINTS = SIDE * SIDE, ROOM = 1024, PAGES = 4, WORLDS = 2, CUTS = 3, TABLE = 85 };
@@ -49,6 +51,39 @@ static void do_page_drop(struct page *p) {
     call = PAGE_DROP;
     answers(roam_page_drop(&p->handle), p->is_full ? ROAM_OK : ROAM_IS_EMPTY);
     p->is_full = false;
+}
+
+/* --- Changes of heights. --- */
+
+/* The columns x0 to x1 and the rows y0 to y1, and by how much their heights rise; or, of one point, the height that it gets. */
+struct change { uint32_t x0, y0, x1, y1; bool is_set; uint16_t height; int32_t dz; };
+
+/* A page's heights at its points in the area, `step` grid steps apart from the point (x, y) on; whether there is one. */
+static bool change_heights(uint16_t *height, unsigned n, uint32_t x, uint32_t y, uint32_t step, const struct change *c) {
+    const uint32_t side = (uint32_t)1 << n;
+    bool is_there = false;
+    for (uint32_t k = 0; k < (side + 1) * (side + 1); k++) {
+        const uint64_t px = x + (uint64_t)(k % (side + 1)) * step, py = y + (uint64_t)(side - k / (side + 1)) * step;
+        if (px < c->x0 || px > c->x1 || py < c->y0 || py > c->y1) continue;
+        const int64_t raised = (int64_t)height[k] + c->dz;
+        height[k] = c->is_set ? c->height : (uint16_t)(raised < 0 ? 0 : raised > 65535 ? 65535 : raised);
+        is_there = true;
+    }
+    return is_there;
+}
+static int32_t wanted_change(const struct change *c, uint32_t side) {
+    if (c->x0 > c->x1 || c->x1 > side || c->y0 > c->y1 || c->y1 > side) return ROAM_OUTSIDE_GRID;
+    return !c->is_set && (c->dz < -65535 || c->dz > 65535) ? ROAM_BAD_CHANGE : ROAM_OK;
+}
+
+static void do_page_change(struct page *p, const struct change *c) {
+    call = c->is_set ? PAGE_SET_HEIGHT : PAGE_RAISE;
+    without_memory();
+    const int32_t answer = c->is_set ? roam_page_set_height(&p->handle, c->x0, c->y0, c->height)
+                                     : roam_page_raise(&p->handle, c->x0, c->y0, c->x1, c->y1, c->dz);
+    none_was_asked();
+    answers(answer, p->is_full ? wanted_change(c, (uint32_t)1 << p->n) : ROAM_IS_EMPTY);
+    if (answer == ROAM_OK) (void)change_heights(p->height, p->n, 0, 0, 1, c);
 }
 
 /* --- Worlds. --- */
@@ -170,6 +205,37 @@ static void do_unload(struct world *w, uint32_t q, uint32_t column, uint32_t row
     w->loaded[k].is_there = false, p->is_full = true, p->n = w->n, memcpy(p->height, w->loaded[k].height, sizeof p->height);
 }
 
+/* The loaded heights of a world whose side is halved at most CUTS times, and those of its twin: the coarsest page's. */
+static bool change_loaded(struct world *w, const struct change *c) {
+    bool is_there = false;
+    for (unsigned cuts = 0; cuts <= w->large - w->n; cuts++)
+        for (uint32_t k = 0; k < (uint32_t)1 << 2 * cuts; k++) {
+            const uint32_t q = w->large - w->n - cuts, column = k % ((uint32_t)1 << cuts), row = k >> cuts;
+            const size_t here = at(cuts, column, row);
+            if (!w->loaded[here].is_there) continue;
+            const uint32_t x = column << (w->n + q), y = row << (w->n + q);
+            is_there |= change_heights(w->loaded[here].height, w->n, x, y, (uint32_t)1 << q, c);
+        }
+    return is_there;
+}
+static void change_twin(struct world *w, const struct change *c) {
+    const unsigned q = w->large - w->n;
+    const uint32_t last = ((uint32_t)1 << q) - 1, x0 = (c->x0 + last) >> q, y0 = (c->y0 + last) >> q;
+    const uint32_t x1 = c->x1 >> q, y1 = c->y1 >> q;
+    if (x0 > x1 || y0 > y1) return;
+    (void)(c->is_set ? roam_set(&w->twin, x0, y0, c->height) : roam_raise(&w->twin, x0, y0, x1, y1, c->dz));
+}
+static void do_change(struct world *w, const struct change *c) {
+    call = c->is_set ? WORLD_SET_HEIGHT : WORLD_RAISE;
+    without_memory();
+    const int32_t answer = c->is_set ? roam_world_set_height(&w->handle, c->x0, c->y0, c->height)
+                                     : roam_world_raise(&w->handle, c->x0, c->y0, c->x1, c->y1, c->dz);
+    none_was_asked();
+    const int32_t wanted = w->is_open ? wanted_change(c, (uint32_t)1 << w->large) : ROAM_IS_EMPTY;
+    answers(answer, wanted != ROAM_OK ? wanted : change_loaded(w, c) ? ROAM_OK : ROAM_NOT_THERE);
+    if (answer == ROAM_OK) change_twin(w, c);
+}
+
 static void do_camera(struct world *w, int64_t x, int64_t y, int64_t z) {
     call = WORLD_CAMERA;
     const int64_t end = (int64_t)1 << 30;
@@ -248,6 +314,8 @@ static void do_leaves(struct world *w, size_t places) {
     }
 }
 
+#include "world_draws.h"
+
 /* --- Arguments at the ends of their ranges, and random ones. --- */
 
 static const size_t counts[] = { 9, 9, 25, 25, 81, 81, 289, 0, 1, 4, 8, 10, 16, 24, 26, 80, 82, 288 };
@@ -302,6 +370,18 @@ static void unload(struct world *w) {
     if (below(16) == 0) left = 0;
     do_unload(w, q, column, row, &pages[below(PAGES)]);
 }
+/* An area of a grid of so many steps a side, nearly always one that there is, and a change of its heights. */
+static struct change change(uint32_t side) {
+    static const uint32_t ends[] = { 0, 1, 2, 16, 17, 16384, 16385, UINT32_MAX };
+    static const int32_t changes[] = { 0, 1, -1, 65535, -65535, 65536, -65536, INT32_MAX, INT32_MIN };
+    struct change c;
+    c.is_set = below(2), c.height = (uint16_t)word(), c.dz = below(8) ? (int32_t)below(401) - 200 : OF(changes);
+    c.x0 = below(16) ? (uint32_t)below((size_t)side + 1) : OF(ends);
+    c.y0 = below(16) ? (uint32_t)below((size_t)side + 1) : OF(ends);
+    c.x1 = c.is_set ? c.x0 : below(16) ? c.x0 + (uint32_t)below(side / 2 + 1) : OF(ends);
+    c.y1 = c.is_set ? c.y0 : below(16) ? c.y0 + (uint32_t)below(side / 2 + 1) : OF(ends);
+    return c;
+}
 static int64_t place(void) {
     static const int64_t ends[] = { 0, 1, (int64_t)1 << 30, -((int64_t)1 << 30), ((int64_t)1 << 30) + 1, -((int64_t)1 << 30) - 1, INT64_MAX, INT64_MIN };
     return below(16) ? (int64_t)below(4096) - 1024 : OF(ends);
@@ -323,6 +403,12 @@ static void step(void) {
     switch (below(CALLS)) {
     case PAGE_MAKE: make_page(p); break;
     case PAGE_DROP: do_page_drop(p); break;
+    case PAGE_SET_HEIGHT: case PAGE_RAISE: { const struct change c = change((uint32_t)1 << p->n); do_page_change(p, &c); break; }
+    case WORLD_SET_HEIGHT: case WORLD_RAISE: {
+        const struct change c = change((uint32_t)1 << w->large);
+        if (is_told(w)) do_change(w, &c);
+        break;
+    }
     case WORLD_OPEN: if (!w->is_open || below(16) == 0) open_world(w); break;
     case WORLD_CLOSE: if (below(16) == 0) do_world_close(w); break;
     case WORLD_LOAD: load(w); break;
@@ -333,6 +419,7 @@ static void step(void) {
     case WORLD_BUDGET: do_budget(w, below(8) ? 2 + (uint32_t)below(w->most > 2 ? w->most : 8) : number(w->most)); break;
     case WORLD_FRAME: do_frame(w); break;
     case WORLD_LEAVES: do_leaves(w, below(4) ? ROOM : below(2) ? w->triangles - 1 : w->triangles); break;
+    case WORLD_DRAWS: do_draws(w, below(4) ? ROOM : below(8), below(8) ? 3 * ROOM : 3 * (size_t)w->triangles - below(2)); break;
     default: break;
     }
 }
@@ -442,6 +529,11 @@ static void test_paging(void) {
     put_all(&w, 1), fly_both(&w, &coarser);
     for (int turn = 0; turn < 2; turn++) {
         put_all(&w, 0), fly_both(&w, &finer);
+        call = WORLD_RAISE, answers(roam_world_raise(&w, 3, 1, 6, 8, 40), roam_raise(&finer, 3, 1, 6, 8, 40));
+        fly_both(&w, &finer);
+        answers(roam_world_raise(&w, 3, 1, 6, 8, -40), roam_raise(&finer, 3, 1, 6, 8, -40));
+        call = WORLD_SET_HEIGHT, answers(roam_world_set_height(&w, 4, 4, 255), roam_set(&finer, 4, 4, 255)), fly_both(&w, &finer);
+        answers(roam_world_set_height(&w, 4, 4, terrain[40]), roam_set(&finer, 4, 4, terrain[40]));
         call = WORLD_UNLOAD, answers(roam_world_unload(&w, 2, 0, 0, &page), ROAM_BAD_PAGE);
         answers(roam_world_unload(&w, 1, 1, 0, &page), ROAM_BAD_PAGE), answers(roam_world_unload(&w, 0, 4, 0, &page), ROAM_NOT_THERE);
         left = 0, answers(roam_world_unload(&w, 0, 0, 0, &page), ROAM_NO_MEMORY), left = -1;
