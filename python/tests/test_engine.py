@@ -49,9 +49,11 @@ def test_the_ranges_are_those_of_the_header():
     said = HEADER.read_text()
     assert f"above {engine.MOST_TRIANGLES}" in said and f"above {engine.MOST_SPACING} " in said
     assert f"above {engine.MOST_TOLERANCE} thousandths" in said and "2^30" in said and "2^20" in said and "2^50" in said
+    from calfrewin import world
+    assert f"large is above {world.MOST_LARGE}" in said
     answers = dict(re.findall(r"ROAM_(\w+) = (\d+)", said))
     from calfrewin import _owner
-    named = ("NO_MEMORY", "TOO_MANY_PLANES", "WORN", "IS_EMPTY", "BAD_MESH", "SHRUNK")
+    named = ("NO_MEMORY", "TOO_MANY_PLANES", "WORN", "IS_EMPTY", "BAD_MESH", "SHRUNK", "BAD_PAGE")
     assert [int(answers[it]) for it in named] == [getattr(_owner, it) for it in named]
 
 

@@ -6,12 +6,22 @@ import pytest
 from click.testing import CliRunner
 from made import hills, write_tif
 
-from calfrewin.fly import FRAME_HEAD, GROUND_HEAD, Flight, fly
+from calfrewin.flight import FRAME_HEAD, GROUND_HEAD, PAGE_HEAD, GridFlight
+from calfrewin.fly import fly
 from calfrewin.mesh import array_of
 
 
 def flight(heights, most=2000, cell=30.0):
-    return Flight(array_of(heights, cell=cell), most)
+    return GridFlight(array_of(heights, cell=cell), most)
+
+
+def pages_of(ground):
+    """The head of an answer; of each page where it lies, and of those that came the heights."""
+    head = GROUND_HEAD.unpack_from(ground)
+    side, count = head[-2:]
+    at = GROUND_HEAD.size + PAGE_HEAD.size * count
+    squares = [PAGE_HEAD.unpack_from(ground, GROUND_HEAD.size + PAGE_HEAD.size * k) for k in range(count)]
+    return head, squares, np.frombuffer(ground, "<u2", offset=at).reshape(-1, side, side)
 
 
 def names_of(frame):
@@ -21,10 +31,9 @@ def names_of(frame):
 def test_a_raster_of_any_shape_lies_at_the_far_left_of_the_square():
     heights = hills(100, 70)
     it = flight(heights)
-    ground = it.ground(())
-    side, spacing, most, edits, columns, rows = GROUND_HEAD.unpack_from(ground)
-    numbers = np.frombuffer(ground, "<u2", offset=GROUND_HEAD.size).reshape(side, side)
-    assert (side, most, edits, columns, rows) == (129, 2000, 0, 70, 100)
+    (side, spacing, most, edits, columns, rows, of_page, _), squares, (numbers,) = pages_of(it.ground((-1,)))
+    assert (side, most, edits, columns, rows, of_page) == (129, 2000, 0, 70, 100, 129) and squares == [(0, 0, 0, 0)]
+    assert len(it.ground((0,))) == GROUND_HEAD.size + PAGE_HEAD.size
     unit = 30.0 / spacing
     assert np.abs(np.diff(numbers[:100, :70] * unit - heights, axis=1)).max() < 0.11
 
@@ -49,20 +58,22 @@ def test_above_a_threshold_a_frame_has_fewer_triangles():
 def test_a_hill_stands_in_the_engine_and_on_the_page():
     it = flight(np.zeros((9, 9)), 128, 1.0)
     it.lift((4, 4, 2, 100))
-    ground = np.frombuffer(it.ground(()), "<u2", offset=GROUND_HEAD.size).reshape(9, 9)
+    (*_, edits, _, _, _, _), _, (ground,) = pages_of(it.ground((0,)))
+    assert edits == 1 and len(it.ground((1,))) == GROUND_HEAD.size + PAGE_HEAD.size
     assert ground[3:6, 3:6].tolist() == [[50, 50, 50], [50, 100, 50], [50, 50, 50]]
     it.frame((128, 0, 4, 4, 10))
     assert it.engine.deviation() == 0
 
 
-@pytest.mark.parametrize("numbers, told", [((1, 2), "with 2 numbers"), ((1, 0, 0, 0, 0), "from 2 to"), ((2, 0, 1 << 31, 0, 0), "x is 2147483648"),
-                                           ((2, -1, 0, 0, 0), "ratio is -1")])
+@pytest.mark.parametrize("numbers, told", [((1, 2), "with 2 numbers"), ((1, 0, 0, 0, 0), "from 2 to"),
+                                           ((2, 0, 1 << 31, 0, 0), "x is 2147483648"), ((2, -1, 0, 0, 0), "ratio is -1")])
 def test_a_wrong_frame_names_what_is_wrong(numbers, told):
     with pytest.raises(ValueError, match=told):
         flight(np.zeros((9, 9)), 128, 1.0).frame(numbers)
 
 
-@pytest.mark.parametrize("numbers, told", [((1, 2, 3), "with 3 numbers"), ((9, 0, 1, 1), "from 0 to 8"), ((0, 0, 65, 1), "radius from 1 to 64")])
+@pytest.mark.parametrize("numbers, told", [((1, 2, 3), "with 3 numbers"), ((9, 0, 1, 1), "from 0 to 8"),
+                                           ((0, 0, 65, 1), "radius from 1 to 64")])
 def test_a_wrong_hill_names_what_is_wrong(numbers, told):
     with pytest.raises(ValueError, match=told):
         flight(np.zeros((9, 9)), 128, 1.0).lift(numbers)

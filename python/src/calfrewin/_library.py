@@ -100,16 +100,21 @@ CALLS = {
     "mosaic_put": [_HANDLE, c_uint32, c_uint32, _ARRAY, c_size_t],
     "page_make": [_HANDLE, _ARRAY, c_size_t],
     "page_drop": [_HANDLE],
+    "page_set_height": [_HANDLE, c_uint32, c_uint32, c_uint16],
+    "page_raise": [_HANDLE, c_uint32, c_uint32, c_uint32, c_uint32, c_int32],
     "world_open": [_HANDLE, _HANDLE, c_uint32, c_uint32, c_uint32],
     "world_close": [_HANDLE],
     "world_load": [_HANDLE, c_uint32, c_uint32, c_uint32, _HANDLE],
     "world_unload": [_HANDLE, c_uint32, c_uint32, c_uint32, _HANDLE],
+    "world_set_height": [_HANDLE, c_uint32, c_uint32, c_uint16],
+    "world_raise": [_HANDLE, c_uint32, c_uint32, c_uint32, c_uint32, c_int32],
     "world_camera": [_HANDLE, *_PLACE],
     "world_look": [_HANDLE, POINTER(Plane), c_size_t],
     "world_threshold": [_HANDLE, c_uint64],
     "world_budget": [_HANDLE, c_uint32],
     "world_frame": [_HANDLE, POINTER(WorldNote)],
     "world_leaves": _LIST,
+    "world_draws": [_HANDLE, _ARRAY, c_size_t, _COUNT, _ARRAY, c_size_t, _COUNT],
 }
 HERE = pathlib.Path(__file__).resolve().parent
 PLACES = (

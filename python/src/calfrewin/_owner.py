@@ -1,10 +1,11 @@
 """What owns something of libroam by a handle: calls one at a time, their answers as exceptions, an end by `with`."""
 from __future__ import annotations
 
+import contextlib
 import threading
 from ctypes import byref, c_size_t
 from types import TracebackType
-from typing import Any, ClassVar, Optional, Type, TypeVar
+from typing import Any, ClassVar, Iterator, Optional, Type, TypeVar
 
 import numpy as np
 
@@ -12,7 +13,7 @@ from . import _library as c
 from ._library import calls
 from ._types import Numbers
 
-NO_MEMORY, TOO_MANY_PLANES, WORN, IS_EMPTY, BAD_MESH, SHRUNK = 1, 7, 10, 12, 14, 15
+NO_MEMORY, TOO_MANY_PLANES, WORN, IS_EMPTY, BAD_MESH, SHRUNK, BAD_PAGE, NOT_THERE = 1, 7, 10, 12, 14, 15, 16, 17
 Self = TypeVar("Self", bound="Owner")
 
 
@@ -20,33 +21,43 @@ class Worn(RuntimeError):
     """The engine has made 1,000,000 frames: call renew(); or its camera has gone 2^61 units."""
 
 
+class BadPage(ValueError):
+    """A page has no place there, may not go, or is not loaded; the message has the cause, and nothing has changed."""
+
+
 class Owner:
     """Owns what a handle of roam.h does, within a `with` block or until `close`."""
 
     _kind: ClassVar[str]  #: what it is, in messages
     _prefix: ClassVar[str]  #: of its calls, behind roam_
+    _end: ClassVar[str] = "close"  #: its call that lets go
     _told: ClassVar[dict[int, str]] = {}  #: of answers that are its own
 
     def __init__(self) -> None:
-        self._handle, self._lock = c.Handle(), threading.Lock()
+        self._handle, self._lock = c.Handle(), threading.RLock()
         self._reference = byref(self._handle)
 
-    def _call(self, name: str, *words: Any) -> None:
-        """One call, and its answer as an exception. Two at a time on one handle would be a race in C."""
+    @contextlib.contextmanager
+    def _held(self, told: str = ": give each its own, or share a lock") -> Iterator[None]:
+        """Keeps it to one thread. Two calls at a time on one handle would be a race in C."""
         if not self._lock.acquire(False):
-            raise RuntimeError(f"another thread is using this {self._kind}: give each its own, or share a lock")
+            raise RuntimeError(f"another thread is using this {self._kind}{told}")
         try:
-            answer = calls[self._prefix + name](self._reference, *words)
+            yield
         finally:
             self._lock.release()
+
+    def _call(self, name: str, *words: Any) -> None:
+        """One call, and its answer as an exception."""
+        with self._held():
+            answer = calls[self._prefix + name](self._reference, *words)
         if answer == 0:
             return
         if answer == NO_MEMORY:
             raise MemoryError("out of memory")
-        if answer == WORN:
-            raise Worn(Worn.__doc__)
-        told = {IS_EMPTY: f"the {self._kind} is closed"} | self._told
-        raise ValueError(told.get(answer, f"roam_{self._prefix}{name} refused its arguments with answer {answer}"))
+        told = {IS_EMPTY: f"the {self._kind} is closed", WORN: Worn.__doc__} | self._told
+        kind = {WORN: Worn, BAD_PAGE: BadPage, NOT_THERE: BadPage}.get(answer, ValueError)
+        raise kind(told.get(answer, f"roam_{self._prefix}{name} refused its arguments with answer {answer}"))
 
     def _list(self, name: str, out: Optional[Numbers], count: int, each: int) -> Numbers:
         """What a call writes: rows of `each` numbers, into `out` or into an array of its own of `count` rows."""
@@ -73,12 +84,8 @@ class Owner:
         Traceback (most recent call last):
         ValueError: the engine is closed
         """
-        if not self._lock.acquire(False):
-            raise RuntimeError(f"another thread is using this {self._kind}, so it cannot be closed")
-        try:
-            calls[self._prefix + "close"](self._reference)
-        finally:
-            self._lock.release()
+        with self._held(", so it cannot be closed"):
+            calls[self._prefix + self._end](self._reference)
 
     def __enter__(self: Self) -> Self:
         return self
@@ -90,4 +97,4 @@ class Owner:
     # What it calls is bound here: as the interpreter ends, the names of modules go.
     def __del__(self, calls: Any = calls, reference: Any = byref) -> None:
         if hasattr(self, "_handle"):  # not where the arguments were too few
-            calls[self._prefix + "close"](reference(self._handle))
+            calls[self._prefix + self._end](reference(self._handle))

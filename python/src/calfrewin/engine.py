@@ -10,7 +10,7 @@ import math
 import operator
 from ctypes import byref, c_size_t
 from fractions import Fraction
-from typing import Any, NamedTuple, Optional, Sequence, SupportsFloat, Union
+from typing import Any, ClassVar, NamedTuple, Optional, Sequence, SupportsFloat, Union
 
 import numpy as np
 import numpy.typing as npt
@@ -127,50 +127,11 @@ def whole_heights(heights: npt.ArrayLike) -> npt.NDArray[np.uint16]:
     return np.ascontiguousarray(found, np.uint16)
 
 
-class Engine(Owner):
-    """An engine over a copy of a grid of heights, within a `with` block or until `close`.
+class Viewed(Owner):
+    """What makes meshes for a view: a camera, planes, a threshold and a budget."""
 
-    Args:
-        heights: side x side whole numbers from 0 to 65535, side 3, 5, 9, .. or 16385: rows from the far one (greatest y)
-            to the near one, each from left to right. A C-contiguous uint16 array is read where it lies.
-        budget: the most triangles of a mesh, from 2 to 1,048,576; it determines the memory, all of which is taken here.
-            For `fit` alone 2 is enough.
-        spacing: the length of a grid step in units of height, from 1 to 1024.
-
-    Every call lets other threads run. One thread at a time may use an engine; a second one gets a RuntimeError.
-
-    >>> hill = [[0, 0, 0],
-    ...         [0, 100, 0],
-    ...         [0, 0, 0]]
-    >>> with Engine(hill, budget=8, spacing=10) as engine:
-    ...     engine.camera(10, 10, 150)
-    ...     note = engine.frame()
-    ...     triangles = engine.indices()
-    >>> note.triangles, note.vertices, note.blocking
-    (4, 5, 0)
-    >>> triangles.shape, triangles[0].tolist()
-    ((4, 3), [4, 6, 8])
-    """
-
-    _kind, _prefix = "engine", ""
-    _told = {TOO_MANY_PLANES: "planes: six are in force, and there may be no more"}
-
-    def __init__(self, heights: npt.ArrayLike, budget: Whole, spacing: Whole = 1) -> None:
-        super().__init__()
-        most = whole("budget", budget, 2, MOST_TRIANGLES)
-        step = whole("spacing", spacing, 1, MOST_SPACING)
-        grid = whole_heights(heights)
-        self._call("open", grid.ctypes.data, grid.size, most, step)
-        # Of the last frame's mesh: at first the two base triangles.
-        self._most, self._side, self._triangles, self._vertices = most, math.isqrt(grid.size), 2, 4
-
-    def __repr__(self) -> str:
-        try:
-            state = self.state()
-        except (ValueError, RuntimeError) as why:
-            return f"<calfrewin.Engine: {why}>"
-        return (f"<calfrewin.Engine of {state.side} x {state.side} points, a budget of {state.budget:,} triangles, "
-                f"{state.frames} frames made>")
+    _most: int  #: the budget at opening
+    _triangles: int  #: of the last frame's mesh, at first the two halves of the square
 
     def camera(self, x: float, y: float, z: float) -> None:
         """Puts the camera to a place in world units, at most 2^30 from 0 on each axis; floats are rounded.
@@ -180,18 +141,6 @@ class Engine(Owner):
         ValueError: y is 2147483648, and has to be from -1073741824 to 1073741824
         """
         self._call("camera", _coordinate("x", x), _coordinate("y", y), _coordinate("z", z))
-
-    def add_plane(self, a: Whole, b: Whole, c: Whole, d: Whole) -> None:
-        """Adds a view plane, whose inside is where a x + b y + c z + d >= 0, six at most. What is outside has priority 0.
-
-        a, b and c are at most 2^20 from 0, d at most 2^50.
-
-        >>> engine = Engine([[0] * 3] * 3, 2)
-        >>> engine.add_plane(1, 0, 0, -5)
-        >>> engine.state().planes
-        1
-        """
-        self._call("add_plane", *_plane(a, b, c, d))
 
     def look(self, planes: Sequence[Sequence[Whole]]) -> None:
         """Puts these planes, (a, b, c, d) each as `add_plane` takes them and six at most, in the place of those in force.
@@ -207,24 +156,6 @@ class Engine(Owner):
         if len(found) > MOST_PLANES:
             raise ValueError(f"planes are {len(found)}, and may be {MOST_PLANES} at most")
         self._call("look", (c.Plane * MOST_PLANES)(*found), len(found))
-
-    def clear_planes(self) -> None:
-        """Takes all view planes away.
-
-        >>> engine = Engine([[0] * 3] * 3, 2)
-        >>> engine.add_plane(1, 0, 0, 0); engine.clear_planes(); engine.state().planes
-        0
-        """
-        self._call("clear_planes")
-
-    def renew(self) -> None:
-        """Lets frames count from 0 on again, for an engine that has made 1,000,000. All else stays, the other counts too.
-
-        >>> engine = Engine([[0] * 3] * 3, 2)
-        >>> note = engine.frame(); engine.renew(); engine.state().frames
-        0
-        """
-        self._call("renew")
 
     def threshold(self, ratio: Whole) -> None:
         """Puts a threshold in force: what is good enough, as `pixel_threshold` tells of an error in pixels.
@@ -250,6 +181,21 @@ class Engine(Owner):
         """
         self._call("budget", whole("triangles", triangles, 2, self._most))
 
+    def leaves(self, out: Optional[Numbers] = None) -> Numbers:
+        """Shape (triangles,): the address of each triangle of the last frame's mesh: a number that names it in every frame.
+
+        >>> Engine([[0] * 3] * 3, 2).leaves().tolist()
+        [2, 3]
+        """
+        return self._list("leaves", out, self._triangles, 1)
+
+
+class Edited(Owner):
+    """What has heights that change: an engine, a page, a world."""
+
+    _set: ClassVar[str] = "set_height"  #: the name of the call for a point
+    _last: int  #: the greatest coordinate of a point
+
     def set(self, x: Whole, y: Whole, height: Whole) -> None:
         """Sets the height of the grid point (x, y), counted in steps from the near left point.
 
@@ -258,8 +204,8 @@ class Engine(Owner):
         >>> engine.frame().triangles
         4
         """
-        last = self._side - 1
-        self._call("set", whole("x", x, 0, last), whole("y", y, 0, last), whole("height", height, 0, MOST_HEIGHT))
+        last = self._last
+        self._call(self._set, whole("x", x, 0, last), whole("y", y, 0, last), whole("height", height, 0, MOST_HEIGHT))
 
     def raise_area(self, x0: Whole, y0: Whole, x1: Whole, y1: Whole, dz: Whole) -> None:
         """Raises the points from (x0, y0) to (x1, y1), both included, by dz (-65535 to 65535), within 0 to 65535.
@@ -269,10 +215,86 @@ class Engine(Owner):
         >>> engine.frame().triangles
         4
         """
-        last = self._side - 1
+        last = self._last
         west, south = whole("x0", x0, 0, last), whole("y0", y0, 0, last)
         east, north = whole("x1", x1, west, last), whole("y1", y1, south, last)
         self._call("raise", west, south, east, north, whole("dz", dz, -MOST_HEIGHT, MOST_HEIGHT))
+
+
+class Engine(Viewed, Edited):
+    """An engine over a copy of a grid of heights, within a `with` block or until `close`.
+
+    Args:
+        heights: side x side whole numbers from 0 to 65535, side 3, 5, 9, .. or 16385: rows from the far one (greatest y)
+            to the near one, each from left to right. A C-contiguous uint16 array is read where it lies.
+        budget: the most triangles of a mesh, from 2 to 1,048,576; it determines the memory, all of which is taken here.
+            For `fit` alone 2 is enough.
+        spacing: the length of a grid step in units of height, from 1 to 1024.
+
+    Every call lets other threads run. One thread at a time may use an engine; a second one gets a RuntimeError.
+
+    >>> hill = [[0, 0, 0],
+    ...         [0, 100, 0],
+    ...         [0, 0, 0]]
+    >>> with Engine(hill, budget=8, spacing=10) as engine:
+    ...     engine.camera(10, 10, 150)
+    ...     note = engine.frame()
+    ...     triangles = engine.indices()
+    >>> note.triangles, note.vertices, note.blocking
+    (4, 5, 0)
+    >>> triangles.shape, triangles[0].tolist()
+    ((4, 3), [4, 6, 8])
+    """
+
+    _kind, _prefix, _set = "engine", "", "set"
+    _told = {TOO_MANY_PLANES: "planes: six are in force, and there may be no more"}
+
+    def __init__(self, heights: npt.ArrayLike, budget: Whole, spacing: Whole = 1) -> None:
+        super().__init__()
+        most = whole("budget", budget, 2, MOST_TRIANGLES)
+        step = whole("spacing", spacing, 1, MOST_SPACING)
+        grid = whole_heights(heights)
+        self._call("open", grid.ctypes.data, grid.size, most, step)
+        self._most, self._side, self._triangles, self._vertices = most, math.isqrt(grid.size), 2, 4
+        self._last = self._side - 1
+
+    def __repr__(self) -> str:
+        try:
+            state = self.state()
+        except (ValueError, RuntimeError) as why:
+            return f"<calfrewin.Engine: {why}>"
+        return (f"<calfrewin.Engine of {state.side} x {state.side} points, a budget of {state.budget:,} triangles, "
+                f"{state.frames} frames made>")
+
+    def add_plane(self, a: Whole, b: Whole, c: Whole, d: Whole) -> None:
+        """Adds a view plane, whose inside is where a x + b y + c z + d >= 0, six at most. What is outside has priority 0.
+
+        a, b and c are at most 2^20 from 0, d at most 2^50.
+
+        >>> engine = Engine([[0] * 3] * 3, 2)
+        >>> engine.add_plane(1, 0, 0, -5)
+        >>> engine.state().planes
+        1
+        """
+        self._call("add_plane", *_plane(a, b, c, d))
+
+    def clear_planes(self) -> None:
+        """Takes all view planes away.
+
+        >>> engine = Engine([[0] * 3] * 3, 2)
+        >>> engine.add_plane(1, 0, 0, 0); engine.clear_planes(); engine.state().planes
+        0
+        """
+        self._call("clear_planes")
+
+    def renew(self) -> None:
+        """Lets frames count from 0 on again, for an engine that has made 1,000,000. All else stays, the other counts too.
+
+        >>> engine = Engine([[0] * 3] * 3, 2)
+        >>> note = engine.frame(); engine.renew(); engine.state().frames
+        0
+        """
+        self._call("renew")
 
     def frame(self) -> Note:
         """Makes the best mesh of what stands now, and tells of it.
@@ -298,14 +320,6 @@ class Engine(Owner):
         [[6, 8, 0], [2, 0, 8]]
         """
         return self._list("indices", out, self._triangles, 3)
-
-    def leaves(self, out: Optional[Numbers] = None) -> Numbers:
-        """Shape (triangles,): the address of each triangle, in the same order: a number that names it in every frame.
-
-        >>> Engine([[0] * 3] * 3, 2).leaves().tolist()
-        [2, 3]
-        """
-        return self._list("leaves", out, self._triangles, 1)
 
     def positions(self, out: Optional[Numbers] = None) -> Numbers:
         """Shape (vertices, 3): x, y, z of each vertex of the last frame's mesh alone, in world units and units of height.

@@ -3,7 +3,8 @@
 `calfrewin fly IN` serves the page in viewer/ on 127.0.0.1 and opens the browser there; it ends at an interrupt (Ctrl-C).
 The page asks by POST, with whole numbers of 64 bits, lowest byte first:
 
-    /ground   nothing; the answer is the ground: GROUND_HEAD, then the heights, 16 bits each
+    /ground   the edits that the page knows, or -1; the answer is GROUND_HEAD, PAGE_HEAD for each page of the ground, and the
+              heights of those that were changed by a later edit, 16 bits each
     /frame    budget, threshold, x, y, z, then a, b, c, d of each plane; the answer is FRAME_HEAD, then a name a triangle,
               32 bits each
     /raise    x, y, radius, dz: a hill of nested squares about a grid point, or a hole where dz is negative
@@ -11,93 +12,25 @@ The page asks by POST, with whole numbers of 64 bits, lowest byte first:
 from __future__ import annotations
 
 import http.server
+import math
 import pathlib
 import re
 import struct
 import sys
-import threading
 import time
 import webbrowser
-import zlib
 from typing import Any, Callable, Optional, Sequence
 
 import click
-import numpy as np
 
-from .command import by_rows, numbers
-from .engine import Engine, Worn
-from .mesh import Array, gridded
+from .command import by_rows, numbers, stage
+from .flight import Flight, GridFlight, WorldFlight
+from .heights import MOST_POINTS
 
 VIEWER = pathlib.Path(__file__).resolve().parent / "viewer"
 PAGES = {"/": ("page.html", "text/html; charset=utf-8"), "/fly.js": ("fly.js", "text/javascript; charset=utf-8")}
-GROUND_HEAD = struct.Struct("<6I")  # side, spacing, most triangles, edits, columns and rows of the raster
-FRAME_HEAD = struct.Struct("<Q14I")  # the note, microseconds of frame and list, edits, and two zeros
-MOST_RADIUS, MOST_BODY = 64, 8 * 29
-
-
-class Flight:
-    """One engine, its ground and its last planes. One method at a time runs: who calls holds `lock`."""
-
-    def __init__(self, array: Array, most: int, step: Optional[float] = None, report: bool = False) -> None:
-        """`step` is the length of a cell in the unit of the heights."""
-        grid = gridded(array, step)
-        self.rows, self.columns = array.heights.shape
-        self.heights, self.spacing = grid.numbers, grid.spacing
-        self.side, self.most, self.report = len(grid.numbers), most, report
-        self.edits, self.frames, self.lock = 0, 0, threading.Lock()
-        self.names = np.empty(most, np.uint32)
-        self.engine, self.budget = Engine(grid.numbers, most, grid.spacing), most
-        self.planes: list[tuple[int, int, int, int]] = []
-
-    def frame(self, numbers: Sequence[int]) -> bytes:
-        """The mesh for a place, within a budget, above a threshold and with planes."""
-        if len(numbers) % 4 != 1 or len(numbers) < 5:
-            raise ValueError(f"a frame is asked with {len(numbers)} numbers, and has to be with 5, 9, .. or 29")
-        began, engine = time.perf_counter(), self.engine
-        planes = [(numbers[k], numbers[k + 1], numbers[k + 2], numbers[k + 3]) for k in range(5, len(numbers), 4)]
-        if numbers[0] != self.budget:
-            engine.budget(numbers[0])
-            self.budget = numbers[0]
-        engine.threshold(numbers[1])  # costs nothing where it is in force
-        engine.camera(*numbers[2:5])
-        if planes != self.planes:
-            engine.look(planes)
-            self.planes = planes
-        try:
-            note = engine.frame()
-        except Worn:  # its frames are counted from 0 on again, and the mesh goes on
-            engine.renew()
-            note = engine.frame()
-        made = time.perf_counter()
-        names = engine.leaves(self.names).tobytes()
-        micros = [round(1e6 * (made - began)), round(1e6 * (time.perf_counter() - made))]
-        self.frames += 1
-        if self.report:
-            click.echo(f"frame {self.frames} triangles {note.triangles} vertices {note.vertices} worst {note.worst} "
-                       f"corners {zlib.adler32(engine.indices().tobytes())}")
-        return FRAME_HEAD.pack(*note, *micros, self.edits, 0, 0) + names
-
-    def lift(self, numbers: Sequence[int]) -> bytes:
-        """Raises or lowers the ground, in the engine and in what the page is told."""
-        if len(numbers) != 4:
-            raise ValueError(f"ground is raised with {len(numbers)} numbers, and has to be with x, y, radius and dz")
-        x, y, radius, dz = numbers
-        last = self.side - 1
-        if not (0 <= x <= last and 0 <= y <= last and 1 <= radius <= MOST_RADIUS and abs(dz) <= 65_535):
-            raise ValueError(f"x and y have to be from 0 to {last}, radius from 1 to {MOST_RADIUS}, dz within 65535 of 0")
-        for k in range(radius):
-            step = dz * (k + 1) // radius - dz * k // radius
-            x0, y0, x1, y1 = max(0, x - k), max(0, y - k), min(last, x + k), min(last, y + k)
-            self.engine.raise_area(x0, y0, x1, y1, step)
-            part = self.heights[last - y1:last - y0 + 1, x0:x1 + 1]
-            part[...] = np.clip(part.astype(np.int64) + step, 0, 65_535)
-        self.edits += 1
-        return b""
-
-    def ground(self, _: Sequence[int]) -> bytes:
-        """The ground as it stands."""
-        head = self.side, self.spacing, self.most, self.edits, self.columns, self.rows
-        return GROUND_HEAD.pack(*head) + self.heights.astype("<u2", copy=False).tobytes()
+MOST_BODY = 8 * 29
+MOST_STEPS = 1 << 14  # a side, of a world's terrain
 
 
 class Handler(http.server.BaseHTTPRequestHandler):
@@ -168,11 +101,28 @@ class Server(http.server.ThreadingHTTPServer):
             super().handle_error(*_)
 
 
+def flight_of(source: str, triangles: int, window: Optional[Sequence[int]], every: Optional[int], spacing: Optional[float],
+              nodata: Optional[float], report: bool) -> Flight:
+    """The flight over a raster: over one grid where few enough points are taken of it, else over pages."""
+    from . import systems
+    from .raster import array_of_raster, open_raster
+    from .raster_pages import RasterPages
+    raster = open_raster(source, spacing=spacing, nodata=nodata).part(window)
+    every = every or max(1, math.ceil((max(raster.shape) - 1) / MOST_STEPS))
+    rows, columns = ((count - 1) // every + 1 for count in raster.shape)
+    a, b, c, d, e, f = raster.transform
+    step = systems.metres_of_cell(raster.crs, (a * every, b * every, c, d * every, e * every, f), (rows, columns))
+    if max(rows, columns) <= MOST_POINTS:
+        return GridFlight(array_of_raster(raster, every=every).array, triangles, step, report)
+    with stage("reading", False) as progress:
+        return WorldFlight(RasterPages(raster, step, every=every, progress=progress), triangles, report)
+
+
 @click.command("fly", context_settings={"help_option_names": ["-h", "--help"], "max_content_width": 120})
 @click.argument("source", metavar="IN")
 @click.option("--triangles", type=click.IntRange(2, 1_048_576), default=20_000, show_default=True, help="The most of a frame.")
 @click.option("--window", callback=numbers(int, "COLUMN,ROW,COLUMNS,ROWS"), help="Only this part of IN.")
-@click.option("--every", type=click.IntRange(1), help="Takes every Nth point; without it few enough for 2049 a side.")
+@click.option("--every", type=click.IntRange(1), help="Takes every Nth point; without it few enough for 16385 a side.")
 @click.option("--spacing", type=click.FloatRange(0, min_open=True), help="Metres from point to point, where IN does not say.")
 @click.option("--nodata", type=float, help="The number that stands for no height, where IN does not say.")
 @click.option("--port", type=click.IntRange(0, 65_535), default=8135, show_default=True, help="On 127.0.0.1; 0 is any free one.")
@@ -188,13 +138,9 @@ def fly(source: str, triangles: int, window: Optional[tuple[int, int, int, int]]
       calfrewin fly my.tif
       calfrewin fly my.pgm --spacing 90 --triangles 6000
     """
-    from . import systems
-    from .raster import array_of_raster, open_raster
     try:
-        raster = open_raster(source, spacing=spacing, nodata=nodata)
-        found = array_of_raster(raster, window=by_rows(window), every=every)
-        step = systems.metres_of_cell(raster.crs, found.array.transform, found.array.heights.shape)
-        server = Server(Flight(found.array, triangles, step, report), port)
+        flight = flight_of(source, triangles, by_rows(window), every, spacing, nodata, report)
+        server = Server(flight, port)
     except (ValueError, TypeError, OSError, OverflowError, MemoryError, ImportError) as why:
         raise click.ClickException(str(why) or type(why).__name__) from None
     where = f"http://127.0.0.1:{server.server_port}/"
@@ -207,3 +153,5 @@ def fly(source: str, triangles: int, window: Optional[tuple[int, int, int, int]]
     except KeyboardInterrupt:
         click.echo()
     server.server_close()
+    with flight.lock:
+        flight.close()

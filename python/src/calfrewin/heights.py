@@ -39,26 +39,37 @@ def rounded(heights: npt.NDArray[Any], unit: Optional[float] = None) -> Rounded:
     if not math.isfinite(high - low):
         raise ValueError(f"heights are from {low:g} to {high:g}, and have to be finite (NaN is filled, infinity is not)")
     if unit is None:
-        unit = _finest_unit(heights, low, high)
+        unit = finest_unit(low, high, heights.dtype.kind in "iu" or bool((heights == np.rint(heights)).all()))
     elif not 0 < unit < math.inf:
         raise ValueError(f"unit is {unit!r}, and has to be above 0")
     elif high - low > unit * (MOST_HEIGHT - 1):
         raise ValueError(f"unit is {unit:g}, and has to be at least {(high - low) / (MOST_HEIGHT - 1):g} "
                          f"for heights from {low:g} to {high:g}")
-    # The 1e-6 keeps a least height that is a multiple but for its last bits from adding a step.
-    base = math.floor(low / unit + 1e-6) * unit
+    base = base_of(low, unit)
+    numbers, part = multiples(heights, unit, base)
+    return Rounded(numbers, unit, base, part * unit if part > NO_PART else 0.0)
+
+
+def multiples(heights: npt.NDArray[Any], unit: float, base: float) -> tuple[npt.NDArray[np.uint16], float]:
+    """Heights as multiples of a unit over a base, rounded, and by what part of the unit at most."""
     exact = heights.astype(np.float64)
     exact -= base
     exact /= unit
     numbers = np.rint(exact)
     exact -= numbers
-    part = max(float(exact.max()), -float(exact.min()))
-    return Rounded(numbers.astype(np.uint16), unit, base, part * unit if part > NO_PART else 0.0)
+    return numbers.astype(np.uint16), max(float(exact.max()), -float(exact.min()))
 
 
-def _finest_unit(heights: npt.NDArray[Any], low: float, high: float) -> float:
+def base_of(low: float, unit: float) -> float:
+    """The height that is 0, of heights from `low` on."""
+    # The 1e-6 keeps a least height that is a multiple but for its last bits from adding a step.
+    return math.floor(low / unit + 1e-6) * unit
+
+
+def finest_unit(low: float, high: float, is_whole: bool) -> float:
+    """The finest unit for heights of this range: 1 where all are whole numbers."""
     reach = MOST_HEIGHT - 1
-    if high - low <= reach and (heights.dtype.kind in "iu" or bool((heights == np.rint(heights)).all())):
+    if is_whole and high - low <= reach:
         return 1.0
     least = max((high - low) / reach, FINEST * max(abs(low), abs(high)))
     fits = next((unit for unit in UNITS if unit >= least), None)

@@ -396,11 +396,20 @@ def gridded(array: Array, step: Optional[float] = None, unit: Optional[float] = 
     if step is None:
         a, b, _, d, e, _ = array.transform
         step = math.sqrt(abs(a * e - b * d))
-    if unit is None:  # a grid step is 1 to 1024 units of height
-        unit = max(rounded(array.heights).unit, next((it for it in UNITS if step / it <= MOST_SPACING), 1.0))
+    if unit is None:
+        unit = coarser_unit(rounded(array.heights).unit, step)
     steps = rounded(array.heights, unit)
-    spacing = whole("cell / unit", round(step / unit), 1, MOST_SPACING)
-    return Gridded(padded(steps.numbers, side_of(array.heights.shape)), unit, steps.base, steps.rounding, spacing)
+    return Gridded(padded(steps.numbers, side_of(array.heights.shape)), unit, steps.base, steps.rounding, spacing_of(step, unit))
+
+
+def coarser_unit(unit: float, step: float) -> float:
+    """The unit, or where it is too fine for that, a coarser one of which a grid step has at most 1024."""
+    return max(unit, next((it for it in UNITS if step / it <= MOST_SPACING), 1.0))
+
+
+def spacing_of(step: float, unit: float) -> int:
+    """The length of a grid step in units of height."""
+    return whole("cell / unit", round(step / unit), 1, MOST_SPACING)
 
 
 def view_of(array: Array, camera: tuple[float, float, float], triangles: int, *, step: Optional[float] = None,

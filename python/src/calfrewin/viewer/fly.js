@@ -1,25 +1,25 @@
 // The page of a flight: asks the server for each frame's mesh, draws it, and moves the camera. WebGL 2 alone.
 //
-// The heights are on the card once; a frame is the names of its triangles, which say where their corners are. The next frame is
-// asked while this one is drawn, so a mesh is drawn with the camera that it was asked for.
+// The page keeps the heights of pages of the ground, of which a small ground is one; a frame is the names of its triangles, which
+// say where their corners are. The next frame is asked while this one is drawn, so a mesh is drawn with the camera that it was asked for.
 
 const WORDS = ["triangles", "vertices", "splits", "merges", "blocking", "need", "inside", "cut", "outside", "frameUs", "listUs", "edits"];
-const HEAD = 64, SKY = [0.58, 0.69, 0.82], NEAR = 0.35, REACH = 700; // nearest and farthest that is drawn, in grid steps
+const HEAD = 64, SKY = [0.58, 0.69, 0.82], NEAR = 0.35, REACH = 700; // nearest and, at least, farthest that is drawn, in grid steps
 const $ = (id) => document.getElementById(id);
 const asked = new URLSearchParams(location.search), STOP = +(asked.get("frames") ?? 0); // ?frames=10 stops after ten
 
 const VERTEX = `#version 300 es
   precision highp float; precision highp int;
-  in uvec3 corners; in float fresh;
-  uniform highp usampler2D ground; uniform mat4 view; uniform vec4 planes[4];
+  in uvec3 corners, tall; in float fresh;
+  uniform mat4 view; uniform vec4 planes[4]; uniform ivec2 origin; // a grid point near the eye, from which all is counted here
   uniform int side, count; uniform float spacing, lift;
   out vec3 here, rim; flat out vec3 normal; flat out float changed; flat out int kind;
-  vec3 place(uint p) {
-    ivec2 at = ivec2(int(p) % side, int(p) / side);
-    return vec3(float(at.x) * spacing, float(side - 1 - at.y) * spacing, float(texelFetch(ground, at, 0).r) * lift);
+  vec3 place(uint p, uint height) {
+    ivec2 at = ivec2(int(p) % side, side - 1 - int(p) / side) - origin;
+    return vec3(vec2(at) * spacing, float(height) * lift);
   }
   void main() {
-    vec3 at[3] = vec3[3](place(corners.x), place(corners.y), place(corners.z));
+    vec3 at[3] = vec3[3](place(corners.x, tall.x), place(corners.y, tall.y), place(corners.z, tall.z));
     kind = 0; // 0 inside all planes, 1 cut, 2 outside of one
     for (int k = 0; k < count; k++) {
       int behind = 0;
@@ -77,56 +77,73 @@ if (!gl.getProgramParameter(program, gl.LINK_STATUS)) throw new Error(gl.getProg
 gl.useProgram(program);
 const uniform = new Proxy({}, { get: (kept, name) => (kept[name] ??= gl.getUniformLocation(program, name)) });
 
-// The ground, as the server has it now. The page draws it, walks above it and finds what a click meets. The raster has its
-// columns from the left side of a square and its rows from the far side.
-let side, spacing, most, edits, columns, rows, heights, wide, span;
+// The ground, as the server has it now: its pages, of which some have changed. The page draws it, walks above it and finds what a
+// click meets. The raster has its columns from the left side of a square and its rows from the far side.
+let side, spacing, most, edits = -1, columns, rows, pageSide, coarsest, wide, span;
+const pages = new Map(), keyOf = (q, column, row) => (q * 16384 + row) * 16384 + column;
 async function fetchGround() {
-  const bytes = await call("ground", []);
-  [side, spacing, most, edits, columns, rows] = new Uint32Array(bytes, 0, 6);
-  heights = new Uint16Array(bytes, 24);
+  const bytes = await call("ground", [edits]), known = edits, there = new Set();
+  let count;
+  [side, spacing, most, edits, columns, rows, pageSide, count] = new Uint32Array(bytes, 0, 8);
   wide = (side - 1) * spacing;
-  span ??= heights.reduce(([low, high], h) => [Math.min(low, h), Math.max(high, h)], [65535, 1]);
-  gl.pixelStorei(gl.UNPACK_ALIGNMENT, 1);
-  gl.texImage2D(gl.TEXTURE_2D, 0, gl.R16UI, side, side, 0, gl.RED_INTEGER, gl.UNSIGNED_SHORT, heights);
+  coarsest = Math.log2((side - 1) / (pageSide - 1));
+  const heads = new Uint32Array(bytes, 32, 4 * count);
+  for (let k = 0, at = 32 + 16 * count; k < count; k++) {
+    const [q, column, row, edit] = heads.subarray(4 * k, 4 * k + 4), key = keyOf(q, column, row), steps = (pageSide - 1) * 2 ** q;
+    there.add(key);
+    if (edit <= known) continue;
+    pages.set(key, { q, x: column * steps, y: row * steps, heights: new Uint16Array(bytes, at, pageSide * pageSide) });
+    at += 2 * pageSide * pageSide;
+  }
+  for (const key of pages.keys()) if (!there.has(key)) pages.delete(key);
+  span ??= pages.get(keyOf(coarsest, 0, 0)).heights.reduce(([low, high], h) => [Math.min(low, h), Math.max(high, h)], [65535, 1]);
 }
-gl.bindTexture(gl.TEXTURE_2D, gl.createTexture());
-for (const what of [gl.TEXTURE_MIN_FILTER, gl.TEXTURE_MAG_FILTER]) gl.texParameteri(gl.TEXTURE_2D, what, gl.NEAREST);
 await fetchGround();
 const clamped = (v, low, high) => Math.min(high, Math.max(low, v));
-function groundAt(x, y) { // drawn height of the nearest grid point
-  const at = (v) => clamped(Math.round(v / spacing), 0, side - 1);
-  return heights[(side - 1 - at(y)) * side + at(x)] * +$("lift").value;
+// The height that a page has at a point of the terrain, or of the one of its own before that.
+const heightIn = (page, x, y) => page.heights[(pageSide - 1 - ((y - page.y) >> page.q)) * pageSide + ((x - page.x) >> page.q)];
+function groundAt(x, y) { // drawn height of the nearest grid point, as the finest page has it
+  const [across, up] = [x, y].map((v) => clamped(Math.round(v / spacing), 0, side - 1));
+  let found;
+  for (let q = 0, steps = pageSide - 1; !found; q++, steps *= 2) {
+    found = pages.get(keyOf(q, ...[across, up].map((v) => Math.floor(Math.min(v, side - 2) / steps))));
+  }
+  return heightIn(found, across, up) * +$("lift").value;
 }
 
 $("set").open = innerWidth > 700;
 $("budget").max = most;
 $("budget").value = +(asked.get("triangles") ?? most);
 
-// The corners of triangles, as places in the heights, by their names, which come depth first: 2 and 3 are the halves of the
-// square, those of a are 2a and 2a + 1. A triangle is its apex and the ends of its base, which is cut at its middle.
+// The corners of triangles, as places among the points of the terrain, and their heights, by the names of triangles, which come
+// depth first: 2 and 3 are the halves of the square, those of a are 2a and 2a + 1. A triangle is its apex and the ends of its base,
+// which is cut at its middle. Every second level it is half of a square that may have a finer page.
 function cornersOf(names) {
-  const found = new Uint32Array(3 * names.length), last = side - 1, place = (x, y) => (last - y) * side + x;
+  const corners = new Uint32Array(3 * names.length), tall = new Uint16Array(3 * names.length), last = side - 1;
   let k = 0;
-  const walk = (name, x, y, vx, vy, wx, wy) => {
-    if (names[k] === name) return void (found[3 * k] = place(x, y), found[3 * k + 1] = place(vx, vy), found[3 * k++ + 2] = place(wx, wy));
-    walk(2 * name, (vx + wx) / 2, (vy + wy) / 2, x, y, vx, vy);
-    walk(2 * name + 1, (vx + wx) / 2, (vy + wy) / 2, wx, wy, x, y);
+  const put = (page, x, y) => { corners[k] = (last - y) * side + x; tall[k++] = heightIn(page, x, y); };
+  const walk = (name, level, page, x, y, vx, vy, wx, wy) => {
+    const mx = (vx + wx) / 2, my = (vy + wy) / 2, q = coarsest - level / 2;
+    if (q >= 0 && Number.isInteger(q)) page = pages.get(keyOf(q, ...[mx, my].map((v) => Math.floor(v / (pageSide - 1) / 2 ** q)))) ?? page;
+    if (names[k / 3] === name) return put(page, x, y), put(page, vx, vy), put(page, wx, wy);
+    walk(2 * name, level + 1, page, mx, my, x, y, vx, vy);
+    walk(2 * name + 1, level + 1, page, mx, my, wx, wy, x, y);
   };
-  walk(2, 0, 0, last, 0, 0, last);
-  walk(3, last, last, 0, last, last, 0);
-  return found;
+  walk(2, 0, null, 0, 0, last, 0, 0, last);
+  walk(3, 0, null, last, last, 0, last, last, 0);
+  return { corners, tall };
 }
 
-const corners = gl.createBuffer(), marks = gl.createBuffer(), fresh = new Uint8Array(most);
-for (const [buffer, bytes, name] of [[corners, 12 * most, "corners"], [marks, most, "fresh"]]) {
+const buffers = ["corners", "tall", "fresh"].map(() => gl.createBuffer()), fresh = new Uint8Array(most);
+[["corners", 12, 3, gl.UNSIGNED_INT], ["tall", 6, 3, gl.UNSIGNED_SHORT], ["fresh", 1, 1, gl.UNSIGNED_BYTE]].forEach(([name, bytes, count, kind], k) => {
   const at = gl.getAttribLocation(program, name);
-  gl.bindBuffer(gl.ARRAY_BUFFER, buffer);
-  gl.bufferData(gl.ARRAY_BUFFER, bytes, gl.DYNAMIC_DRAW);
+  gl.bindBuffer(gl.ARRAY_BUFFER, buffers[k]);
+  gl.bufferData(gl.ARRAY_BUFFER, bytes * most, gl.DYNAMIC_DRAW);
   gl.enableVertexAttribArray(at);
   gl.vertexAttribDivisor(at, 1);
-  if (name === "corners") gl.vertexAttribIPointer(at, 3, gl.UNSIGNED_INT, 0, 0);
-  else gl.vertexAttribPointer(at, 1, gl.UNSIGNED_BYTE, false, 0, 0);
-}
+  if (count === 3) gl.vertexAttribIPointer(at, 3, kind, 0, 0);
+  else gl.vertexAttribPointer(at, 1, kind, false, 0, 0);
+});
 gl.enable(gl.DEPTH_TEST);
 gl.depthFunc(gl.LEQUAL); // from above the depth of height 0 is exactly 1, that of an empty picture
 
@@ -141,7 +158,7 @@ function looking(p, ratio, half = HALF) {
   const f = ahead(p), r = [Math.cos(p.turn), -Math.sin(p.turn), 0], t = 1 / Math.tan(half);
   const u = [r[1] * f[2] - r[2] * f[1], r[2] * f[0] - r[0] * f[2], r[0] * f[1] - r[1] * f[0]];
   const row = (v, by) => [...v, -dot(v, [p.x, p.y, p.z])].map((w) => w * by);
-  const near = NEAR * spacing, far = REACH * spacing, deep = row(f, (far + near) / (far - near));
+  const near = NEAR * spacing, far = Math.max(REACH * spacing, 1.5 * wide), deep = row(f, (far + near) / (far - near));
   deep[3] -= (2 * far * near) / (far - near);
   const rows = [row(r, t / ratio), row(u, t), deep, row(f, 1)];
   const planes = [[0, 1], [0, -1], [1, 1], [1, -1]].map(([k, sign]) => {
@@ -166,7 +183,7 @@ function planesFor(p, view, ratio) {
 
 // The recorded path: places in parts of the raster's width and depth, heights above the ground in grid steps. It closes.
 const PATH = [[0.12, 0.15, 12], [0.34, 0.30, 8], [0.52, 0.46, 8], [0.70, 0.44, 9], [0.82, 0.62, 12], [0.62, 0.80, 15], [0.36, 0.72, 10], [0.18, 0.46, 14]];
-const STEPS = 150; // frames of 1/60 s from one place of the path to the next
+const STEPS = 150 * Math.max(1, (side - 1) / 2048); // frames of 1/60 s from one place of the path to the next
 let recorded = null, recording = false, clock = 0;
 function onPath(time) {
   if (recorded?.length && !recording) return { ...recorded[Math.floor(time) % recorded.length] };
@@ -262,32 +279,39 @@ async function ask(p) {
   return { p, lift, budget, pixels, planes, note, rows: view.rows, bytes, count: (bytes.byteLength - HEAD) / 4 };
 }
 
-// Which triangles were not in the last mesh that was drawn: `seen` has the frame of each name.
-const seen = new Uint32Array(4 * (side - 1) ** 2);
-function upload(f, frame) {
+// Which triangles were not in the mesh that was drawn before: both lists come depth first, in which these keys rise.
+let before = new Uint32Array(0);
+const depthFirst = (name) => (name << Math.clz32(name)) >>> 0;
+function upload(f) {
   const names = new Uint32Array(f.bytes, HEAD, f.count);
-  f.corners = cornersOf(names);
-  let changed = 0;
-  names.forEach((name, k) => {
-    changed += fresh[k] = +(frame > 1 && seen[name] !== frame - 1);
-    seen[name] = frame;
+  Object.assign(f, cornersOf(names));
+  let changed = 0, k = 0;
+  names.forEach((name, at) => {
+    while (k < before.length && depthFirst(before[k]) < depthFirst(name)) k++;
+    changed += fresh[at] = +(before.length > 0 && before[k] !== name);
   });
-  gl.bindBuffer(gl.ARRAY_BUFFER, corners);
-  gl.bufferSubData(gl.ARRAY_BUFFER, 0, f.corners);
-  gl.bindBuffer(gl.ARRAY_BUFFER, marks);
-  gl.bufferSubData(gl.ARRAY_BUFFER, 0, fresh, 0, f.count);
+  before = names;
+  [f.corners, f.tall, fresh.subarray(0, f.count)].forEach((values, at) => {
+    gl.bindBuffer(gl.ARRAY_BUFFER, buffers[at]);
+    gl.bufferSubData(gl.ARRAY_BUFFER, 0, values);
+  });
   return changed;
 }
 
-function paint(f, rows, far, mark) {
-  const { p, lift } = f;
-  gl.uniformMatrix4fv(uniform.view, false, matrix(rows));
-  gl.uniform3f(uniform.eye, p.x, p.y, p.z);
+// Places count from a grid point near the eye, since 32-bit floats step by whole units far away: a row or a plane moved there.
+const movedTo = (o, row) => [...row.slice(0, 3), row[3] + row[0] * o[0] + row[1] * o[1]];
+function paint(f, view, far, mark) {
+  const { p, lift } = f, steps = [p.x, p.y].map((v) => clamped(Math.round(v / spacing), 0, side - 1)), [ox, oy] = steps.map((v) => v * spacing);
+  const moved = (row) => movedTo([ox, oy], row);
+  gl.uniform2i(uniform.origin, ...steps);
+  gl.uniformMatrix4fv(uniform.view, false, matrix(view.map(moved)));
+  gl.uniform3f(uniform.eye, p.x - ox, p.y - oy, p.z);
+  gl.uniform2f(uniform.limit, (columns - 0.99) * spacing - ox, wide - (rows - 0.99) * spacing - oy);
   gl.uniform1f(uniform.far, far);
   gl.uniform1f(uniform.lift, lift);
   gl.uniform2f(uniform.span, span[0] * lift, span[1] * lift);
   gl.uniform1i(uniform.count, f.planes.length);
-  if (f.planes.length) gl.uniform4fv(uniform.planes, new Float32Array(f.planes.flat()));
+  if (f.planes.length) gl.uniform4fv(uniform.planes, new Float32Array(f.planes.flatMap(moved)));
   for (const [name, on] of [["mark", mark], ["edges", $("edges").checked], ["showChanged", $("changed").checked]]) gl.uniform1i(uniform[name], +on);
   gl.drawArraysInstanced(gl.TRIANGLES, 0, 3, f.count);
 }
@@ -298,7 +322,6 @@ function draw(f) {
   if (canvas.width !== w || canvas.height !== h) [canvas.width, canvas.height] = [w, h];
   gl.uniform1i(uniform.side, side);
   gl.uniform1f(uniform.spacing, spacing);
-  gl.uniform2f(uniform.limit, (columns - 1) * spacing + 0.01, wide - (rows - 1) * spacing - 0.01);
   gl.uniform3f(uniform.sky, ...SKY);
   gl.clearColor(...SKY, 1);
   gl.viewport(0, 0, w, h);
@@ -324,11 +347,11 @@ let rate = 0, drawMs = 0, lowered = "";
 function tell({ note, budget, pixels: wanted, lift }, changed) {
   const pixels = note.worst ? pixelsOf(note.worst, lift) : wanted;
   $("told").textContent = [
-    `${whole(note.triangles)} triangles of at most ${whole(budget)}, ${whole(note.vertices)} vertices`,
+    `${whole(note.triangles)} triangles of at most ${whole(budget)}, ${note.vertices ? `${whole(note.vertices)} vertices` : `${pages.size} pages`}`,
     `off by at most ${pixels < 10 ? pixels.toFixed(1) : whole(Math.round(pixels))} pixels on this screen`,
     note.blocking ? `refining the worst place would take ${whole(note.need)} triangles` : "nothing is left to refine",
     `split ${note.splits}, merged ${note.merges}, new ${whole(changed)}`,
-    `in view ${whole(note.inside)}, at its edge ${whole(note.cut)}, outside ${whole(note.outside)}`,
+    ...(note.vertices ? [`in view ${whole(note.inside)}, at its edge ${whole(note.cut)}, outside ${whole(note.outside)}`] : []),
     `engine   ${ms(note.frameUs / 1000)} ms, lists ${ms(note.listUs / 1000)} ms`,
     `transfer ${ms(transferMs)} ms`,
     `drawing  ${ms(drawMs)} ms`,
@@ -349,7 +372,14 @@ function easeOff() {
 }
 $("budget").addEventListener("input", () => { lowered = ""; });
 
-const adler = ([a, b], byte) => [(a + byte) % 65521, (a + byte + b) % 65521]; // a step of Adler-32, by which corners are compared
+// A number that any other corner, or height of one, would make another; the server reckons it too.
+function sumOf({ corners, tall }) {
+  let sum = 0;
+  for (let k = 0; k < corners.length; k += 3) {
+    sum += Math.imul(corners[k] + 3 * corners[k + 1] + 5 * corners[k + 2], 1 + tall[k] + 7 * tall[k + 1] + 11 * tall[k + 2]);
+  }
+  return ((sum % 2 ** 32) + 2 ** 32) % 2 ** 32;
+}
 let last = performance.now(), frame = 0, pending = ask(pose);
 async function turn() {
   try {
@@ -359,14 +389,15 @@ async function turn() {
     fly(Math.min(0.1, seconds));
     if (f.note.edits !== edits) await fetchGround();
     pending = ask(pose);
-    const changed = upload(f, ++frame);
+    const changed = upload(f);
+    frame++;
     draw(f);
     gl.readPixels(0, 0, 1, 1, gl.RGBA, gl.UNSIGNED_BYTE, pixel); // waits until all is drawn
     drawMs = performance.now() - now;
     easeOff();
     tell(f, changed);
     const line = `frame ${frame} triangles ${f.count} vertices ${f.note.vertices} worst ${f.note.worst}`;
-    if (STOP) console.log(`${line} corners ${new Uint8Array(f.corners.buffer).reduce(adler, [1, 0]).reduce((a, b) => b * 65536 + a)}`);
+    if (STOP) console.log(`${line} corners ${sumOf(f)}`);
     if (frame === STOP) { await pending; document.title = "done"; return; }
   } catch (why) {
     worry(why);
