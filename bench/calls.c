@@ -4,41 +4,9 @@
  *        calls memory N BUDGET    the most bytes that were taken while an engine was opened, and those that it keeps */
 #define _POSIX_C_SOURCE 200809L
 #include "counted_heap.h"
+#include "made.h"
 #include "roam.h"
-#include <stdio.h>
-#include <stdlib.h>
-#include <string.h>
-#include <time.h>
 
-/* The grid of `roam try N 1`, as docs/REFERENCE.md has it. */
-static uint64_t mixed(uint64_t z) { return z * 6364136223846793005u + (z >> 32) * (z & 0xFFFFFFFFu) + 1442695040888963407u; }
-static uint64_t lattice(unsigned octave, uint64_t i, uint64_t j) { return mixed(mixed(mixed(mixed(1) + octave) + i) + j); }
-static uint64_t point(unsigned octave, uint64_t i, uint64_t j) { return mixed(lattice(octave, i, j)) >> 48; }
-static uint16_t *made_grid(unsigned n) {
-    size_t m = (size_t)1 << n, side = m + 1;
-    uint16_t *heights = calloc(side * side, sizeof *heights);
-    if (heights == NULL) exit(1);
-    for (unsigned octave = 0; octave <= n; octave++) {
-        uint64_t step = (uint64_t)1 << octave, width = m / step + 2, *at = calloc(width * width, sizeof *at);
-        if (at == NULL) exit(1);
-        for (uint64_t k = 0; k < width * width; k++) at[k] = point(octave, k % width, k / width);
-        for (size_t k = 0; k < side * side; k++) {
-            uint64_t x = k % side, y = m - k / side, i = x / step, a = x % step, j = y / step, b = y % step;
-            uint64_t low = at[j * width + i] * (step - a) + at[j * width + i + 1] * a;
-            uint64_t high = at[(j + 1) * width + i] * (step - a) + at[(j + 1) * width + i + 1] * a;
-            heights[k] = (uint16_t)(heights[k] + ((low * (step - b) + high * b) / (step * step) >> (n - octave + 1)));
-        }
-        free(at);
-    }
-    return heights;
-}
-
-static double now(void) {
-    struct timespec it;
-    clock_gettime(CLOCK_THREAD_CPUTIME_ID, &it);
-    return (double)it.tv_sec + 1e-9 * (double)it.tv_nsec;
-}
-static void must(int32_t answer) { if (answer != ROAM_OK) fprintf(stderr, "calls: answer %d\n", (int)answer), exit(1); }
 static void tell(const char *name, int calls, double seconds) { printf("%s %d %.9f\n", name, calls, seconds); }
 
 static roam_handle terrain = ROAM_EMPTY;
@@ -76,7 +44,8 @@ int main(int argc, char **argv) {
     int64_t step = atol(argv[3]), width = (int64_t)30 << n, x = width / 3, y = width / 2, z = 40000;
     if (n < 1 || n > 14) return 2;
     size_t side = ((size_t)1 << n) + 1, room = budget;
-    uint16_t *heights = made_grid(n);
+    uint16_t *heights = taken(side * side * sizeof *heights);
+    made_heights(n, n, 0, 0, 0, heights);
 
     double start = now();
     must(roam_open(&terrain, heights, side * side, budget, 30));

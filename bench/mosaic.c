@@ -4,47 +4,8 @@
  *        mosaic required N ERROR POINTS      a mesh with so many required points, beside one with none */
 #define _POSIX_C_SOURCE 200809L
 #include "counted_heap.h"
+#include "made.h"
 #include "roam.h"
-#include <stdio.h>
-#include <stdlib.h>
-#include <string.h>
-#include <time.h>
-
-static double now(void) {
-    struct timespec it;
-    clock_gettime(CLOCK_THREAD_CPUTIME_ID, &it);
-    return (double)it.tv_sec + 1e-9 * (double)it.tv_nsec;
-}
-static void must(int32_t answer) { if (answer != ROAM_OK) fprintf(stderr, "mosaic: answer %d\n", (int)answer), exit(1); }
-static void *taken(size_t size) {
-    void *at = malloc(size);
-    if (at == NULL) fprintf(stderr, "mosaic: out of memory\n"), exit(1);
-    return at;
-}
-
-/* Heights of the grid of `roam try LEVEL 1`, as docs/REFERENCE.md has it, from any place on. */
-static uint64_t mixed(uint64_t z) { return z * 6364136223846793005u + (z >> 32) * (z & 0xFFFFFFFFu) + 1442695040888963407u; }
-static uint64_t point(uint64_t octave, uint64_t i, uint64_t j) { return mixed(mixed(mixed(octave + i) + j)) >> 48; }
-static void made_tile(unsigned level, unsigned n, uint64_t left, uint64_t near, uint16_t *heights) {
-    uint64_t m = (uint64_t)1 << n, side = m + 1;
-    memset(heights, 0, side * side * sizeof *heights);
-    for (unsigned k = 0; k <= level; k++) {
-        uint64_t octave = mixed(mixed(1) + k), w = (uint64_t)1 << k;
-        for (uint64_t row = 0; row < side; row++) {
-            uint64_t y = near + m - row, j = y >> k, b = y & (w - 1), low = 0, high = 0, column = UINT64_MAX;
-            for (uint64_t d = 0; d < side; d++) {
-                uint64_t x = left + d, i = x >> k, a = x & (w - 1);
-                if (i != column) {
-                    column = i;
-                    low = point(octave, i, j) * (w - b) + point(octave, i, j + 1) * b;
-                    high = point(octave, i + 1, j) * (w - b) + point(octave, i + 1, j + 1) * b;
-                }
-                uint16_t *it = &heights[row * side + d];
-                *it = (uint16_t)(*it + ((low * (w - a) + high * a) >> 2 * k >> (level - k + 1)));
-            }
-        }
-    }
-}
 
 static int books(uint32_t columns, uint32_t rows, unsigned n) {
     uint32_t m = (uint32_t)1 << n, side = m + 1, count = 0;
@@ -105,7 +66,7 @@ static int terrain(unsigned level, unsigned n, uint32_t thousandths) {
         must(roam_mosaic_required(&mosaic, tile.column, tile.row, required, 4 * (size_t)m, &note));
         asked += now() - start, start = now();
         size_t at = (size_t)tile.row * across + tile.column;
-        made_tile(level, n, (uint64_t)tile.column << n, (uint64_t)tile.row << n, heights);
+        made_heights(level, n, 0, (uint64_t)tile.column << n, (uint64_t)tile.row << n, heights);
         made += now() - start, start = now();
         must(roam_fitter_open(&fitter, heights, points));
         double open = now() - start;
@@ -146,7 +107,7 @@ static int with_required(unsigned n, uint32_t thousandths, uint32_t count) {
     size_t side = ((size_t)1 << n) + 1, points = side * side;
     uint16_t *heights = taken(points * sizeof *heights);
     uint32_t *places = taken((count + 1) * sizeof *places), number = 1, none = 0, some = 0;
-    made_tile(n, n, 0, 0, heights);
+    made_heights(n, n, 0, 0, 0, heights);
     for (uint32_t k = 0; k < count; k++) number = number * 1664525 + 1013904223, places[k] = (uint32_t)((uint64_t)number * points >> 32);
     roam_fitter fitter = ROAM_EMPTY;
     double least[2] = { 1e9, 1e9 }, start;
