@@ -5,9 +5,7 @@ and `<!-- end -->` of a page
     proved            in a crate's README: its public functions and types, each with the first sentence of its comment and
                       the labels of its clauses
     words PLACE ..    in docs/DEFINITIONS.md: the words of these crates or modules (CRATE.MODULE) that a public clause of
-                      another crate names, and these words (CRATE.MODULE.WORD); the PLACE `*` takes the modules of law
-                      crates that no block of the page names
-    theorem-clauses   in docs/THEOREM.md: the clauses of `roam`, with what Statement.antt says of them
+                      another crate names, and these words (CRATE.MODULE.WORD)
     tests             in a crate's README: its files with tests, each with the first sentence of its head
     storeys           in docs/ARCHITECTURE.md: the crates by how much they stand on
 
@@ -28,7 +26,6 @@ from sources import Crate, Item, Module
 
 BEGIN = re.compile(r"^<!-- generated: (?P<name>[\w-]+)(?P<rest>[^>]*) -->$", re.M)
 END = "<!-- end -->"
-STATEMENT = "crates/run_laws/specs/Statement.antt"
 
 Maker = Callable[[str, str], str]
 
@@ -41,10 +38,6 @@ def table(head: list[str], rows: list[list[str]]) -> str:
     """Without blanks at its lines, which are no words."""
     lines = [head, ["-"] * len(head), *rows]
     return "\n".join("|" + "|".join(cell(it) for it in line) + "|" for line in lines)
-
-
-def capital(text: str) -> str:
-    return text[:1].upper() + text[1:]
 
 
 def first_sentence(readme: str) -> str:
@@ -67,11 +60,14 @@ class Sources:
         return self.top / "crates" / crate / "README.md"
 
 
-def promises(item: Item) -> str:
-    """What contracts see of a type; the labels of what is promised, each with the comment above it, where `ensures` stands for
-    a clause without a label."""
-    labels = [": ".join(filter(None, (f"`{clause.label or clause.kind}`", sources.short(clause.note).rstrip("."))))
-              for clause in item.clauses if clause.kind == "ensures"]
+def promises(item: Item, said: set[tuple[str, str]]) -> str:
+    """What contracts see of a type; the labels of what is promised, where `ensures` stands for a clause without one, each with
+    the comment above it, unless both have been `said`."""
+    labels = []
+    for clause in (it for it in item.clauses if it.kind == "ensures"):
+        label, note = f"`{clause.label or clause.kind}`", sources.short(clause.note).rstrip(".")
+        labels.append(f"{label}: {note}" if note and (label, note) not in said else label)
+        said.add((label, note))
     return "; ".join(filter(None, (f"seen as `{item.seen_as}`" if item.seen_as else "",
                                    "exposes " + ", ".join(f"`{it}`" for it in item.tells) if item.tells else "",
                                    ("; " if any(":" in it for it in labels) else ", ").join(labels))))
@@ -83,8 +79,8 @@ def needs(item: Item) -> str:
 
 
 def proved(made_of: Sources, crate: str) -> str:
-    items = made_of.items[crate]
-    rows = [[f"`{item.full_name}`", sources.short(item.doc), promises(item), needs(item)]
+    items, said = made_of.items[crate], set[tuple[str, str]]()
+    rows = [[f"`{item.full_name}`", sources.short(item.doc), promises(item, said), needs(item)]
             for item in items if item.kind != "const"]
     parts = [table(["item", "meaning", "promises", "needs"], rows)] if rows else []
     limits = [f"`{item.name}`" for item in items if item.kind == "const"]
@@ -106,9 +102,8 @@ def crates_page(made_of: Sources) -> str:
     parts = [textwrap.dedent("""\
         # Crates, for whoever looks for the place of something
 
-        By storeys, lowest first. A crate stands on those that are named, and on all that these stand on. A *law* crate has
-        definitions and lemmas, which those above may cite; a call of its functions does nothing, and whoever makes it knows
-        their clauses. A *code* crate is used by its public clauses alone. Each README has what is proved, what is only
+        By storeys, lowest first. A crate stands on those that are named, and on all that these stand on;
+        [two kinds](ARCHITECTURE.md#two-kinds-of-crates) there are, law and code. Each README has what is proved, what is only
         tested, and what is not claimed: never time, nor that memory is there. Where a call takes memory a test shows that it
         succeeds; what no clause counts of a cost is not proved. Made by `tools/pages.py`.
         """)]
@@ -132,21 +127,6 @@ def storeys(made_of: Sources) -> str:
     return "```text\n" + "\n".join(lines[:-1]) + "\n```\n\nA star marks a law crate."
 
 
-def theorem_clauses(made_of: Sources) -> str:
-    words = {word.name: word for word in sources.module_of(made_of.top / STATEMENT).words}
-    roam = next(item for item in made_of.items["roam_run"] if item.name == "roam")
-    rows: list[list[str]] = []
-    group = ""
-    for clause in (it for it in roam.clauses if it.kind == "ensures"):
-        said = [words[token] for token in sources.TOKEN.split(clause.text) if token in words]
-        names = "; ".join(": ".join(filter(None, (f"`{word.name}`", ", ".join(f"`{it}`" for it in word.fields))))
-                          for word in said)
-        group = sources.sentences(clause.note)[-1] if clause.note else group
-        told = capital(sources.sentence(said[0].note)) if said else group
-        rows.append([f"`{clause.label}`", told if told not in (row[1] for row in rows) else "as above", names])
-    return table(["clause", "what it says first", "its word and fields"], rows)
-
-
 def named_elsewhere(made_of: Sources) -> dict[tuple[str, str], set[str]]:
     """The words that a public clause of another crate than their own names, by crate and module."""
     found: dict[tuple[str, str], set[str]] = {}
@@ -164,19 +144,19 @@ def is_at(place: str, crate: str, module: Module) -> bool:
     return place in (crate, own) or place.startswith(own + ".")
 
 
-def words(made_of: Sources, places: list[str], others: list[str]) -> str:
-    """The words of these places, in their order; `others` are the places of all blocks of the page."""
+def words(made_of: Sources, places: list[str]) -> str:
+    """The words of these places, in their order."""
     named = named_elsewhere(made_of)
     rows: list[tuple[int, list[str]]] = []
     for name, modules in made_of.modules.items():
         for module in modules:
             here = [place for place in places if is_at(place, name, module)]
-            is_left = "*" in places and name in made_of.laws and not any(is_at(it, name, module) for it in others)
+            if not here:
+                continue
             single = {place.split(".")[2] for place in here if place.count(".") == 2}
-            wanted = named.get((name, module.path.stem), set()) if is_left or len(here) > len(single) else set()
+            wanted = named.get((name, module.path.stem), set()) if len(here) > len(single) else set()
             link = f"[{module.path.stem}](../crates/{name}/specs/{module.path.name})"
-            place = places.index(here[0]) if here else 0
-            rows += [(place, [f"`{word.name}`", sources.short(word.note, 50, ";:").rstrip("."), link])
+            rows += [(places.index(here[0]), [f"`{word.name}`", sources.short(word.note, 50, ";:").rstrip("."), link])
                      for word in module.words if word.note and word.name in wanted | single]
     return table(["word", "meaning", "file"], [row for _, row in sorted(rows, key=lambda it: it[0])])
 
@@ -215,7 +195,6 @@ def pages(top: Path) -> dict[Path, str]:
             text = with_block(text, "proved", "## What is proved\n\n")
         if path in found or not BEGIN.search(text):
             continue
-        every = [it for block in BEGIN.finditer(text) if block.group("name") == "words" for it in block.group("rest").split()]
 
         def make(name: str, rest: str) -> str:
             if name == "proved":
@@ -223,9 +202,7 @@ def pages(top: Path) -> dict[Path, str]:
             if name == "tests":
                 return table(["file", "what it shows"], [[f"`{file}`", said] for file, said in sources.tests_of(path.parent)])
             if name == "words":
-                return words(made_of, rest.split(), every)
-            if name == "theorem-clauses":
-                return theorem_clauses(made_of)
+                return words(made_of, rest.split())
             if name == "storeys":
                 return storeys(made_of)
             raise SystemExit(f"{path}: nothing is known of {name}")

@@ -14,7 +14,6 @@ WORD = re.compile(r"^(?:unfoldable |abbrev |opaque )?pub (?:(?:unfoldable|abbrev
 MODEL = re.compile(r"^impl(?:<[^\n]*?>)? Model for (\w+)[^\n]*\{\n(.*?)^\}", re.M | re.S)
 VALUE = re.compile(r"ghost Value = \{\s*(.*?)\s*\};", re.S)
 TELLS = re.compile(r"ghost (\w+): \{")
-FIELD = re.compile(r"^  pub (\w+) :")
 IMPORT = re.compile(r"^\s*ghost use Rattle\.(\w+)\.specs\.(\w+)\.\{([^}]*)\};", re.M)
 TOKEN = re.compile(r"[\s(){}\[\],;⟦⟧<>.]+")
 QUOTES = re.compile(r"\"(?:[^\"\\]|\\.)*\"|'(?:[^'\\]|\\.)'")
@@ -59,10 +58,9 @@ class Crate:
 
 @dataclass
 class Word:
-    """A definition of specs/: its name, the comment above it, and the fields of a record with theirs."""
+    """A definition of specs/: its name, and the comment above it."""
     name: str
     note: str
-    fields: list[str] = field(default_factory=list)
 
 
 @dataclass
@@ -73,20 +71,13 @@ class Module:
     words: list[Word]
 
 
-def sentences(text: str) -> list[str]:
-    """Those of the first paragraph, each on one line; one ends with a full stop or a question mark, the last with it."""
+def sentence(text: str) -> str:
+    """The first sentence, on one line: it ends with a full stop or a question mark, or with its paragraph."""
     text = " ".join(text.strip().split("\n\n")[0].split())
-    found, begin = [], 0
     for at in re.finditer(r"[.?](?= [A-Z`*(]|$)", text):
         if not re.search(r"\b(e\.g|i\.e|al|cf|vs|\.)\.$", text[:at.end()]):
-            found.append(text[begin:at.end()].strip())
-            begin = at.end()
-    return [*found, text[begin:].strip()] if text[begin:].strip() else found
-
-
-def sentence(text: str) -> str:
-    """The first sentence."""
-    return next(iter(sentences(text)), "")
+            return text[:at.end()]
+    return text
 
 
 def short(text: str, most: int = 20, marks: str = ";") -> str:
@@ -288,10 +279,8 @@ def module_of(path: Path) -> Module:
             note = []
         else:
             begun = True
-            word, part = WORD.match(line), FIELD.match(line)
+            word = WORD.match(line)
             if word and not line.startswith("pub mod"):
                 words.append(Word(word.group(2), " ".join(note)))
-            elif part and words:
-                words[-1].fields.append(part.group(1))
             note = []
     return Module(path, " ".join(head), words)
