@@ -1,6 +1,6 @@
 -- Planes that turn: nothing that lies below a triangle whose marks are settled is turned.
 use Rattle.std.proofs.Common.{◌≡◌, ℕ, ◌*◌, ◌/◌, ◌≤◌, ◌⊎◌, Bool, IsTrue, true, false, inl, inr, List, refl, ◌∙◌, ap, arith}
-use Rattle.std.proofs.Common.{⊎_elim}
+use Rattle.std.proofs.Common.{⊎_elim, cond}
 use Rattle.std.proofs.lemmas.Bool.{and_parts, both_ways, false_from_ne_true, false≢true}
 use Rattle.mesh_defs.specs.declared.mark.Mark.{Mark}
 use Rattle.mesh_defs.specs.declared.mark.Mark.TheVariants.{Inside, Cut, Outside}
@@ -12,7 +12,13 @@ use Rattle.mesh_laws.proofs.ConformityLemmas.{IsUnder, self, below}
 use Rattle.mesh_laws.proofs.SizeLemmas.{under-true}
 use Rattle.cull_marks.specs.Nesting.{IsInside}
 use Rattle.mesh_arrays.specs.Below.{is_at_or_below}
+use Rattle.view_mesh.specs.declared.walk.Below.TheVariants.{Nothing, Part}
 use Rattle.view_mesh.specs.Turn.{AreNested, is_turn, is_settled, turns}
+
+-- a choice that fell on nothing
+pub settled_where : (b : Bool) → cond b Nothing Part ≡ Nothing → b ≡ true
+settled_where true is = refl
+settled_where false is = absurd (cc)
 
 both_settled : (m k : Mark) → is_settled m k ≡ true → ((m ≡ Inside) × (k ≡ Inside)) ⊎ ((m ≡ Outside) × (k ≡ Outside))
 both_settled Inside Inside is = inl (refl, refl)

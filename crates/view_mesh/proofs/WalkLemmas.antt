@@ -1,15 +1,16 @@
 -- A walk down from a slot: where it goes, how it ends, and which stamps it expires.
 use Rattle.std.proofs.Common.{◌≡◌, ℕ, ◌+◌, ◌-◌, ◌*◌, ◌<◌, ◌≤◌, ◌||◌, ◌&&◌, Bool, true, false, nat_eq}
 use Rattle.std.proofs.Common.{inl, inr, refl, sym, ◌∙◌, ap, subst, arith}
-use Rattle.std.proofs.lemmas.Bool.{and_parts, eqb-true, false_from_ne_true, true_from_ne_false}
-use Rattle.std.proofs.lemmas.Bool.{both_ways}
+use Rattle.std.proofs.Common.{cond, option_map}
+use Rattle.std.proofs.Math.Bool.{and-true, and-false}
+use Rattle.std.proofs.lemmas.Bool.{eqb-true, true_from_ne_false}
 use Rattle.mesh_defs.specs.Triangle.{level_of}
 use Rattle.bintree_addr.specs.declared.slot.Slot.{Slot}
 use Rattle.bintree_laws.proofs.LevelLemmas.{level-le}
 use Rattle.mesh_laws.specs.Slots.{address_at, has_children, IsLive, IsPool}
 use Rattle.triangle_pool.specs.Slots.{PoolState}
 use Rattle.triangle_pool.specs.Answer.{AreChildren}
-use Rattle.roam_mesh.specs.Mesh.{MeshState, OnlyEntriesStamped}
+use Rattle.roam_mesh.specs.Mesh.{MeshState, stamp_of, with_expired, OnlyEntriesStamped}
 use Rattle.view_mesh.specs.Expiry.{IsExpired}
 use Rattle.mesh_arrays.specs.Below.{is_at_or_below}
 use Rattle.view_mesh.proofs.BelowLemmas.{below_children, below_leaf, below_square, child_falls}
@@ -98,29 +99,50 @@ module _ (x y : MeshState) (t : ℕ) where
   IsExpired-itself test told is own = IsExpired-stamped x y (λ a. nat_eq t a && told) (λ a. nat_eq t a && test a)
       (λ a stamp there. and_same (nat_eq t a) told (test a) (λ same. is ∙ ap test (eqb-true t a same))) own
 
--- itself, and what passes the test at and below the children
+-- itself, and what is at and below the children
+IsExpired-parts : (x y z w : MeshState) (s : Slot) (t : ℕ) (left right : Slot) (own : ℕ → Bool) (Below : ℕ → ℕ → Bool) →
+    IsRead x.pool s t left right → ((a : ℕ) → ((own a || Below (2 * t) a) || Below (2 * t + 1) a) ≡ Below t a) →
+    IsExpired x y own → IsExpired y z (Below (address_at y.pool.pairs left.0)) →
+    IsExpired z w (Below (address_at z.pool.pairs right.0)) → IsExpired x w (Below (address_at x.pool.pairs s.0))
+IsExpired-parts x y z w s t left right own Below is whole first lower upper =
+    let left_at : address_at y.pool.pairs left.0 ≡ 2 * t =
+    ap (λ (p : PoolState). address_at p.pairs left.0) first.pool ∙ is.left_at in
+    let right_at : address_at z.pool.pairs right.0 ≡ 2 * t + 1 =
+    ap (λ (p : PoolState). address_at p.pairs right.0) (lower.pool ∙ first.pool) ∙ is.right_at in
+    subst (λ p. IsExpired x w (Below p)) is.at
+    (IsExpired-stamped x w (λ a. (own a || Below (2 * t) a) || Below (2 * t + 1) a) (Below t)
+    (λ a stamp there. whole a)
+    (IsExpired-both x z w (λ a. own a || Below (2 * t) a) (Below (2 * t + 1))
+    (IsExpired-both x y z own (Below (2 * t)) first (subst (λ p. IsExpired y z (Below p)) left_at lower))
+    (subst (λ p. IsExpired z w (Below p)) right_at upper)))
+
+pub IsExpired-all : (x y z w : MeshState) (s : Slot) (t : ℕ) (left right : Slot) → IsRead x.pool s t left right →
+    IsExpired x y (nat_eq t) → IsExpired y z (is_at_or_below (address_at y.pool.pairs left.0)) →
+    IsExpired z w (is_at_or_below (address_at z.pool.pairs right.0)) →
+    IsExpired x w (is_at_or_below (address_at x.pool.pairs s.0))
+IsExpired-all x y z w s t left right is =
+    IsExpired-parts x y z w s t left right (nat_eq t) is_at_or_below is (λ a. below_children t a is.live)
+
+-- and passes the test
 pub IsExpired-tested : (test : ℕ → Bool) (x y z w : MeshState) (s : Slot) (t : ℕ) (left right : Slot) →
-    OnlyEntriesStamped x → IsRead x.pool s t left right →
+    IsRead x.pool s t left right →
     IsExpired x y (λ a. nat_eq t a && test a) →
     IsExpired y z (λ a. is_at_or_below (address_at y.pool.pairs left.0) a && test a) →
     IsExpired z w (λ a. is_at_or_below (address_at z.pool.pairs right.0) a && test a) →
     IsExpired x w (λ a. is_at_or_below (address_at x.pool.pairs s.0) a && test a)
-IsExpired-tested test x y z w s t left right only is own lower upper =
-    let Below : ℕ → ℕ → Bool = λ p a. is_at_or_below p a && test a in
-    let left_at : address_at y.pool.pairs left.0 ≡ 2 * t =
-    ap (λ (p : PoolState). address_at p.pairs left.0) own.pool ∙ is.left_at in
-    let right_at : address_at z.pool.pairs right.0 ≡ 2 * t + 1 =
-    ap (λ (p : PoolState). address_at p.pairs right.0) (lower.pool ∙ own.pool) ∙ is.right_at in
-    subst (λ p. IsExpired x w (Below p)) is.at
-    (IsExpired-same x w (λ a. ((nat_eq t a && test a) || Below (2 * t) a) || Below (2 * t + 1) a) (Below t) only
-    (λ a entry. split_parts (nat_eq t a) (is_at_or_below (2 * t) a) (is_at_or_below (2 * t + 1) a) (test a)
+IsExpired-tested test x y z w s t left right is =
+    IsExpired-parts x y z w s t left right (λ a. nat_eq t a && test a) (λ p a. is_at_or_below p a && test a) is
+    (λ a. split_parts (nat_eq t a) (is_at_or_below (2 * t) a) (is_at_or_below (2 * t + 1) a) (test a)
     ∙ ap (λ b. b && test a) (below_children t a is.live))
-    (IsExpired-both x z w (λ a. (nat_eq t a && test a) || Below (2 * t) a) (Below (2 * t + 1))
-    (IsExpired-both x y z (λ a. nat_eq t a && test a) (Below (2 * t)) own
-    (subst (λ p. IsExpired y z (Below p)) left_at lower))
-    (subst (λ p. IsExpired z w (Below p)) right_at upper)))
 
 -- a leaf alone
+pub IsExpired-leaf : (x y : MeshState) (s t : ℕ) → OnlyEntriesStamped x → IsPool x.pool.n x.pool.pairs → 2 ≤ t →
+    t ≡ address_at x.pool.pairs s → has_children x.pool.pairs t ≡ false → IsExpired x y (nat_eq t) →
+    IsExpired x y (is_at_or_below (address_at x.pool.pairs s))
+IsExpired-leaf x y s t only valid low at whole own =
+    subst (λ p. IsExpired x y (is_at_or_below p)) at (IsExpired-same x y (nat_eq t) (is_at_or_below t) only
+    (λ a entry. below_leaf x.pool t a valid low whole entry) own)
+
 pub IsExpired-tested_leaf : (test : ℕ → Bool) (x y : MeshState) (s t : ℕ) → OnlyEntriesStamped x →
     IsPool x.pool.n x.pool.pairs → 2 ≤ t → t ≡ address_at x.pool.pairs s →
     has_children x.pool.pairs t ≡ false → IsExpired x y (λ a. nat_eq t a && test a) →
@@ -130,17 +152,36 @@ IsExpired-tested_leaf test x y s t only valid low at whole own =
     (IsExpired-same x y (λ a. nat_eq t a && test a) (λ a. is_at_or_below t a && test a) only
     (λ a entry. ap (λ b. b && test a) (below_leaf x.pool t a valid low whole entry)) own)
 
--- no triangle of the grid below it passes the test
+-- all triangles of the grid below it pass the test, or none
+pub IsExpired-alike : (test : ℕ → Bool) (told : Bool) (x y : MeshState) (s : ℕ) → OnlyEntriesStamped x →
+    IsPool x.pool.n x.pool.pairs →
+    ((a : ℕ) → is_at_or_below (address_at x.pool.pairs s) a ≡ true → level_of a ≤ 2 * x.pool.n → test a ≡ told) →
+    IsExpired x y (λ a. is_at_or_below (address_at x.pool.pairs s) a && told) →
+    IsExpired x y (λ a. is_at_or_below (address_at x.pool.pairs s) a && test a)
+IsExpired-alike test told x y s only valid alike = IsExpired-same x y
+    (λ a. is_at_or_below (address_at x.pool.pairs s) a && told)
+    (λ a. is_at_or_below (address_at x.pool.pairs s) a && test a) only
+    (λ a entry. and_same (is_at_or_below (address_at x.pool.pairs s) a) told (test a)
+    (λ under. sym (alike a under (level-le x.pool.n a (entry_placed x.pool a valid entry).address))))
+
 pub IsExpired-untouched : (test : ℕ → Bool) (x : MeshState) (s : ℕ) → OnlyEntriesStamped x →
     IsPool x.pool.n x.pool.pairs →
     ((a : ℕ) → is_at_or_below (address_at x.pool.pairs s) a ≡ true → level_of a ≤ 2 * x.pool.n → test a ≡ false) →
     IsExpired x x (λ a. is_at_or_below (address_at x.pool.pairs s) a && test a)
-IsExpired-untouched test x s only valid none =
-    IsExpired-same x x (λ a. false) (λ a. is_at_or_below (address_at x.pool.pairs s) a && test a) only
-    (λ a entry. sym (false_from_ne_true (is_at_or_below (address_at x.pool.pairs s) a && test a) (λ both.
-    let parts = and_parts (is_at_or_below (address_at x.pool.pairs s) a) (test a) both in
-    both_ways (test a) (none a parts.0 (level-le x.pool.n a (entry_placed x.pool a valid entry).address)) parts.1)))
-    (record { pool = refl; stamps = λ a. refl })
+IsExpired-untouched test x s only valid none = IsExpired-alike test false x x s only valid none (record {
+  pool = refl;
+  stamps = λ a. ap (λ b. cond b (option_map with_expired (stamp_of x a)) (stamp_of x a))
+      (sym (and-false (is_at_or_below (address_at x.pool.pairs s) a)));
+})
+
+pub IsExpired-passed : (test : ℕ → Bool) (x y : MeshState) (s : ℕ) → OnlyEntriesStamped x →
+    IsPool x.pool.n x.pool.pairs →
+    ((a : ℕ) → is_at_or_below (address_at x.pool.pairs s) a ≡ true → level_of a ≤ 2 * x.pool.n → test a ≡ true) →
+    IsExpired x y (is_at_or_below (address_at x.pool.pairs s)) →
+    IsExpired x y (λ a. is_at_or_below (address_at x.pool.pairs s) a && test a)
+IsExpired-passed test x y s only valid all is = IsExpired-alike test true x y s only valid all
+    (IsExpired-stamped x y (is_at_or_below (address_at x.pool.pairs s)) _
+    (λ a stamp there. sym (and-true (is_at_or_below (address_at x.pool.pairs s) a))) is)
 
 two_or : (met right : Bool) → (met || (right && met)) ≡ met
 two_or true right = refl
@@ -151,15 +192,28 @@ one_met : (lower upper met : Bool) → (lower || upper) ≡ true → ((lower && 
 one_met true upper met one = two_or met upper
 one_met false upper met one = ap (λ z. z && met) one
 
--- both halves of the square have all that pass it
+-- both halves of the square have all
+IsExpired-halves : (x y z : MeshState) (Below : ℕ → ℕ → Bool) (test : ℕ → Bool) (lower upper : ℕ) →
+    OnlyEntriesStamped x → IsPool x.pool.n x.pool.pairs → lower ≡ 2 → upper ≡ 3 →
+    ((a : ℕ) → (is_at_or_below 2 a || is_at_or_below 3 a) ≡ true → (Below 2 a || Below 3 a) ≡ test a) →
+    IsExpired x y (Below lower) → IsExpired y z (Below upper) → IsExpired x z test
+IsExpired-halves x y z Below test lower upper only valid low high whole first second =
+    IsExpired-same x z (λ a. Below 2 a || Below 3 a) test only
+    (λ a entry. whole a (below_square a (entry_placed x.pool a valid entry).address.low))
+    (IsExpired-both x y z (Below 2) (Below 3) (subst (λ p. IsExpired x y (Below p)) low first)
+    (subst (λ p. IsExpired y z (Below p)) high second))
+
+pub IsExpired-square : (x y z : MeshState) (lower upper : ℕ) → OnlyEntriesStamped x →
+    IsPool x.pool.n x.pool.pairs → lower ≡ 2 → upper ≡ 3 →
+    IsExpired x y (is_at_or_below lower) → IsExpired y z (is_at_or_below upper) → IsExpired x z (λ a. true)
+IsExpired-square x y z lower upper only valid low high =
+    IsExpired-halves x y z is_at_or_below (λ a. true) lower upper only valid low high (λ a one. one)
+
+-- and all that pass the test
 pub IsExpired-tested_square : (test : ℕ → Bool) (x y z : MeshState) (lower upper : ℕ) → OnlyEntriesStamped x →
     IsPool x.pool.n x.pool.pairs → lower ≡ 2 → upper ≡ 3 →
     IsExpired x y (λ a. is_at_or_below lower a && test a) →
     IsExpired y z (λ a. is_at_or_below upper a && test a) → IsExpired x z test
-IsExpired-tested_square test x y z lower upper only valid low high first second =
-    let Below : ℕ → ℕ → Bool = λ p a. is_at_or_below p a && test a in
-    IsExpired-same x z (λ a. Below 2 a || Below 3 a) test only
-    (λ a entry. one_met (is_at_or_below 2 a) (is_at_or_below 3 a) (test a)
-    (below_square a (entry_placed x.pool a valid entry).address.low))
-    (IsExpired-both x y z (Below 2) (Below 3) (subst (λ p. IsExpired x y (Below p)) low first)
-    (subst (λ p. IsExpired y z (Below p)) high second))
+IsExpired-tested_square test x y z lower upper only valid low high =
+    IsExpired-halves x y z (λ p a. is_at_or_below p a && test a) test lower upper only valid low high
+    (λ a. one_met (is_at_or_below 2 a) (is_at_or_below 3 a) (test a))

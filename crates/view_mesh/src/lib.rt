@@ -20,4 +20,4 @@ pub use laws::{expiry_laws, sight_laws, still_laws};
 pub use listed::expire_listed;
 pub use room::leaf_room;
 pub use turn::{Boxes, expire_turned};
-pub use walk::{Expiring, Expiry, expire_by};
+pub use walk::{Below, Expiring, Expiry, expire_by};

@@ -1,14 +1,15 @@
 //! Stamps of triangles whose boxes leave planes that turn, or come within them.
 
-ghost use Rattle.std.specs.Prelude.{◌≡◌, ℕ, ◌*◌, ◌≤◌, ◌^◌, ◌↔◌, Bool, not, IsTrue, IsSome, IfSome};
+ghost use Rattle.std.specs.Prelude.{◌≡◌, ℕ, ◌*◌, ◌≤◌, ◌^◌, ◌↔◌, Bool, cond, IsTrue, IsSome, IfSome};
 ghost use Rattle.mesh_defs.specs.BoundingBox.{BoundingBox};
 ghost use Rattle.mesh_defs.specs.Triangle.{level_of};
 ghost use Rattle.mesh_defs.specs.declared.level.TheConstants.{GREATEST_LEVEL};
 ghost use Rattle.cull_marks.specs.Cuboid.{as_box, IsWithinReach};
+ghost use Rattle.view_mesh.specs.declared.walk.Below.TheVariants.{Nothing, Part};
 ghost use Rattle.view_mesh.specs.Expiry.{IsExpired};
 ghost use Rattle.view_mesh.specs.Turn.{AreNested, is_turn, is_settled, turns};
 
-use crate::walk::{Expiring, Expiry, expire_by};
+use crate::walk::{Below, Expiring, Expiry, expire_by};
 use bintree_addr::{Cuboid, Tri};
 use cull_marks::{Planes, mark_laws};
 use mesh_defs::Mark;
@@ -60,7 +61,7 @@ impl<'a, B: Boxes> Expiry for Turn<'a, B> {
             Some(cuboid) => expiring_between(self.before.mark(&cuboid), self.after.mark(&cuboid)),
             None => Expiring {
                 itself: false,
-                goes_on: false,
+                below: Below::Nothing,
             },
         }
     }
@@ -89,7 +90,7 @@ pub fn expire_turned<B: Boxes>(mesh: &mut Mesh, boxes: &B, before: &Planes, afte
 /// What expires of a triangle that goes from one mark to another, and at or below it.
 fn expiring_between(before: Mark, after: Mark) -> Expiring
     ensures own { result.itself ≡ is_turn before after }
-    ensures below { result.goes_on ≡ not (is_settled before after) }
+    ensures below { result.below ≡ cond (is_settled before after) Nothing Part }
 {
     let itself = match before {
         Mark::Outside => match after {
@@ -101,16 +102,16 @@ fn expiring_between(before: Mark, after: Mark) -> Expiring
             Mark::Inside | Mark::Cut => false,
         },
     };
-    let goes_on = match before {
+    let below = match before {
         Mark::Outside => match after {
-            Mark::Outside => false,
-            Mark::Inside | Mark::Cut => true,
+            Mark::Outside => Below::Nothing,
+            Mark::Inside | Mark::Cut => Below::Part,
         },
         Mark::Inside => match after {
-            Mark::Inside => false,
-            Mark::Outside | Mark::Cut => true,
+            Mark::Inside => Below::Nothing,
+            Mark::Outside | Mark::Cut => Below::Part,
         },
-        Mark::Cut => true,
+        Mark::Cut => Below::Part,
     };
-    Expiring { itself, goes_on }
+    Expiring { itself, below }
 }

@@ -1,6 +1,5 @@
 use Rattle.std.proofs.Common.{arith, ◌≡◌, ◌*◌, ◌≤◌, ◌&&◌, true, false, nat_eq, sym, subst, ◌∙◌, ap}
 use Rattle.std.proofs.lemmas.Bool.{false≢true}
-use Rattle.mesh_defs.specs.declared.level.TheConstants.{GREATEST_LEVEL}
 use Rattle.mesh_defs.specs.Triangle.{level_of}
 use Rattle.mesh_laws.specs.Slots.{address_at, has_children}
 use Rattle.triangle_pool.specs.Slots.{PoolState}
@@ -9,22 +8,17 @@ use Rattle.mesh_arrays.specs.Below.{is_at_or_below}
 use Rattle.view_mesh.proofs.BelowLemmas.{live_address}
 use Rattle.view_mesh.proofs.WalkLemmas.{IsRead, read_children, step_left, step_right, IsExpired-itself}
 use Rattle.view_mesh.proofs.WalkLemmas.{IsExpired-tested, IsExpired-tested_leaf, IsExpired-untouched}
+use Rattle.view_mesh.proofs.WalkLemmas.{IsExpired-passed}
 use Rattle.view_mesh.proofs.walk.+expire_under.Goals as goal
 
-pub at-expiring-requires : goal.at-expiring-requires
-at-expiring-requires g t c =
+pub at-expiring-requires-clause-level : goal.at-expiring-requires-clause-level
+at-expiring-requires-clause-level g t c =
     let fits = live_address c.args.mesh.now.pool.n c.args.mesh.now.pool.pairs c.args.s.0
     c.pool-pool.ensures.valid c.requires.live in
     let at : c.tri-t.result ≡ address_at c.args.mesh.now.pool.pairs c.args.s.0 =
     c.tri-t.ensures.value ∙ ap (λ (z : PoolState). address_at z.pairs c.args.s.0) c.pool-pool.ensures.pool in
-    record {
-      in_grid = (
-        subst (λ n. 1 ≤ n) c.requires.n c.pool-pool.ensures.valid.n_low,
-        subst (λ n. n ≤ GREATEST_LEVEL) c.requires.n c.pool-pool.ensures.valid.n_high,
-      );
-      level = subst (λ n. level_of c.tri-t.result ≤ 2 * n) c.requires.n
-          (subst (λ z. level_of z ≤ 2 * c.args.mesh.now.pool.n) (sym at) fits);
-    }
+    subst (λ n. level_of c.tri-t.result ≤ 2 * n) c.requires.n
+    (subst (λ z. level_of z ≤ 2 * c.args.mesh.now.pool.n) (sym at) fits)
 
 pub expire_under-requires : goal.expire_under-requires
 expire_under-requires g t c κs within =
@@ -60,8 +54,7 @@ returns-in-Some g t c =
     subst (λ z. IsExpired x c.expire_if.new.mesh (λ a. nat_eq z a && c.at-expiring.result.itself))
     (sym at) c.expire_if.ensures in
     IsExpired-tested (g.E.Expiry.expires c.args.expiry.now) x c.expire_if.new.mesh c.expire_under.new.mesh
-    c.expire_under-in-Some.new.mesh c.args.s c.tri-t.result c.in-Some.left c.in-Some.right
-    c.pool-pool.ensures.only read
+    c.expire_under-in-Some.new.mesh c.args.s c.tri-t.result c.in-Some.left c.in-Some.right read
     (IsExpired-itself x c.expire_if.new.mesh c.tri-t.result
     (g.E.Expiry.expires c.args.expiry.now) c.at-expiring.result.itself c.at-expiring.ensures.itself told)
     c.expire_under.ensures c.expire_under-in-Some.ensures
@@ -84,12 +77,23 @@ returns-in_default g t c =
     (IsExpired-itself x c.expire_if.new.mesh c.tri-t.result
     (g.E.Expiry.expires c.args.expiry.now) c.at-expiring.result.itself c.at-expiring.ensures.itself told)
 
-pub returns-else-expiring : goal.returns-else-expiring
-returns-else-expiring g t c =
+pub returns-in-Nothing : goal.returns-in-Nothing
+returns-in-Nothing g t c =
     let x = c.args.mesh.now in
     let at : c.tri-t.result ≡ address_at x.pool.pairs c.args.s.0 =
     c.tri-t.ensures.value ∙ ap (λ (z : PoolState). address_at z.pairs c.args.s.0) c.pool-pool.ensures.pool in
     IsExpired-untouched (g.E.Expiry.expires c.args.expiry.now) x c.args.s.0 c.pool-pool.ensures.only
     c.pool-pool.ensures.valid
-    (λ a under level. c.at-expiring.ensures.below c.if-expiring.false a (subst (λ z. is_at_or_below z a ≡ true) (sym at) under)
+    (λ a under level. c.at-expiring.ensures.nothing (cc) a (subst (λ z. is_at_or_below z a ≡ true) (sym at) under)
     (subst (λ n. level_of a ≤ 2 * n) c.requires.n level))
+
+pub returns-in-Everything : goal.returns-in-Everything
+returns-in-Everything g t c =
+    let x = c.args.mesh.now in
+    let at : c.tri-t.result ≡ address_at x.pool.pairs c.args.s.0 =
+    c.tri-t.ensures.value ∙ ap (λ (z : PoolState). address_at z.pairs c.args.s.0) c.pool-pool.ensures.pool in
+    IsExpired-passed (g.E.Expiry.expires c.args.expiry.now) x c.expire_all_under.new.mesh c.args.s.0
+    c.pool-pool.ensures.only c.pool-pool.ensures.valid
+    (λ a under level. c.at-expiring.ensures.everything (cc) a (subst (λ z. is_at_or_below z a ≡ true) (sym at) under)
+    (subst (λ n. level_of a ≤ 2 * n) c.requires.n level))
+    c.expire_all_under.ensures
