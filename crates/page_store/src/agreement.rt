@@ -1,8 +1,10 @@
 //! Whether a page has the heights that the loaded pages have at common points.
 
-ghost use Rattle.std.specs.Prelude.{◌≡◌, ℕ, ◌+◌, ◌-◌, ◌*◌, ◌%◌, ◌^◌, ◌<◌, ◌≤◌, ◌↔◌, IfSome, IsNone, IsSome, None};
+ghost use Rattle.std.specs.Prelude.{◌≡◌, ℕ, ◌+◌, ◌-◌, ◌*◌, ◌%◌, ◌^◌, ◌<◌, ◌≤◌, ◌↔◌, IfSome, IsNone, IsSome, IsTrue};
+ghost use Rattle.std.specs.Prelude.{None, length, slice_index};
 ghost use Rattle.mesh_defs.specs.declared.level.TheConstants.{GREATEST_LEVEL};
 ghost use Rattle.mesh_defs.specs.declared.point.Point.{Point};
+ghost use Rattle.mesh_defs.specs.HeightField.{height_at};
 ghost use Rattle.mesh_defs.specs.Thickness.{height_of};
 ghost use Rattle.bintree_laws.specs.Corners.{IsInSquare};
 ghost use Rattle.mosaic_laws.specs.Tile.{IsTile};
@@ -14,6 +16,35 @@ ghost use Rattle.page_store.specs.Agreement.{IsAgreed, IsDifferingAt, IsDifferin
 use crate::table::Table;
 use mesh_defs::Point;
 use pgm_grid::Grid;
+
+/// The heights of a row of grid points: from this point to that in column `end`, which is left out.
+fn row_of(grid: &Grid, from: Point, end: u32) -> &[u16]
+    requires row { from.y ≤ 2 ^ grid.now.n }
+    requires ordered { from.x ≤ end }
+    requires columns { end ≤ 2 ^ grid.now.n + 1 }
+    ensures count { length result.now ≡ end - from.x }
+    ensures heights { (k : ℕ) → k < length result.now →
+        slice_index result.now k ≡ height_at grid.now.n grid.now.heights (from.x + k) from.y }
+{
+    let side = grid.side();
+    let start = (side - 1 - from.y as usize) * side;
+    &grid.heights()[start + from.x as usize..start + end as usize]
+}
+
+/// Whether a row has at its even places what the coarser row has at all.
+///
+/// It goes on where they differ, so that several heights are compared at a time.
+fn is_row_same(row: &[u16], coarser: &[u16]) -> bool
+    requires long { 2 * length coarser.now ≤ length row.now + 1 }
+    ensures { IsTrue result ↔ ((k : ℕ) → k < length coarser.now →
+        slice_index row.now (2 * k) ≡ slice_index coarser.now k) }
+{
+    let mut is_same = true;
+    for k in 0..coarser.len() {
+        is_same &= row[2 * k] == coarser[k];
+    }
+    is_same
+}
 
 /// Where in a row of a page's points, of two steps each, the coarser page has another height, in double steps.
 ///
@@ -31,6 +62,12 @@ fn differing_in_row(page: &Grid, coarser: &Grid, corner: Point, row: u32) -> Opt
         ≡ height_of page.now.n coarser.now.heights (moved_by corner (record { x = k; y = row })) → ⊥)) }
 {
     let half = 1u32 << (page.n() - 1);
+    let here = row_of(page, Point { x: 0, y: 2 * row }, 2 * half + 1);
+    let Point { x, y } = corner;
+    let there = row_of(coarser, Point { x, y: y + row }, x + half + 1);
+    if is_row_same(here, there) {
+        return None;
+    }
     for k in 0..half + 1 {
         if page.height(2 * k, 2 * row) != coarser.height(corner.x + k, corner.y + row) {
             return Some(k);
