@@ -89,28 +89,25 @@ pub struct Row {
     pub behind: Stage,
 }
 
+/// What a mesh for each frame of a script is made of and written to.
+const MESHES: Stage = &[
+    Wanted::Grid,
+    Wanted::Script,
+    Wanted::Prefix,
+    Wanted::Budget,
+    Wanted::Spacing,
+];
+
 const COMMANDS: &[Row] = &[
     Row {
         word: "mesh",
         kind: Some(Kind::Mesh),
-        behind: &[
-            Wanted::Grid,
-            Wanted::Script,
-            Wanted::Prefix,
-            Wanted::Budget,
-            Wanted::Spacing,
-        ],
+        behind: MESHES,
     },
     Row {
         word: "strip",
         kind: Some(Kind::Strip),
-        behind: &[
-            Wanted::Grid,
-            Wanted::Script,
-            Wanted::Prefix,
-            Wanted::Budget,
-            Wanted::Spacing,
-        ],
+        behind: MESHES,
     },
     Row {
         word: "least",

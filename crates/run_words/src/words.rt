@@ -9,12 +9,12 @@ ghost use Rattle.run_words.specs.FoundView.{found_seen, IsFound};
 ghost use Rattle.run_words.specs.WordView.{show_for, IsMeshing, command_seen, IsCommandInBounds};
 
 use crate::certify_words::{CheckWords, FitCheckWords, FitMakeWords, MakeWords};
-use crate::first_wrong::{WordFault, found_in};
+use crate::first_wrong::{WordFault, first_of, needed_of};
 use crate::fit_words::{FitWords, KeepWords};
-use crate::found::{Found, GREATEST_BUDGET};
+use crate::found::{Found, GREATEST_BUDGET, stage_behind};
 use crate::kept_words::{KeptCheckWords, KeptMakeWords};
 use crate::showing::{Meshing, Showing};
-use crate::table::Kind;
+use crate::table::{Kind, Stage, Wanted};
 use view_priority::Camera;
 
 /// A command.
@@ -84,9 +84,27 @@ pub fn command_in(words: &[String]) -> Result<Command<'_>, WordFault<'_>>
         ↔ IsTrue (may_stand f.wanted word)) }
     ensures words { IfErr result (λ f. f.words.now ≡ words.now) }
 {
-    match found_in(words) {
-        Ok(found) => Ok(made(&found)),
-        Err(fault) => Err(fault),
+    let mut found = Found::nothing();
+    let mut stage: Stage = &[Wanted::Command];
+    for (place, word) in words.iter().enumerate() {
+        match stage_behind(stage, word.as_str(), &mut found) {
+            Some(behind) => stage = behind,
+            None => {
+                return Err(WordFault {
+                    place,
+                    wanted: first_of(stage),
+                    words,
+                });
+            }
+        }
+    }
+    match needed_of(stage) {
+        None => Ok(made(&found)),
+        Some(wanted) => Err(WordFault {
+            place: words.len(),
+            wanted: Some(wanted),
+            words,
+        }),
     }
 }
 

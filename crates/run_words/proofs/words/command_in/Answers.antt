@@ -3,7 +3,7 @@ use Rattle.std.proofs.Common.{string_bytes, sym, subst, ◌∙◌, ap, arith}
 use Rattle.run_words.specs.Words.{State, state, step, walk, start, BeginsCommand, may_stand}
 use Rattle.run_words.specs.FoundView.{found_seen}
 use Rattle.run_words.proofs.WordLemmas.{begins, begins-none, begins-wanted, no-command-behind, one-more, of-texts}
-use Rattle.run_words.proofs.first_wrong.found_in.Goals as goal
+use Rattle.run_words.proofs.words.command_in.Goals as goal
 
 -- a word behind which something is wanted
 pub loop-place-preserved : goal.loop-place-preserved
