@@ -18,7 +18,7 @@ use Rattle.cert_text.specs.KeptCert as kept
 use Rattle.run_laws.specs.Walk.{lines_of, AreWhole}
 use Rattle.run_laws.specs.CertFile.{lines_behind, lines_in, file_in, FilePlace, HaveCome, cert_of, cert_in, fit_cert_of}
 use Rattle.run_laws.specs.CertFile.{fit_cert_in, kept_cert_of, kept_cert_in}
-use Rattle.run_laws.proofs.LineLemmas.{NoEnd, no_end, no_end-append, lines_of-ends, lines_of-last, lines_of-begins}
+use Rattle.run_laws.proofs.LineLemmas.{NoEnd, no_end, no_end-append, lines_of-ends, lines_of-only, lines_of-begins}
 use Rattle.run_laws.proofs.LineLemmas.{BeginsWith}
 use Rattle.run_laws.proofs.WalkLemmas.{lines_of-ended}
 
@@ -59,6 +59,20 @@ lines_of-whole whole more (inl none) =
 lines_of-whole whole more (inr (head, is)) =
     subst (λ (l : List ℕ). lines_of (l ++ more) ≡ lines_of l ++ lines_of more) (sym is)
     (ap lines_of (append_assoc head (10 ∷ []) more) ∙ lines_of-ended head more)
+
+-- one more is counted behind a line that has begun and its LF
+pub lines-counted : (read whole begun : List ℕ) (lines : ℕ) → read ≡ whole ++ begun → AreWhole whole → NoEnd begun
+    → length (lines_of whole) ≡ lines → length (lines_of (read ++ 10 ∷ [])) ≡ lines + 1
+lines-counted read whole begun lines cut ended one counted =
+    ap (λ (l : List (List ℕ)). length l) all-lines
+    ∙ (length-append (lines_of whole) (begun ∷ []) ∙ omega (arith, counted))
+  where
+    all-lines : lines_of (read ++ 10 ∷ []) ≡ lines_of whole ++ begun ∷ []
+    all-lines =
+        ap (λ (l : List ℕ). lines_of (l ++ 10 ∷ [])) cut
+        ∙ (ap lines_of (append_assoc whole begun (10 ∷ []))
+        ∙ (lines_of-whole whole (begun ++ 10 ∷ []) ended
+        ∙ ap (λ (l : List (List ℕ)). lines_of whole ++ l) (lines_of-ends begun [] one)))
 
 -- a format
 
@@ -195,21 +209,10 @@ module _ {S C : Type 0} (step : S → List ℕ → Option S) (start : S) (finish
     ended = inr (read, refl);
     accepted = ap (lines_in step start) (sym (append-nil (read ++ 10 ∷ [])))
         ∙ (said-ended [] ∙ ap (lines_next step (here.lines + 1) []) is);
-    counted = counted;
+    counted = lines-counted read come.whole here.begun here.lines come.cut come.ended begun-ends come.counted;
     one_line = All-from_recursion (λ byte. byte ≢ 10) [] tt;
     short = omega arith;
   }
-    where
-      all-lines : lines_of (read ++ 10 ∷ []) ≡ lines_of come.whole ++ here.begun ∷ []
-      all-lines =
-          ap (λ (l : List ℕ). lines_of (l ++ 10 ∷ [])) come.cut
-          ∙ (ap lines_of (append_assoc come.whole here.begun (10 ∷ []))
-          ∙ (lines_of-whole come.whole (here.begun ++ 10 ∷ []) come.ended
-          ∙ ap (λ (l : List (List ℕ)). lines_of come.whole ++ l) (lines_of-ends here.begun [] begun-ends)))
-
-      counted : length (lines_of (read ++ 10 ∷ [])) ≡ here.lines + 1
-      counted = ap (λ (l : List (List ℕ)). length l) all-lines
-          ∙ (length-append (lines_of come.whole) (here.begun ∷ []) ∙ omega (arith, come.counted))
 
   -- a line that ended is refused, whatever follows
   pub refused-line : step here.said here.begun ≡ None → (more : List ℕ) →
@@ -253,11 +256,8 @@ module _ {S C : Type 0} (step : S → List ℕ → Option S) (start : S) (finish
       ap (lines_in step start) (sym (append-nil read))
       ∙ (said-come []
       ∙ (ap (λ (l : List ℕ). lines_behind step (here.lines + 1) here.said (lines_of l)) (append-nil here.begun)
-      ∙ ap (λ (l : List (List ℕ)). lines_behind step (here.lines + 1) here.said l) (last here.begun begun-ends some)))
-    where
-      last : (part : List ℕ) → NoEnd part → part ≢ [] → lines_of part ≡ part ∷ []
-      last [] one there = absurd (there refl)
-      last (b ∷ part) one there = lines_of-last b part one
+      ∙ ap (λ (l : List (List ℕ)). lines_behind step (here.lines + 1) here.said l)
+      (lines_of-only here.begun begun-ends some)))
 
   -- where the last line has no LF and may stand, the file is what is said behind it
   pub file-last : (next : S) → here.begun ≢ [] → step here.said here.begun ≡ Some next → file read ≡ finish next

@@ -20,11 +20,32 @@ pub late-in-time : (late last : Bool) (faults : ℕ) → last ≡ late_after lat
 late-in-time late last faults is not_late none =
     is ∙ (ap (λ (b : Bool). b || nat_lt 0 faults) not_late ∙ ap (λ (k : ℕ). nat_lt 0 k) none)
 
+-- so does one that was not called
+pub same-in-time : (late last : Bool) (faults : ℕ) → last ≡ late → IsInTime late faults last
+same-in-time late last faults same not_late none = same ∙ not_late
+
 -- the shelf was not called
 pub record SameShelf (before now : Moment) : Type 0 where
   pub shelf : now.shelf ≡ before.shelf
   pub faults : now.shelf_faults ≡ before.shelf_faults
   pub late : now.shelf_late ≡ before.shelf_late
+
+-- a sink was called, by what that came to
+sink-called : {T E : Type 0} (before now : Moment) (answer : Result T E) → SameShelf before now
+    → OnOk answer (now.under_way ≡ before.under_way)
+    → WritesHaveCause before.sinks.mesh_faults now.sinks.mesh_faults
+    before.sinks.report_faults now.sinks.report_faults answer
+    → IsInTime before.mesh_late before.sinks.mesh_faults now.mesh_late
+    → IsInTime before.report_late before.sinks.report_faults now.report_late → OnlyWrites before now answer
+sink-called before now answer shelf idle faults meshes report = record {
+  shelf = shelf.shelf;
+  shelf_faults = shelf.faults;
+  shelf_late = shelf.late;
+  idle = idle;
+  faults = faults;
+  meshes_in_time = meshes;
+  report_in_time = report;
+}
 
 -- a text was written to the report, or a part of it
 pub does-text : {T E : Type 0} (before now : Moment) (text : List ℕ) (answer : Result T E) → SameShelf before now
@@ -35,15 +56,9 @@ pub does-text : {T E : Type 0} (before now : Moment) (text : List ℕ) (answer :
     → IsInTime before.report_late before.sinks.report_faults now.report_late
     → Does before now (ReportText text ∷ []) answer
 does-text before now text (Ok value) shelf meshes faults under_way late bytes cause in_time = record {
-  only = record {
-    shelf = shelf.shelf;
-    shelf_faults = shelf.faults;
-    shelf_late = shelf.late;
-    idle = under_way;
-    faults = record { ok = record { meshes_same = faults; report_same = cause.ok }; err = tt };
-    meshes_in_time = λ not_late none. late ∙ not_late;
-    report_in_time = in_time;
-  };
+  only = sink-called before now (Ok value) shelf under_way
+      (record { ok = record { meshes_same = faults; report_same = cause.ok }; err = tt })
+      (same-in-time _ _ _ late) in_time;
   done = record {
     meshes_grow = λ all is. meshes ∙ grows-nothing before.sinks.meshes all is;
     report_grows = λ all is. bytes.ok all is ∙ ap (λ m. Some (all ++ m)) (sym (append-nil text));
@@ -54,18 +69,12 @@ does-text before now text (Ok value) shelf meshes faults under_way late bytes ca
   no_mesh = λ e. record { meshes = meshes; faults = faults; under_way = under_way; late = late };
 }
 does-text before now text (Err error) shelf meshes faults under_way late bytes cause in_time = record {
-  only = record {
-    shelf = shelf.shelf;
-    shelf_faults = shelf.faults;
-    shelf_late = shelf.late;
-    idle = tt;
-    faults = record {
-      ok = tt;
-      err = record { meshes_later = omega (arith, faults); report_later = cause.later; cause = inr cause.failed };
-    };
-    meshes_in_time = λ not_late none. late ∙ not_late;
-    report_in_time = in_time;
-  };
+  only = sink-called before now (Err error) shelf tt
+      (record {
+        ok = tt;
+        err = record { meshes_later = omega (arith, faults); report_later = cause.later; cause = inr cause.failed };
+      })
+      (same-in-time _ _ _ late) in_time;
   done = tt;
   cut_short = record {
     done = [];
@@ -92,15 +101,9 @@ pub does-mesh : {T E : Type 0} (before now : Moment) (prefix : List ℕ) (number
     → Does before now (WholeMesh prefix number bytes ∷ []) answer
 does-mesh before now prefix number bytes (Ok value) shelf idle report faults late grown idle_now part cause in_time =
     record {
-      only = record {
-        shelf = shelf.shelf;
-        shelf_faults = shelf.faults;
-        shelf_late = shelf.late;
-        idle = idle_now ∙ sym idle;
-        faults = record { ok = record { meshes_same = cause.ok; report_same = faults }; err = tt };
-        meshes_in_time = in_time;
-        report_in_time = λ not_late none. late ∙ not_late;
-      };
+      only = sink-called before now (Ok value) shelf (idle_now ∙ sym idle)
+          (record { ok = record { meshes_same = cause.ok; report_same = faults }; err = tt })
+          in_time (same-in-time _ _ _ late);
       done = record {
         meshes_grow = grown;
         report_grows = λ all is. report ∙ grows-nothing before.sinks.report all is;
@@ -112,18 +115,12 @@ does-mesh before now prefix number bytes (Ok value) shelf idle report faults lat
     }
 does-mesh before now prefix number bytes (Err error) shelf idle report faults late grown idle_now part cause in_time =
     record {
-      only = record {
-        shelf = shelf.shelf;
-        shelf_faults = shelf.faults;
-        shelf_late = shelf.late;
-        idle = tt;
-        faults = record {
-          ok = tt;
-          err = record { meshes_later = cause.later; report_later = omega (arith, faults); cause = inl cause.failed };
-        };
-        meshes_in_time = in_time;
-        report_in_time = λ not_late none. late ∙ not_late;
-      };
+      only = sink-called before now (Err error) shelf tt
+          (record {
+            ok = tt;
+            err = record { meshes_later = cause.later; report_later = omega (arith, faults); cause = inl cause.failed };
+          })
+          in_time (same-in-time _ _ _ late);
       done = tt;
       cut_short = record {
         done = [];
@@ -217,15 +214,9 @@ does-then before middle now first second one (Err error) did does = record {
 pub does-cut : {T E U : Type 0} (before now : Moment) (first second : List Act) (error : E)
     → Does {T = T} {E = E} before now first (Err error) → Does {T = U} {E = E} before now (first ++ second) (Err error)
 does-cut before now first second error did = record {
-  only = record {
-    shelf = did.only.shelf;
-    shelf_faults = did.only.shelf_faults;
-    shelf_late = did.only.shelf_late;
-    idle = tt;
-    faults = record { ok = tt; err = did.only.faults.err };
-    meshes_in_time = did.only.meshes_in_time;
-    report_in_time = did.only.report_in_time;
-  };
+  only = sink-called before now (Err error)
+      (record { shelf = did.only.shelf; faults = did.only.shelf_faults; late = did.only.shelf_late }) tt
+      (record { ok = tt; err = did.only.faults.err }) did.only.meshes_in_time did.only.report_in_time;
   done = tt;
   cut_short = cut-longer before.sinks now.sinks first second did.cut_short;
   no_mesh = λ none. did.no_mesh (no-first first second none);

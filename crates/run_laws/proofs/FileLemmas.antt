@@ -1,8 +1,9 @@
 -- A file that is read from a shelf, piece by piece: what was read of it, and what is unread, also where a read fails.
-use Rattle.std.proofs.Common.{◌≡◌, ℕ, ◌≤◌, Bool, true, false, List, [], ◌++◌, length, take, drop, Option, Some, None}
-use Rattle.std.proofs.Common.{is_some, refl, sym, ◌∙◌, ap, append_assoc, append-nil}
+use Rattle.std.proofs.Common.{◌≡◌, ℕ, ◌+◌, ◌<◌, ◌≤◌, Bool, true, false, List, [], ◌∷◌, ◌++◌, length, take, drop, get_or}
+use Rattle.std.proofs.Common.{Option, Some, None, Result, Ok, Err, OnOk, IfOk, is_some, refl, sym, ◌∙◌, ap, append_assoc}
+use Rattle.std.proofs.Common.{append-nil}
 use Rattle.std.proofs.Math.Seq.{take-append_seam}
-use Rattle.std.proofs.lemmas.List.{take-append-drop, length-take-le}
+use Rattle.std.proofs.lemmas.List.{take-append-drop, take_more, length-take-le}
 use Rattle.roam_edge.specs.Shelf.{NamedFile, bytes_of}
 use Rattle.roam_edge.specs.Told.{StaysTold}
 use Rattle.run_laws.specs.Promise.{seen, HasEnded}
@@ -125,3 +126,68 @@ stops-behind holds files rest rest' ended name bytes in_file kept open_file has_
       left = λ e. kept ∙ here.1;
       has_read = has_read;
     }
+
+-- bytes behind others, cut behind one of them
+pub bytes-cut : (read piece : List ℕ) (k : ℕ) → k < length piece →
+    read ++ piece ≡ ((read ++ take k piece) ++ get_or piece k 0 ∷ []) ++ drop (k + 1) piece
+bytes-cut read piece k below =
+    let tail : List ℕ = drop (k + 1) piece in
+    let cut = sym (take-append-drop (k + 1) piece) ∙ ap (λ m. m ++ tail) (take_more piece k 0 below) in
+    ap (λ m. read ++ m) cut ∙ (sym (append_assoc read _ tail)
+    ∙ ap (λ m. m ++ tail) (sym (append_assoc read (take k piece) _)))
+
+-- Of the bytes that were read of the named file this holds.
+pub record HasReadOf (holds : List ℕ → Type 0) (files : Option (List NamedFile)) (rest : Option (List ℕ))
+    (name : List ℕ) : Type 0 where
+  pub bytes : List ℕ
+  pub come : holds bytes
+  pub in_file : IsOfFile files rest name bytes
+
+module _ {holds : List ℕ → Type 0} {files : Option (List NamedFile)} {rest : Option (List ℕ)} {name : List ℕ}
+    (reading : HasReadOf holds files rest name) where
+  -- a piece more was read
+  pub read-on : (next : List ℕ → Type 0) (rest' : Option (List ℕ)) (piece : List ℕ) (count : ℕ) →
+      next (reading.bytes ++ piece)
+      → ((unread : List ℕ) → rest ≡ Some unread → rest' ≡ Some (drop count unread))
+      → ((unread : List ℕ) → rest ≡ Some unread → piece ≡ take count unread) → HasReadOf next files rest' name
+  read-on next rest' piece count come takes gives = record {
+    bytes = reading.bytes ++ piece;
+    come = come;
+    in_file = read-more files rest rest' name reading.bytes piece count reading.in_file takes gives;
+  }
+
+  -- what a piece more settles, whatever follows, holds of the file
+  pub read-settles : {A : Type 0} (of_bytes : List ℕ → A) (answer : A) (piece : List ℕ) (count : ℕ)
+      → ((more : List ℕ) → of_bytes ((reading.bytes ++ piece) ++ more) ≡ answer)
+      → ((unread : List ℕ) → rest ≡ Some unread → piece ≡ take count unread)
+      → (all : List NamedFile) → files ≡ Some all → of_bytes (bytes_of all name) ≡ answer
+  read-settles of_bytes answer piece count settled gives all told =
+      let here = reading.in_file all told in
+      ap of_bytes (file-cut (bytes_of all name) reading.bytes piece here.0 count here.2 (gives here.0 here.1))
+      ∙ settled (drop count here.0)
+
+  -- where nothing is unread, what holds of the bytes does so of the file
+  pub read-whole : {A : Type 0} (of_bytes : List ℕ → A) (answer : A)
+      → ((unread : List ℕ) → rest ≡ Some unread → unread ≡ []) → of_bytes reading.bytes ≡ answer
+      → (all : List NamedFile) → files ≡ Some all → of_bytes (bytes_of all name) ≡ answer
+  read-whole of_bytes answer nothing is all told =
+      ap of_bytes (read-all files rest name reading.bytes reading.in_file nothing all told) ∙ is
+
+  -- the same of what an answer gives
+  pub read-made : {V E A : Type 0} (of_bytes : List ℕ → A) (made : V → A) (answer : Result V E)
+      → ((unread : List ℕ) → rest ≡ Some unread → unread ≡ [])
+      → IfOk answer (λ value. of_bytes reading.bytes ≡ made value)
+      → IfOk answer (λ value. (all : List NamedFile) → files ≡ Some all → of_bytes (bytes_of all name) ≡ made value)
+  read-made of_bytes made (Ok value) nothing is = read-whole of_bytes (made value) nothing is
+  read-made of_bytes made (Err error) nothing is = tt
+
+  -- a read that gives no byte ends the file
+  pub read-ended : {V E : Type 0} (answer : Result V E) (files' : Option (List NamedFile)) (rest' : Option (List ℕ))
+      (opens count : ℕ) (ended : Bool) → files' ≡ files → count ≡ 0 → ended ≡ true → StaysTold rest rest'
+      → ((unread : List ℕ) → rest ≡ Some unread → rest' ≡ Some (drop count unread))
+      → ((unread : List ℕ) → rest ≡ Some unread → unread ≡ []) → OnOk answer (HasEnded (seen files' rest' opens ended))
+  read-ended (Err error) files' rest' opens count ended same none at_end stays takes nothing = tt
+  read-ended (Ok value) files' rest' opens count ended same none at_end stays takes nothing =
+      has-ended files' rest rest' opens ended at_end stays
+      (λ all told. (let here = reading.in_file all (sym same ∙ told) in (here.0, here.1)))
+      (read-end rest rest' count none takes nothing)

@@ -53,6 +53,16 @@ module _ (words : List (List ℕ)) (files : List NamedFile) (name : List ℕ) (j
   one-fits : (mesh : WrittenMesh) → Fits mesh → All Fits (mesh ∷ [])
   one-fits mesh fits = All-cons Fits mesh [] fits (All-nil Fits)
 
+  -- a whole mesh that is right
+  whole-fits : (triangles : List ℕ) → is_fit triangles →
+      All Fits (mesh_with begin 1 (fit_text spacing grid triangles) true ∷ [])
+  whole-fits triangles fit = one-fits _ (λ finished. record {
+    triangles = triangles;
+    best = best triangles fit;
+    fit = fit;
+    is_mesh = refl;
+  })
+
   -- nothing was done
   nothing : (status : Status) → status ≢ Done → Stands before now [] → Keeps status
   nothing status undone stands = record {
@@ -73,12 +83,7 @@ module _ (words : List (List ℕ)) (files : List NamedFile) (name : List ℕ) (j
         added = mesh_with begin 1 (fit_text spacing grid triangles) true ∷ [];
         behind = stood.meshes_grow all there;
         one = omega arith;
-        fits = one-fits _ (λ finished. record {
-          triangles = triangles;
-          best = best triangles is.1;
-          fit = is.1;
-          is_mesh = refl;
-        });
+        fits = whole-fits triangles is.1;
         done = λ e. (
           triangles,
           best triangles is.1,
@@ -122,12 +127,7 @@ module _ (words : List (List ℕ)) (files : List NamedFile) (name : List ℕ) (j
           added = mesh_with begin 1 bytes true ∷ [];
           behind = text.meshes all there;
           one = omega arith;
-          fits = one-fits _ (λ finished. record {
-            triangles = triangles;
-            best = best triangles is.1;
-            fit = is.1;
-            is_mesh = refl;
-          });
+          fits = whole-fits triangles is.1;
           done = λ e. absurd (undone e);
         }
       ]

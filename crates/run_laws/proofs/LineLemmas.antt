@@ -35,6 +35,11 @@ lines_of-last byte [] none = lines_of-byte byte [] none.0
 lines_of-last byte (next ∷ part) none =
     lines_of-byte byte (next ∷ part) none.0 ∙ ap (onto_first byte) (lines_of-last next part none.1)
 
+-- so of bytes that are some
+pub lines_of-only : (part : List ℕ) → NoEnd part → part ≢ [] → lines_of part ≡ part ∷ []
+lines_of-only [] none some = absurd (some refl)
+lines_of-only (byte ∷ part) none some = lines_of-last byte part none
+
 -- the first line and the others of a list that has one
 abbrev pub BeginsWith : List ℕ → List (List ℕ) → Type 0
 BeginsWith part lines = (tail : List ℕ) × (others : List (List ℕ)) × (lines ≡ (part ++ tail) ∷ others)

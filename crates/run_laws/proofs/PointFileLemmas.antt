@@ -7,17 +7,15 @@ use Rattle.std.proofs.lemmas.Bool.{cases_lt}
 use Rattle.std.proofs.lemmas.List.Elements.{All-from_recursion, All-nil, All-cons, All-append}
 use Rattle.mesh_defs.specs.declared.point.Point.{Point}
 use Rattle.bintree_laws.specs.Corners.{IsInSquare}
-use Rattle.roam_edge.specs.Shelf.{NamedFile, bytes_of}
 use Rattle.roam_script.specs.declared.limits.TheConstants.{MOST_LINE_BYTES}
 use Rattle.roam_script.specs.declared.script_fault.ScriptFault.{ScriptFault}
 use Rattle.roam_script.specs.declared.script_fault.ScriptFault.TheVariants.{TooManyLines}
 use Rattle.roam_script.specs.PointText.{most_points, point_in, PointsAreInGrid, LatePointsAreTooMany}
 use Rattle.run_laws.specs.Walk.{Refusal, lines_of}
 use Rattle.run_laws.specs.PointFile.{with_point, points_behind, points_in, PointPlace, HavePointsCome, PointsHaveRead}
-use Rattle.run_laws.proofs.LineLemmas.{NoEnd, no_end, no_end-append, lines_of-ends, lines_of-last, lines_of-begins}
+use Rattle.run_laws.proofs.LineLemmas.{NoEnd, no_end, no_end-append, lines_of-ends, lines_of-only, lines_of-begins}
 use Rattle.run_laws.proofs.LineLemmas.{BeginsWith}
-use Rattle.run_laws.proofs.CertFileLemmas.{place, lines_of-whole}
-use Rattle.run_laws.proofs.FileLemmas.{IsOfFile, file-cut, read-more, read-all}
+use Rattle.run_laws.proofs.CertFileLemmas.{place, lines_of-whole, lines-counted}
 
 -- what a line leads to
 
@@ -193,22 +191,11 @@ module _ (n : ℕ) (read : List ℕ) (here : PointPlace) (come : HavePointsCome 
     ended = inr (read, refl);
     accepted = ap (points_in n) (sym (append-nil (read ++ 10 ∷ [])))
         ∙ (points-ended [] ∙ ap (points_next n (here.lines + 1) here.said []) is);
-    counted = counted;
+    counted = lines-counted read come.whole here.begun here.lines come.cut come.ended begun-ends come.counted;
     one_line = All-from_recursion (λ byte. byte ≢ 10) [] tt;
     short = omega arith;
     last = inl refl;
   }
-    where
-      all-lines : lines_of (read ++ 10 ∷ []) ≡ lines_of come.whole ++ here.begun ∷ []
-      all-lines =
-          ap (λ (l : List ℕ). lines_of (l ++ 10 ∷ [])) come.cut
-          ∙ (ap lines_of (append_assoc come.whole here.begun (10 ∷ []))
-          ∙ (lines_of-whole come.whole (here.begun ++ 10 ∷ []) come.ended
-          ∙ ap (λ (l : List (List ℕ)). lines_of come.whole ++ l) (lines_of-ends here.begun [] begun-ends)))
-
-      counted : length (lines_of (read ++ 10 ∷ [])) ≡ here.lines + 1
-      counted = ap (λ (l : List (List ℕ)). length l) all-lines
-          ∙ (length-append (lines_of come.whole) (here.begun ∷ []) ∙ omega (arith, come.counted))
 
   -- a line that ended is refused, whatever follows
   pub point-refused : (why : ScriptFault) → point_in n (here.lines + 1) here.begun ≡ Err why → (more : List ℕ) →
@@ -267,11 +254,8 @@ module _ (n : ℕ) (read : List ℕ) (here : PointPlace) (come : HavePointsCome 
       ap (points_in n) (sym (append-nil read))
       ∙ (points-come []
       ∙ (ap (λ (l : List ℕ). points_behind n (here.lines + 1) here.said (lines_of l)) (append-nil here.begun)
-      ∙ ap (λ (l : List (List ℕ)). points_behind n (here.lines + 1) here.said l) (last here.begun begun-ends some)))
-    where
-      last : (part : List ℕ) → NoEnd part → part ≢ [] → lines_of part ≡ part ∷ []
-      last [] one there = absurd (there refl)
-      last (b ∷ part) one there = lines_of-last b part one
+      ∙ ap (λ (l : List (List ℕ)). points_behind n (here.lines + 1) here.said l)
+      (lines_of-only here.begun begun-ends some)))
 
   -- where the last line has no LF and is accepted, the file is the points with its own
   pub points-closed : (at : Option Point) → here.begun ≢ [] → point_in n (here.lines + 1) here.begun ≡ Ok at →
@@ -282,41 +266,3 @@ module _ (n : ℕ) (read : List ℕ) (here : PointPlace) (come : HavePointsCome 
   pub points-refused : (why : ScriptFault) → here.begun ≢ [] → point_in n (here.lines + 1) here.begun ≡ Err why →
       points_in n read ≡ Err (refusal_at (here.lines + 1) why)
   points-refused why some is = points-last some ∙ ap (points_next n (here.lines + 1) here.said []) is
-
--- Some bytes of such a file were read of the named file.
-pub record IsReadingPoints (n : ℕ) (files : Option (List NamedFile)) (rest : Option (List ℕ)) (name : List ℕ)
-    (here : PointPlace) : Type 0 where
-  pub bytes : List ℕ
-  pub come : HavePointsCome n bytes here
-  pub in_file : IsOfFile files rest name bytes
-
-module _ (n : ℕ) (files : Option (List NamedFile)) (rest : Option (List ℕ)) (name : List ℕ) (here : PointPlace)
-    (reading : IsReadingPoints n files rest name here) where
-  -- a piece was read and taken
-  pub points-more : (rest' : Option (List ℕ)) (piece : List ℕ) (count : ℕ) (next : PointPlace) →
-      HavePointsCome n (reading.bytes ++ piece) next
-      → ((unread : List ℕ) → rest ≡ Some unread → rest' ≡ Some (drop count unread)) →
-      ((unread : List ℕ) → rest ≡ Some unread → piece ≡ take count unread)
-      → IsReadingPoints n files rest' name next
-  points-more rest' piece count next come takes gives = record {
-    bytes = reading.bytes ++ piece;
-    come = come;
-    in_file = read-more files rest rest' name reading.bytes piece count reading.in_file takes gives;
-  }
-
-  -- a piece was read that has a line that is refused
-  pub points-stopped : (piece : List ℕ) (count : ℕ) (why : Refusal)
-      → ((more : List ℕ) → points_in n ((reading.bytes ++ piece) ++ more) ≡ Err why)
-      → ((unread : List ℕ) → rest ≡ Some unread → piece ≡ take count unread) → (all : List NamedFile) →
-      files ≡ Some all → points_in n (bytes_of all name) ≡ Err why
-  points-stopped piece count why refused gives all told =
-      let here = reading.in_file all told in
-      ap (points_in n) (file-cut (bytes_of all name) reading.bytes piece here.0 count here.2 (gives here.0 here.1))
-      ∙ refused (drop count here.0)
-
-  -- what the end of the file comes to is what the file is
-  pub points-whole : (answer : Result (List Point) Refusal) → ((unread : List ℕ) → rest ≡ Some unread → unread ≡ [])
-      → points_in n reading.bytes ≡ answer → (all : List NamedFile) → files ≡ Some all →
-      points_in n (bytes_of all name) ≡ answer
-  points-whole answer nothing is all told =
-      ap (points_in n) (read-all files rest name reading.bytes reading.in_file nothing all told) ∙ is

@@ -1,6 +1,6 @@
 -- How a command on a grid is carried out: it stops at its grid, memory runs out, or one text ends it.
 use Rattle.std.proofs.Math.Nat.{min-eq_left}
-use Rattle.std.proofs.Common.{◌≡◌, ◌≢◌, ◌⊎◌, ◌↔◌, ℕ, ◌+◌, ◌^◌, ◌≤◌, ◌&&◌, Bool, true, false, IsTrue, IsSome, List, []}
+use Rattle.std.proofs.Common.{◌≡◌, ◌≢◌, ◌⊎◌, ◌↔◌, ℕ, ◌+◌, ◌^◌, ◌<◌, ◌≤◌, ◌&&◌, Bool, true, false, IsTrue, IsSome, List, []}
 use Rattle.std.proofs.Common.{◌∷◌, suc, length, nat_lt, Option, None, Some, Result, Err, inl, inr, refl, sym, ◌∙◌, ap}
 use Rattle.std.proofs.Common.{subst, arith}
 use Rattle.std.proofs.lemmas.Bool.{lt-ltb}
@@ -17,6 +17,7 @@ use Rattle.pgm_grid.specs.declared.fault.PgmFault.{PgmFault}
 use Rattle.pgm_grid.specs.Progress.{grid_of}
 use Rattle.run_laws.specs.Act.{Act, ReportText, Told, meshes_of}
 use Rattle.run_laws.specs.Cause.{StatusHasCause, StatusWritesHaveCause}
+use Rattle.run_laws.specs.Statement.{EndsByStatus}
 use Rattle.run_laws.specs.ReportText.{grid_refusal}
 use Rattle.run_laws.specs.Picture.{Picture}
 use Rattle.run_laws.specs.Walk.{Walk}
@@ -30,7 +31,7 @@ use Rattle.run_laws.specs.Moment.{Moment, OnlyReads, SameMeshes}
 use Rattle.run_laws.specs.Leaving.{CommandEnds, Runs, HasOpened, HasFailed, ReadsGrid, EndsWith, TellsLast}
 use Rattle.run_laws.specs.Leaving.{LeavesByScript}
 use Rattle.run_laws.proofs.ActLemmas.{stands-nothing}
-use Rattle.run_laws.proofs.DoesLemmas.{same-meshes-then}
+use Rattle.run_laws.proofs.DoesLemmas.{same-in-time, same-meshes-then}
 use Rattle.run_laws.proofs.GridLemmas.{next-one, not-complete, grid-fault, grid-memory, first_walk, script-ends}
 use Rattle.run_laws.proofs.GridLemmas.{script-fault}
 use Rattle.run_laws.proofs.StatementLemmas.{ends-by-status}
@@ -63,9 +64,6 @@ in-time-then : (late middle last : Bool) (faults : ℕ) → IsInTime late faults
     IsInTime late faults last
 in-time-then late middle last faults one same not_late none = same ∙ one not_late none
 
-same-in-time : (late last : Bool) (faults : ℕ) → last ≡ late → IsInTime late faults last
-same-in-time late last faults same not_late none = same ∙ not_late
-
 -- where memory runs out, no more files were opened than the command names
 open-named : (work : Work) (files : List File) → open_for work files ≤ suc (length (file_names files))
 open-named (OfFrames show) files = omega arith
@@ -89,6 +87,77 @@ reads-no-mesh before now only = record {
 no-text : false ≡ true → ⊥
 no-text e = cc
 
+-- How often files were opened.
+
+-- what this status says of it, where the words name so many files
+abbrev pub OpensAt : ℕ → ℕ → ℕ → Status → Type 0
+OpensAt before now files Done = now ≡ before + files
+OpensAt before now files NoMemory = Unit {0}
+OpensAt before now files Usage = now ≡ before
+OpensAt before now files GridRefused = now ≡ before + 1
+OpensAt before now files ScriptRefused = now ≡ before + 2
+OpensAt before now files ReadFault = before + 1 ≤ now
+OpensAt before now files WriteFault = 0 < files → before + 1 ≤ now
+OpensAt before now files Rejected = before + 2 ≤ now
+
+-- that is all, but for the most and the least
+pub opens-at : (before now files : ℕ) (status : Status) → OpensAt before now files status → before ≤ now →
+    now ≤ before + files → OpensForStatus before now files status
+opens-at before now files status at least most = record {
+  done = λ is. subst At is at;
+  script_refused = λ is. subst At is at;
+  grid_refused = λ is. subst At is at;
+  usage = λ is. subst At is at;
+  read_fault = λ is. subst At is at;
+  write_fault = λ is. subst At is at;
+  rejected = λ is. subst At is at;
+  least = least;
+  most = most;
+}
+  where
+    At : Status → Type 0
+    At one = OpensAt before now files one
+
+-- Only the shelf was called, or nothing was.
+
+pub reads-nothing : (now : Moment) → OnlyReads now now
+reads-nothing now = record { files = refl; sinks = refl; under_way = refl; mesh_late = refl; report_late = refl }
+
+-- where the sinks were not called, a run that is not done leaves the outside as it was but for the shelf
+pub reads-run : (before now : Moment) (command : Option Command) (status : Status) → OnlyReads before now
+    → IsInTime before.shelf_late before.shelf_faults now.shelf_late → status ≢ Done → status ≢ WriteFault
+    → EndsByStatus before now command status None
+    → OpensForStatus before.shelf.opens now.shelf.opens (file_count command) status
+    → leaves_engine command status ≡ false → IsTrue (may_end command status)
+    → (status ≡ ReadFault → Rose before.shelf_faults now.shelf_faults)
+    → (status ≢ ReadFault → now.shelf_faults ≡ before.shelf_faults) → Runs before now command status None
+reads-run before now command status only in_time undone unwritten ends opens left allowed read not_read = record {
+  ends = ends;
+  leaves = record {
+    files = only.files;
+    idle = λ not. only.under_way;
+    no_mesh = λ text. reads-no-mesh before now only;
+    opens = opens;
+    read_out = λ done some. absurd (undone done);
+    engine = none-left command status left;
+    shelf_in_time = in_time;
+    meshes_in_time = same-in-time _ _ _ only.mesh_late;
+    report_in_time = same-in-time _ _ _ only.report_late;
+  };
+  allowed = allowed;
+  causes = record {
+    read = read;
+    not_read = not_read;
+    writes = record {
+      write = λ is. absurd (unwritten is);
+      not_write = λ not. record {
+        meshes_same = ap (λ (t : Told). t.mesh_faults) only.sinks;
+        report_same = ap (λ (t : Told). t.report_faults) only.sinks;
+      };
+    };
+  };
+}
+
 -- a read of one of a command's files failed, or its opening
 pub read-failed : (before now : Moment) (name : List ℕ) (job : Job) (files : ℕ) (last : List ℕ)
     (holds : List ℕ → Type 0)
@@ -96,91 +165,31 @@ pub read-failed : (before now : Moment) (name : List ℕ) (job : Job) (files : �
     files ≤ file_count (Some (OnGrid name job))
     → CommandReadFault before.sinks before.sinks before.shelf now.shelf (OnGrid name job)
     → Runs before now (Some (OnGrid name job)) ReadFault None
-read-failed before now name job files last holds read some within fault = record {
-  ends = ends-by-status before now (OnGrid name job) ReadFault None
-      (λ files are. record { ends = λ m r. absurd (r refl) })
-      (λ is. (let P : Told → Type 0 = λ t. CommandReadFault before.sinks t before.shelf now.shelf (OnGrid name job) in
-      subst P (sym read.only.sinks) fault))
-      (λ e. cc);
-  leaves = record {
-    files = read.only.files;
-    idle = λ not. read.only.under_way;
-    no_mesh = λ text. reads-no-mesh before now read.only;
-    opens = record {
-      done = λ e. cc;
-      script_refused = λ e. cc;
-      grid_refused = λ e. cc;
-      usage = λ e. cc;
-      read_fault = λ e. omega (arith, read.opens, some);
-      write_fault = λ e. cc;
-      rejected = λ e. cc;
-      least = omega (arith, read.opens);
-      most = omega (arith, read.opens, within);
-    };
-    read_out = λ e. cc;
-    engine = none-left (Some (OnGrid name job)) ReadFault (none-unended name job ReadFault refl);
-    shelf_in_time = read.in_time;
-    meshes_in_time = same-in-time _ _ _ read.only.mesh_late;
-    report_in_time = same-in-time _ _ _ read.only.report_late;
-  };
-  allowed = names-some name job;
-  causes = record {
-    read = λ e. read.failed;
-    not_read = λ not. absurd (not refl);
-    writes = record {
-      write = λ e. cc;
-      not_write = λ not. record {
-        meshes_same = ap (λ (t : Told). t.mesh_faults) read.only.sinks;
-        report_same = ap (λ (t : Told). t.report_faults) read.only.sinks;
-      };
-    };
-  };
-}
+read-failed before now name job files last holds read some within fault =
+    reads-run before now (Some (OnGrid name job)) ReadFault read.only read.in_time (λ e. cc) (λ e. cc)
+    (ends-by-status before now (OnGrid name job) ReadFault None
+    (λ files are. record { ends = λ m r. absurd (r refl) })
+    (λ is. (let P : Told → Type 0 = λ t. CommandReadFault before.sinks t before.shelf now.shelf (OnGrid name job) in
+    subst P (sym read.only.sinks) fault))
+    (λ e. cc))
+    (opens-at before.shelf.opens now.shelf.opens (file_count (Some (OnGrid name job))) ReadFault
+    (omega (arith, read.opens, some)) (omega (arith, read.opens)) (omega (arith, read.opens, within)))
+    (none-unended name job ReadFault refl) (names-some name job) (λ e. read.failed) (λ not. absurd (not refl))
 
 -- memory ran out once so many of a command's files were opened
 pub memory-spent : (before now : Moment) (name : List ℕ) (job : Job) (files : ℕ) → HasOpened before now files
     → CommandNoMemory before.sinks before.sinks before.shelf now.shelf (OnGrid name job)
     → Runs before now (Some (OnGrid name job)) NoMemory None
-memory-spent before now name job files read spent = record {
-  ends = ends-by-status before now (OnGrid name job) NoMemory None
-      (λ files are. record { ends = λ m r. absurd (m refl) })
-      (λ e. cc)
-      (λ is. (let P : Told → Type 0 = λ t. CommandNoMemory before.sinks t before.shelf now.shelf (OnGrid name job) in
-      subst P (sym read.only.sinks) spent));
-  leaves = record {
-    files = read.only.files;
-    idle = λ not. read.only.under_way;
-    no_mesh = λ text. reads-no-mesh before now read.only;
-    opens = record {
-      done = λ e. cc;
-      script_refused = λ e. cc;
-      grid_refused = λ e. cc;
-      usage = λ e. cc;
-      read_fault = λ e. cc;
-      write_fault = λ e. cc;
-      rejected = λ e. cc;
-      least = omega (arith, spent.count);
-      most = omega (arith, spent.count, spent.most, most-named name job);
-    };
-    read_out = λ e. cc;
-    engine = none-left (Some (OnGrid name job)) NoMemory (none-unended name job NoMemory refl);
-    shelf_in_time = read.in_time;
-    meshes_in_time = same-in-time _ _ _ read.only.mesh_late;
-    report_in_time = same-in-time _ _ _ read.only.report_late;
-  };
-  allowed = refl;
-  causes = record {
-    read = λ e. cc;
-    not_read = λ not. read.faults;
-    writes = record {
-      write = λ e. cc;
-      not_write = λ not. record {
-        meshes_same = ap (λ (t : Told). t.mesh_faults) read.only.sinks;
-        report_same = ap (λ (t : Told). t.report_faults) read.only.sinks;
-      };
-    };
-  };
-}
+memory-spent before now name job files read spent =
+    reads-run before now (Some (OnGrid name job)) NoMemory read.only read.in_time (λ e. cc) (λ e. cc)
+    (ends-by-status before now (OnGrid name job) NoMemory None
+    (λ files are. record { ends = λ m r. absurd (m refl) })
+    (λ e. cc)
+    (λ is. (let P : Told → Type 0 = λ t. CommandNoMemory before.sinks t before.shelf now.shelf (OnGrid name job) in
+    subst P (sym read.only.sinks) spent)))
+    (opens-at before.shelf.opens now.shelf.opens (file_count (Some (OnGrid name job))) NoMemory tt
+    (omega (arith, spent.count)) (omega (arith, spent.count, spent.most, most-named name job)))
+    (none-unended name job NoMemory refl) refl (λ e. cc) (λ not. read.faults)
 
 module _ (before now : Moment) (name : List ℕ) (job : Job) (only : OnlyReads before now)
     (opened : now.shelf.opens ≡ before.shelf.opens + 1)
@@ -301,17 +310,9 @@ module _ (before middle now : Moment) (name : List ℕ) (job : Job) (k : ℕ) (r
       apart-done e = cc
 
       cut-opens : OpensForStatus before.shelf.opens middle.shelf.opens (file_count named) WriteFault
-      cut-opens = record {
-        done = λ e. cc;
-        script_refused = λ e. cc;
-        grid_refused = λ e. cc;
-        usage = λ e. cc;
-        read_fault = λ e. cc;
-        write_fault = λ e any. omega (arith, read.opens, some);
-        rejected = λ e. cc;
-        least = omega (arith, read.opens);
-        most = omega (arith, read.opens, within);
-      }
+      cut-opens =
+          opens-at before.shelf.opens middle.shelf.opens (file_count named) WriteFault
+          (λ any. omega (arith, read.opens, some)) (omega (arith, read.opens)) (omega (arith, read.opens, within))
 
 -- one text ended a command
 pub text-runs : (before middle now : Moment) (name : List ℕ) (job : Job) (k : ℕ) →
@@ -338,17 +339,8 @@ grid-refused before middle now name job fault text status read is refused tells 
     IsGridOutcome job r files (text_outcome text GridRefused 1)) (sym (refused files told))
     (ap (λ (t : List ℕ). text_outcome t GridRefused 1) is))
     status tells (omega arith) (omega arith) refl (names-some name job) (none-unended name job GridRefused refl)
-    (record {
-      done = λ e. cc;
-      script_refused = λ e. cc;
-      grid_refused = λ e. read.opens;
-      usage = λ e. cc;
-      read_fault = λ e. cc;
-      write_fault = λ e. cc;
-      rejected = λ e. cc;
-      least = omega (arith, read.opens);
-      most = omega (arith, read.opens);
-    })
+    (opens-at before.shelf.opens middle.shelf.opens (file_count (Some (OnGrid name job))) GridRefused read.opens
+    (omega (arith, read.opens)) (omega (arith, read.opens)))
     (λ e. cc)
 
 -- a command whose only file is its grid ended with the acts of its job
@@ -364,17 +356,8 @@ job-runs before middle now name job grid acts status read one left outcome no_me
     (λ files told. subst (λ (r : Result HeightField PgmFault). IsGridOutcome job r files (plain_outcome acts Done 1))
     (sym (read.is_grid files told)) (outcome files)) no_mesh
     status ends (omega arith) (omega arith) refl refl left
-    (record {
-      done = λ e. omega (arith, read.opened.opens, one);
-      script_refused = λ e. cc;
-      grid_refused = λ e. cc;
-      usage = λ e. cc;
-      read_fault = λ e. cc;
-      write_fault = λ e. cc;
-      rejected = λ e. cc;
-      least = omega (arith, read.opened.opens);
-      most = omega (arith, read.opened.opens, one);
-    })
+    (opens-at before.shelf.opens middle.shelf.opens (file_count (Some (OnGrid name job))) Done
+    (omega (arith, read.opened.opens, one)) (omega (arith, read.opened.opens)) (omega (arith, read.opened.opens, one)))
     (λ e. read.ended)
 
 -- or with one text
@@ -418,29 +401,17 @@ module _ (before middle now : Moment) (name : List ℕ) (s : Scripted) (grid : H
   script-opens : (status : Status) → (status ≡ ReadFault) ⊎ IsScriptEnd status →
       now.shelf.opens ≡ before.shelf.opens + 2
       → OpensForStatus before.shelf.opens now.shelf.opens 2 status
-  script-opens status is opened = record {
-    done = λ e. opened;
-    script_refused = λ e. opened;
-    grid_refused = λ e. absurd (not-refused is e);
-    usage = λ e. absurd (not-usage is e);
-    read_fault = λ e. omega (arith, opened);
-    write_fault = λ e any. omega (arith, opened);
-    rejected = λ e. omega (arith, opened);
-    least = omega (arith, opened);
-    most = omega (arith, opened);
-  }
+  script-opens status is opened =
+      opens-at before.shelf.opens now.shelf.opens 2 status (at is) (omega (arith, opened)) (omega (arith, opened))
     where
-      not-refused : (status ≡ ReadFault) ⊎ IsScriptEnd status → status ≡ GridRefused → ⊥
-      not-refused (inl a) e = cc
-      not-refused (inr (inl a)) e = cc
-      not-refused (inr (inr (inl a))) e = cc
-      not-refused (inr (inr (inr a))) e = cc
+      At : Status → Type 0
+      At one = OpensAt before.shelf.opens now.shelf.opens 2 one
 
-      not-usage : (status ≡ ReadFault) ⊎ IsScriptEnd status → status ≡ Usage → ⊥
-      not-usage (inl a) e = cc
-      not-usage (inr (inl a)) e = cc
-      not-usage (inr (inr (inl a))) e = cc
-      not-usage (inr (inr (inr a))) e = cc
+      at : (status ≡ ReadFault) ⊎ IsScriptEnd status → At status
+      at (inl e) = let more : At ReadFault = omega (arith, opened) in subst At (sym e) more
+      at (inr (inl e)) = subst At (sym e) opened
+      at (inr (inr (inl e))) = subst At (sym e) opened
+      at (inr (inr (inr e))) = let more : At WriteFault = λ any. omega (arith, opened) in subst At (sym e) more
 
   script-memory : (status : Status) → (status ≡ ReadFault) ⊎ IsScriptEnd status → status ≡ NoMemory → ⊥
   script-memory status (inl a) e = cc
@@ -499,48 +470,24 @@ module _ (before middle now : Moment) (name : List ℕ) (s : Scripted) (grid : H
 -- words that are no command do nothing
 pub usage-runs : (now : Moment) (said : Option Command) → said ≡ None →
     Runs now now said Usage None
-usage-runs now said is = subst (λ (c : Option Command). Runs now now c Usage None) (sym is) (record {
-  ends = record {
-    complete = λ e files are. record {
-      end = plain_outcome [] Usage 0;
-      is_outcome = refl;
-      ends_so = refl;
-      stands = stands-nothing now.sinks;
-      opened = omega arith;
-      engine = refl;
-    };
-    write_fault = λ e. cc;
-    read_fault = λ e. cc;
-    no_memory = λ e. cc;
-  };
-  leaves = record {
-    files = refl;
-    idle = λ not. refl;
-    no_mesh = λ text. record { meshes = refl; faults = refl; under_way = refl; late = refl };
-    opens = record {
-      done = λ e. cc;
-      script_refused = λ e. cc;
-      grid_refused = λ e. cc;
-      usage = λ e. refl;
-      read_fault = λ e. cc;
+usage-runs now said is =
+    subst (λ (c : Option Command). Runs now now c Usage None) (sym is)
+    (reads-run now now None Usage (reads-nothing now) (same-in-time _ _ _ refl) (λ e. cc) (λ e. cc)
+    (record {
+      complete = λ e files are. record {
+        end = plain_outcome [] Usage 0;
+        is_outcome = refl;
+        ends_so = refl;
+        stands = stands-nothing now.sinks;
+        opened = omega arith;
+        engine = refl;
+      };
       write_fault = λ e. cc;
-      rejected = λ e. cc;
-      least = omega arith;
-      most = omega arith;
-    };
-    read_out = λ e. cc;
-    engine = ((λ e. e), (λ e. e));
-    shelf_in_time = same-in-time _ _ _ refl;
-    meshes_in_time = same-in-time _ _ _ refl;
-    report_in_time = same-in-time _ _ _ refl;
-  };
-  allowed = refl;
-  causes = record {
-    read = λ e. cc;
-    not_read = λ not. refl;
-    writes = record { write = λ e. cc; not_write = λ not. record { meshes_same = refl; report_same = refl } };
-  };
-})
+      read_fault = λ e. cc;
+      no_memory = λ e. cc;
+    })
+    (opens-at now.shelf.opens now.shelf.opens 0 Usage refl (omega arith) (omega arith))
+    refl refl (λ e. cc) (λ not. refl))
 
 -- and a command has another status
 pub command-not-usage : (before now : Moment) (command : Command) (status : Status) (left : Option EngineEnd)
@@ -627,17 +574,9 @@ module _ (before middle last now : Moment) (name : List ℕ) (job : Job) (grid :
   whole-runs acts whole ended left no_mesh outcome ends =
       acts-run before last now name job (1 + more) all-opened acts Done (job-ends Done acts outcome) no_mesh status ends
       (omega arith) (omega (arith, whole)) refl refl left
-      (record {
-        done = λ e. omega (arith, all-opened.opens, whole);
-        script_refused = λ e. cc;
-        grid_refused = λ e. cc;
-        usage = λ e. cc;
-        read_fault = λ e. cc;
-        write_fault = λ e. cc;
-        rejected = λ e. cc;
-        least = omega (arith, all-opened.opens);
-        most = omega (arith, all-opened.opens, whole);
-      })
+      (opens-at before.shelf.opens last.shelf.opens (file_count job-command) Done
+      (omega (arith, all-opened.opens, whole)) (omega (arith, all-opened.opens))
+      (omega (arith, all-opened.opens, whole)))
       (λ e. ended)
 
   -- a check ended with the line that a mesh is certified
@@ -659,17 +598,8 @@ module _ (before middle last now : Moment) (name : List ℕ) (job : Job) (grid :
       text-runs before last now name job (1 + more) all-opened text Rejected
       (job-ends Rejected (ReportText text ∷ []) outcome) status tells
       (omega arith) most refl check left
-      (record {
-        done = λ e. cc;
-        script_refused = λ e. cc;
-        grid_refused = λ e. cc;
-        usage = λ e. cc;
-        read_fault = λ e. cc;
-        write_fault = λ e. cc;
-        rejected = λ e. omega (arith, all-opened.opens, some);
-        least = omega (arith, all-opened.opens);
-        most = omega (arith, all-opened.opens, most);
-      })
+      (opens-at before.shelf.opens last.shelf.opens (file_count job-command) Rejected
+      (omega (arith, all-opened.opens, some)) (omega (arith, all-opened.opens)) (omega (arith, all-opened.opens, most)))
       (λ e. cc)
 
   -- a command ended with the line that its second file is refused
@@ -682,15 +612,7 @@ module _ (before middle last now : Moment) (name : List ℕ) (job : Job) (grid :
       text-runs before last now name job (1 + more) all-opened text ScriptRefused
       (job-ends ScriptRefused (ReportText text ∷ []) outcome) status tells
       (omega arith) (omega (arith, one, two)) refl allowed left
-      (record {
-        done = λ e. cc;
-        script_refused = λ e. omega (arith, all-opened.opens, one);
-        grid_refused = λ e. cc;
-        usage = λ e. cc;
-        read_fault = λ e. cc;
-        write_fault = λ e. cc;
-        rejected = λ e. cc;
-        least = omega (arith, all-opened.opens);
-        most = omega (arith, all-opened.opens, one, two);
-      })
+      (opens-at before.shelf.opens last.shelf.opens (file_count job-command) ScriptRefused
+      (omega (arith, all-opened.opens, one)) (omega (arith, all-opened.opens))
+      (omega (arith, all-opened.opens, one, two)))
       (λ e. cc)

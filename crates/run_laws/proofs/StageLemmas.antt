@@ -1,12 +1,10 @@
--- A file of lines that is read from a shelf, byte by byte and piece by piece.
+-- A file of lines that is read byte by byte.
 use Rattle.std.proofs.Common.{◌≡◌, ◌≢◌, ℕ, ◌+◌, ◌≤◌, List, [], ◌∷◌, ◌++◌, take, drop, length, Option, Some, None}
 use Rattle.std.proofs.Common.{Result, Ok, Err, IfOk, OnOk, sym, ◌∙◌, ap, subst, append_assoc}
-use Rattle.roam_edge.specs.Shelf.{NamedFile, bytes_of}
 use Rattle.roam_script.specs.declared.limits.TheConstants.{MOST_LINE_BYTES}
 use Rattle.run_laws.specs.CertFile.{FilePlace, HaveCome, TakesLines, EndsLines}
 use Rattle.run_laws.proofs.CertFileLemmas.{IsFormat, place, come-line, refused-line, refused-byte, file-end, file-last}
 use Rattle.run_laws.proofs.CertFileLemmas.{refused-last}
-use Rattle.run_laws.proofs.FileLemmas.{IsOfFile, file-cut, read-more, read-all}
 
 -- the number of a line, as an answer
 abbrev refused : {C : Type 0} → ℕ → Result C ℕ
@@ -103,54 +101,3 @@ module _ {S C E : Type 0} (step : S → List ℕ → Option S) (start : S) (fini
     bad_line = λ line e more. ap (λ (l : List ℕ). file (l ++ more)) is
         ∙ (ap file (append_assoc bytes tail more) ∙ takes.bad_line line e (tail ++ more));
   }
-
--- Some bytes of such a file were read of the named file.
-pub record IsReading {S : Type 0} (step : S → List ℕ → Option S) (start : S) (files : Option (List NamedFile))
-    (rest : Option (List ℕ)) (name : List ℕ)
-    (here : FilePlace S) : Type 0 where
-  pub bytes : List ℕ
-  pub come : HaveCome step start bytes here
-  pub in_file : IsOfFile files rest name bytes
-
-module _ {S C E : Type 0} (step : S → List ℕ → Option S) (start : S) (file : List ℕ → Result C ℕ) (bad : ℕ → E)
-    (files : Option (List NamedFile)) (rest : Option (List ℕ)) (name : List ℕ) (here : FilePlace S)
-    (reading : IsReading step start files rest name here) where
-  -- a piece was read and taken
-  pub lines-more : (rest' : Option (List ℕ)) (piece : List ℕ) (count : ℕ) (next : FilePlace S) →
-      HaveCome step start (reading.bytes ++ piece) next
-      → ((unread : List ℕ) → rest ≡ Some unread → rest' ≡ Some (drop count unread)) →
-      ((unread : List ℕ) → rest ≡ Some unread → piece ≡ take count unread)
-      → IsReading step start files rest' name next
-  lines-more rest' piece count next come takes gives = record {
-    bytes = reading.bytes ++ piece;
-    come = come;
-    in_file = read-more files rest rest' name reading.bytes piece count reading.in_file takes gives;
-  }
-
-  -- a piece was read that has a line that is refused
-  pub lines-refused : (piece : List ℕ) (count : ℕ) (new : FilePlace S) (stop : E) (line : ℕ)
-      → TakesLines {T = Unit {0}} step start file bad (reading.bytes ++ piece) new (Err stop) → stop ≡ bad line
-      → ((unread : List ℕ) → rest ≡ Some unread → piece ≡ take count unread) → (all : List NamedFile) →
-      files ≡ Some all → file (bytes_of all name) ≡ Err line
-  lines-refused piece count new stop line takes is gives all told =
-      let here = reading.in_file all told in
-      ap file (file-cut (bytes_of all name) reading.bytes piece here.0 count here.2 (gives here.0 here.1))
-      ∙ takes.bad_line line (ap stopped is) (drop count here.0)
-
-  -- the whole file was read
-  lines-whole : ((unread : List ℕ) → rest ≡ Some unread → unread ≡ []) → (all : List NamedFile) → files ≡ Some all →
-      bytes_of all name ≡ reading.bytes
-  lines-whole = read-all files rest name reading.bytes reading.in_file
-
-  -- what the end of the file comes to is what the file is
-  pub lines-ok : (answer : Result C E) → ((unread : List ℕ) → rest ≡ Some unread → unread ≡ []) →
-      EndsLines file bad reading.bytes answer
-      → IfOk answer (λ whole. (all : List NamedFile) → files ≡ Some all → file (bytes_of all name) ≡ Ok whole)
-  lines-ok (Ok whole) nothing ends = λ all told. ap file (lines-whole nothing all told) ∙ ends.ok
-  lines-ok (Err stop) nothing ends = tt
-
-  -- where the end of the file is refused at a line, the whole file is refused at that line
-  pub lines-bad : (answer : Result C E) (line : ℕ) → ((unread : List ℕ) → rest ≡ Some unread → unread ≡ []) →
-      EndsLines file bad reading.bytes answer
-      → answer ≡ Err (bad line) → (all : List NamedFile) → files ≡ Some all → file (bytes_of all name) ≡ Err line
-  lines-bad answer line nothing ends is all told = ap file (lines-whole nothing all told) ∙ ends.bad_line line is

@@ -10,8 +10,8 @@ use Rattle.run_laws.specs.declared.status.Status.TheVariants.{ReadFault, WriteFa
 use Rattle.run_words.specs.Words.{Command, command_of}
 use Rattle.run_laws.specs.Act.{Act, ReportText, IsCutShort}
 use Rattle.run_laws.specs.Cause.{StatusHasCause}
-use Rattle.run_laws.specs.Outcome.{EngineEnd, Outcome}
-use Rattle.run_laws.specs.Promise.{AreFiles, EndsRight, is_complete, may_end, CommandReadFault, CommandNoMemory}
+use Rattle.run_laws.specs.Outcome.{EngineEnd, Outcome, IsOutcome}
+use Rattle.run_laws.specs.Promise.{AreFiles, EndsAs, EndsRight, is_complete, may_end, CommandReadFault, CommandNoMemory}
 use Rattle.run_laws.specs.Promise.{LeavesAtReadFault, LeavesAtNoMemory}
 use Rattle.run_laws.specs.CutShort.{CutTextsStand, WriteFaultsStand}
 use Rattle.run_laws.specs.Laws.{AcceptedIsDone, OutcomesAreUnique, EnginesAreUnique}
@@ -154,36 +154,28 @@ module _ (before now : Moment) (words : List (List ℕ)) (left : Option EngineEn
   abbrev Right : Status → Type 0
   Right status = EndsRight before.sinks now.sinks before.shelf now.shelf words files status
 
+  ended : (status : Status) (end : Outcome) → IsOutcome (command_of words) files end
+      → EndsAs before.sinks now.sinks before.shelf now.shelf end status → Right status
+  ended status end is ends = record { ends = λ m r. (end, is, ends) }
+
   all-right : (status : Status) → IsTrue (is_complete status) → status ≢ WriteFault
       → EndsByStatus before now (command_of words) status left → Right status
   all-right status is not ends =
       let d = ends.complete is files are in
-      record {
-        ends = λ m r. (
-          d.end,
-          d.is_outcome,
-          record {
-            opened = d.opened;
-            complete = λ whole. (d.stands, d.ends_so);
-            cut_short = λ failed. absurd (not failed);
-          },
-        );
-      }
+      ended status d.end d.is_outcome (record {
+        opened = d.opened;
+        complete = λ whole. (d.stands, d.ends_so);
+        cut_short = λ failed. absurd (not failed);
+      })
 
   cut-right : EndsByStatus before now (command_of words) WriteFault left → Right WriteFault
   cut-right ends =
       let d = ends.write_fault refl files are in
-      record {
-        ends = λ m r. (
-          d.end,
-          d.is_outcome,
-          record {
-            opened = d.opened;
-            complete = λ whole. absurd (not-true whole);
-            cut_short = λ failed. d.cut_short;
-          },
-        );
-      }
+      ended WriteFault d.end d.is_outcome (record {
+        opened = d.opened;
+        complete = λ whole. absurd (not-true whole);
+        cut_short = λ failed. d.cut_short;
+      })
 
   right : (status : Status) → EndsByStatus before now (command_of words) status left → Right status
   right Done ends = all-right Done refl (λ e. cc) ends
