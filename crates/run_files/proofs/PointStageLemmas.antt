@@ -1,4 +1,4 @@
--- A file of points that is read from a shelf, byte by byte and piece by piece.
+-- A file of points that is read byte by byte.
 use Rattle.std.proofs.Common.{Bool, true, drop, Some, ◌≡◌, ◌≢◌, ℕ, ◌+◌, ◌≤◌, ◌<◌, List, [], ◌∷◌, ◌++◌, length, Option}
 use Rattle.std.proofs.Common.{Result, Ok, Err, OnOk, IfOk}
 use Rattle.std.proofs.Common.{sym, ◌∙◌, ap, ap₂, subst, arith, append_assoc, length-append}
@@ -7,15 +7,11 @@ use Rattle.roam_script.specs.declared.limits.TheConstants.{MOST_LINE_BYTES}
 use Rattle.roam_script.specs.declared.script_fault.ScriptFault.{ScriptFault}
 use Rattle.roam_script.specs.declared.script_fault.ScriptFault.TheVariants.{LineTooLong, TooManyLines}
 use Rattle.roam_script.specs.PointText.{most_points, point_in, LatePointsAreTooMany, LongPointsAreTooLong}
-use Rattle.roam_edge.specs.Shelf.{NamedFile, bytes_of}
-use Rattle.roam_edge.specs.Told.{StaysTold}
-use Rattle.run_laws.specs.Promise.{seen, HasEnded}
 use Rattle.run_laws.specs.Walk.{Refusal}
 use Rattle.run_laws.specs.PointFile.{with_point, points_in, PointPlace, HavePointsCome, TakesPoints}
 use Rattle.run_laws.proofs.CertFileLemmas.{place}
 use Rattle.run_laws.proofs.PointFileLemmas.{refusal_at, point-line, point-refused, point-settled}
-use Rattle.run_laws.proofs.PointFileLemmas.{points-closed, points-refused, IsReadingPoints, points-whole}
-use Rattle.run_laws.proofs.FileLemmas.{read-end, has-ended}
+use Rattle.run_laws.proofs.PointFileLemmas.{points-closed, points-refused}
 use Rattle.run_files.specs.declared.points_file.PointStop.{PointStop}
 use Rattle.run_files.specs.PointStage.{stops}
 
@@ -112,31 +108,3 @@ takes-longer n bytes tail whole old new stop is takes = record {
   refusal = λ why e more. ap (λ (l : List ℕ). points_in n (l ++ more)) is
       ∙ (ap (points_in n) (append_assoc bytes tail more) ∙ takes.refusal why e (tail ++ more));
 }
-
--- a fact that needs no answer
-pub on-ok : {V E : Type 0} (answer : Result V E) (P : Type 0) → P → OnOk answer P
-on-ok (Ok v) P is = is
-on-ok (Err e) P is = tt
-
-module _ (n : ℕ) (files : Option (List NamedFile)) (rest : Option (List ℕ)) (name : List ℕ) (here : PointPlace)
-    (reading : IsReadingPoints n files rest name here)
-    (nothing : (unread : List ℕ) → rest ≡ Some unread → unread ≡ []) where
-  -- the points of the bytes that were read are those of the file, once nothing is unread
-  pub stage-ok : {V E : Type 0} (items : V → List Point) (answer : Result V E) →
-      IfOk answer (λ all. points_in n reading.bytes ≡ Ok (items all))
-      → IfOk answer (λ all. (told : List NamedFile) → files ≡ Some told →
-      points_in n (bytes_of told name) ≡ Ok (items all))
-  stage-ok items (Ok all) is = points-whole n files rest name here reading (Ok (items all)) nothing is
-  stage-ok items (Err e) is = tt
-
-  -- and it was read to its end
-  pub stage-ended : {V E : Type 0} (ended : Bool) (rest' : Option (List ℕ)) (opens count : ℕ)
-      (files' : Option (List NamedFile)) (answer : Result V E)
-      → files' ≡ files → count ≡ 0 → ended ≡ true → StaysTold rest rest' →
-      ((unread : List ℕ) → rest ≡ Some unread → rest' ≡ Some (drop count unread))
-      → OnOk answer (HasEnded (seen files' rest' opens ended))
-  stage-ended ended rest' opens count files' answer same none at_end stays takes =
-      on-ok answer (HasEnded (seen files' rest' opens ended))
-      (has-ended files' rest rest' opens ended at_end stays
-      (λ all told. (let here = reading.in_file all (sym same ∙ told) in (here.0, here.1)))
-      (read-end rest rest' count none takes nothing))

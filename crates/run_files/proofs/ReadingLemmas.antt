@@ -4,7 +4,6 @@ use Rattle.std.proofs.Common.{length, take, drop, Option, Some, Ok, Err, refl, s
 use Rattle.std.proofs.Common.{false, ◌∷◌}
 use Rattle.mesh_defs.specs.HeightField.{HeightField}
 use Rattle.roam_edge.specs.Shelf.{NamedFile, bytes_of}
-use Rattle.roam_edge.specs.Told.{StaysTold}
 use Rattle.pgm_grid.specs.declared.fault.PgmFault.{PgmFault}
 use Rattle.pgm_grid.specs.declared.fault.PgmFault.TheVariants.{BadMagic, BadHeader, HeaderTooLong, BadMaxval, NotSquare}
 use Rattle.pgm_grid.specs.declared.fault.PgmFault.TheVariants.{BadSide, Truncated, BadSample, AboveMaxval, Trailing}
@@ -13,21 +12,21 @@ use Rattle.std.proofs.lemmas.Result.{IfOk-at_ok, IfErr-at_err}
 use Rattle.pgm_grid.specs.Laws.{OthersAreAbsent, GridsHaveHeaders}
 use Rattle.pgm_grid.specs.HeaderReading.{header_of}
 use Rattle.pgm_grid.specs.Progress.{Progress, grid_of, resume, taken, StaysRefused, EndsHeader}
-use Rattle.run_laws.specs.Promise.{seen, HasEnded, HasReadHeader, IsUndecided}
+use Rattle.run_laws.specs.Promise.{HasReadHeader, IsUndecided}
 use Rattle.run_files.specs.declared.grid_file.GridStop.{GridStop}
 use Rattle.run_files.specs.declared.grid_file.GridStop.TheVariants as stop
 use Rattle.run_laws.specs.FileStop.{StopsReading}
 use Rattle.run_files.specs.GridStop.{stop_for}
-use Rattle.run_laws.proofs.FileLemmas.{IsOfFile, read-nothing, file-split, file-cut, read-more, same-unread, read-end}
-use Rattle.run_laws.proofs.FileLemmas.{has-ended, stops-behind}
+use Rattle.run_laws.proofs.FileLemmas.{HasReadOf, read-nothing, file-cut, same-unread, stops-behind}
 
--- The reader has taken some bytes, which were read of the named file.
-pub record IsReading (files : Option (List NamedFile)) (rest : Option (List ℕ)) (name : List ℕ)
-    (reader : Progress) : Type 0 where
-  pub bytes : List ℕ
+-- the reader has taken these bytes
+pub record IsTaken (reader : Progress) (bytes : List ℕ) : Type 0 where
   pub means : (more : List ℕ) → resume reader more ≡ grid_of (bytes ++ more)
   pub counted : taken reader ≡ length bytes
-  pub in_file : IsOfFile files rest name bytes
+
+-- they were read of the named file
+abbrev pub IsReading : Option (List NamedFile) → Option (List ℕ) → List ℕ → Progress → Type 0
+IsReading files rest name reader = HasReadOf (IsTaken reader) files rest name
 
 -- nothing was taken of a file that was just opened
 pub reading-begin : (files : Option (List NamedFile)) (rest : Option (List ℕ)) (name : List ℕ) (reader : Progress)
@@ -36,39 +35,25 @@ pub reading-begin : (files : Option (List NamedFile)) (rest : Option (List ℕ))
     → IsReading files rest name reader
 reading-begin files rest name reader means none chosen = record {
   bytes = [];
-  means = means;
-  counted = none;
+  come = record { means = means; counted = none };
   in_file = read-nothing files rest name chosen;
 }
 
--- a piece was read and taken
-pub reading-more : (files : Option (List NamedFile)) (rest rest' : Option (List ℕ)) (name piece : List ℕ) (count : ℕ)
-    (reader next : Progress)
-    → IsReading files rest name reader
-    → ((unread : List ℕ) → rest ≡ Some unread → rest' ≡ Some (drop count unread))
-    → ((unread : List ℕ) → rest ≡ Some unread → piece ≡ take count unread)
+-- a piece was taken
+pub taken-more : (bytes piece : List ℕ) (reader next : Progress) → IsTaken reader bytes
     → ((more : List ℕ) → resume reader (piece ++ more) ≡ resume next more) → taken next ≡ taken reader + length piece
-    → IsReading files rest' name next
-reading-more files rest rest' name piece count reader next reading takes gives goes_on counted = record {
-  bytes = reading.bytes ++ piece;
-  counted = omega (arith, counted, reading.counted, length-append reading.bytes piece);
-  means = λ more. sym (goes_on more) ∙ reading.means (piece ++ more)
-      ∙ ap grid_of (sym (append_assoc reading.bytes piece more));
-  in_file = read-more files rest rest' name reading.bytes piece count reading.in_file takes gives;
+    → IsTaken next (bytes ++ piece)
+taken-more bytes piece reader next old goes_on counted = record {
+  means = λ more. sym (goes_on more) ∙ old.means (piece ++ more) ∙ ap grid_of (sym (append_assoc bytes piece more));
+  counted = omega (arith, counted, old.counted, length-append bytes piece);
 }
 
--- a piece was read, and the reader refuses it
-pub reading-refused : (files : Option (List NamedFile)) (rest : Option (List ℕ)) (name piece : List ℕ) (count : ℕ)
-    (reader : Progress) (fault : PgmFault)
-    → IsReading files rest name reader
-    → ((unread : List ℕ) → rest ≡ Some unread → piece ≡ take count unread)
+-- a piece was refused
+pub taken-refused : (bytes piece : List ℕ) (reader : Progress) (fault : PgmFault) → IsTaken reader bytes
     → ((more : List ℕ) → resume reader (piece ++ more) ≡ Err fault)
-    → (all : List NamedFile) → files ≡ Some all → grid_of (bytes_of all name) ≡ Err fault
-reading-refused files rest name piece count reader fault reading gives refusal all is =
-    let here = reading.in_file all is in
-    ap grid_of (file-split (bytes_of all name) reading.bytes piece here.0 count here.2 (gives here.0 here.1))
-    ∙ sym (reading.means (piece ++ drop count here.0))
-    ∙ refusal (drop count here.0)
+    → (more : List ℕ) → grid_of ((bytes ++ piece) ++ more) ≡ Err fault
+taken-refused bytes piece reader fault old refusal more =
+    ap grid_of (append_assoc bytes piece more) ∙ sym (old.means (piece ++ more)) ∙ refusal more
 
 -- a refusal other than out of memory is that of the reader
 pub stop_for-refused : (found fault : PgmFault) → stop_for found ≡ stop.Refused fault →
@@ -106,7 +91,7 @@ pub reading-unsettled : (files : Option (List NamedFile)) (rest : Option (List �
     → OthersAreAbsent → IsReading files rest name reader → StaysRefused reader NoMemory → ⊥
 unfolding StaysRefused
 reading-unsettled files rest name reader others reading settled =
-    let e = sym (reading.means []) ∙ settled [] in
+    let e = sym (reading.come.means []) ∙ settled [] in
     IfErr-at_err (λ fault. fault ≢ NoMemory) e (others (reading.bytes ++ [])) refl
 
 -- the header of a grid ended with a piece
@@ -119,7 +104,7 @@ pub reading-header : (files : Option (List NamedFile)) (rest rest' : Option (Lis
     → (all : List NamedFile) → files ≡ Some all → HasReadHeader (bytes_of all name) rest'
 reading-header files rest rest' name piece count reader reading takes gives ends all is =
     let here = reading.in_file all is in
-    let header = ends.ends reading.bytes reading.means in
+    let header = ends.ends reading.bytes reading.come.means in
     let whole = file-cut (bytes_of all name) reading.bytes piece here.0 count here.2 (gives here.0 here.1) in (
       header.header,
       header.at,
@@ -149,7 +134,7 @@ pub reading-failed : (files : Option (List NamedFile)) (rest rest' : Option (Lis
 unfolding StaysRefused
 reading-failed files rest rest' ended' name reader reading unsettled kept not_ended =
     stops-behind IsUndecided files rest rest' ended' name reading.bytes reading.in_file kept not_ended
-    (λ fault settled. unsettled fault (λ more. reading.means more ∙ settled more))
+    (λ fault settled. unsettled fault (λ more. reading.come.means more ∙ settled more))
 
 -- nothing is no grid, and a first byte of 0 has another refusal
 nothing-read : grid_of [] ≡ Err Truncated
@@ -187,7 +172,7 @@ module _ (files : Option (List NamedFile)) (rest : Option (List ℕ)) (name : Li
   grid-header answer headers value rest' count none takes = on-ok answer _ (λ grid is all told.
       let here = reading.in_file all told in
       let whole = here.2 ∙ ap (λ m. reading.bytes ++ m) (nothing here.0 here.1) in
-      let read = ap grid_of whole ∙ sym (reading.means []) ∙ IfOk-at_ok _ is value in
+      let read = ap grid_of whole ∙ sym (reading.come.means []) ∙ IfOk-at_ok _ is value in
       let found = headers grid (bytes_of all name) read in
       let left = takes here.0 here.1 ∙ ap (λ k. Some (drop k here.0)) none ∙ ap Some (nothing here.0 here.1) in (
         found.0,
@@ -197,17 +182,6 @@ module _ (files : Option (List NamedFile)) (rest : Option (List ℕ)) (name : Li
         λ unread is_left.
             (found.2, sym (append-nil found.2) ∙ ap (λ m. found.2 ++ m) (same-unread [] unread (sym left ∙ is_left))),
       ))
-
-  -- a read that gave no byte leaves nothing
-  pub grid-ended : (ended : Bool) (rest' : Option (List ℕ)) (opens count : ℕ) (files' : Option (List NamedFile))
-      (answer : Result HeightField GridStop)
-      → files' ≡ files → count ≡ 0 → ended ≡ true → StaysTold rest rest' →
-      ((unread : List ℕ) → rest ≡ Some unread → rest' ≡ Some (drop count unread))
-      → OnOk answer (HasEnded (seen files' rest' opens ended))
-  grid-ended ended rest' opens count files' answer same none at_end stays takes = on-ok answer _ (λ grid is.
-      has-ended files' rest rest' opens ended at_end stays
-      (λ all told. (let here = reading.in_file all (sym same ∙ told) in (here.0, here.1)))
-      (read-end rest rest' count none takes nothing))
 
 -- a new reader has settled nothing
 pub start-unsettled : (reader : Progress) → ((more : List ℕ) → resume reader more ≡ grid_of more) → (fault : PgmFault) →

@@ -1,12 +1,12 @@
-use Rattle.std.proofs.Common.{◌≡◌, [], take, rules, arith, sym, ◌∙◌, subst}
+use Rattle.std.proofs.Common.{◌≡◌, [], take, rules, arith, Ok, Err, ap, sym, ◌∙◌, subst}
 use Rattle.std.proofs.lemmas.Grind.{common_steps}
 use Rattle.std.proofs.lemmas.Result.{err_from_is_err_and}
 use Rattle.run_laws.specs.CertFile.{FilePlace, HaveCome}
 use Rattle.run_laws.proofs.CertFileLemmas.{place, come-begin}
-use Rattle.run_laws.proofs.FileLemmas.{piece-read, stops-unopened, stops-behind}
-use Rattle.run_laws.proofs.StageLemmas.{lines-more, lines-refused, lines-ok, lines-bad}
+use Rattle.run_laws.proofs.FileLemmas.{piece-read, stops-unopened, stops-behind, read-on, read-settles, read-whole}
+use Rattle.run_laws.proofs.FileLemmas.{read-made}
 use Rattle.run_files.specs.declared.cert_file.CertStop.TheVariants.{BadLine}
-use Rattle.run_files.specs.LineStage.{refuses, LinesHaveRead}
+use Rattle.run_files.specs.LineStage.{LinesHaveRead}
 use Rattle.run_files.proofs.LineStageLemmas.{nothing-refused}
 use Rattle.run_files.proofs.cert_file.read_lines.Goals as goal
 
@@ -45,33 +45,25 @@ returns-in_default-read-clause-undecided g c is =
 
 pub returns-then-count-eq0-clause-ok : goal.returns-then-count-eq0-clause-ok
 returns-then-count-eq0-clause-ok g c =
-    let here = c.pieces.stage in
     let reading = c.pieces.invariant.reading in
     let ends = rw c.pieces.invariant.level at (c.end.ensures.ends reading.bytes) in
-    lines-ok (g.R.LineReader.step c.args.n) g.R.LineReader.start (g.R.LineReader.file c.args.n) refuses _ _ _
-    (place (g.R.LineReader.said here.reader) here.lines here.part.items) reading c.end.result
-    (λ unread is. (c.in-Ok-read.ensures.bytes.empty unread is).0 c.if-count-eq0.true) (ends reading.come)
+    read-made reading (g.R.LineReader.file c.args.n) (λ cert. Ok cert) c.end.result
+    (λ unread is. (c.in-Ok-read.ensures.bytes.empty unread is).0 c.if-count-eq0.true) (ends reading.come).ok
 
 pub returns-then-count-eq0-clause-bad_line : goal.returns-then-count-eq0-clause-bad_line
 returns-then-count-eq0-clause-bad_line g c line is =
-    let here = c.pieces.stage in
     let reading = c.pieces.invariant.reading in
     let ends = rw c.pieces.invariant.level at (c.end.ensures.ends reading.bytes) in
-    lines-bad (g.R.LineReader.step c.args.n) g.R.LineReader.start (g.R.LineReader.file c.args.n) refuses _ _ _
-    (place (g.R.LineReader.said here.reader) here.lines here.part.items) reading c.end.result line
-    (λ unread is. (c.in-Ok-read.ensures.bytes.empty unread is).0 c.if-count-eq0.true) (ends reading.come) is
+    read-whole reading (g.R.LineReader.file c.args.n) (Err line)
+    (λ unread is. (c.in-Ok-read.ensures.bytes.empty unread is).0 c.if-count-eq0.true)
+    ((ends reading.come).bad_line line is)
 
 pub pieces-preserved : goal.pieces-preserved
 pieces-preserved g c = record {
   reading =
-      let here = c.pieces.stage in
-      let next = c.take_piece.new.self in
       let reading = c.pieces.invariant.reading in
       let takes = rw c.pieces.invariant.level at (c.in_ok-take_piece.ensures.taken reading.bytes) in
-      lines-more (g.R.LineReader.step c.args.n) g.R.LineReader.start (g.R.LineReader.file c.args.n) refuses _ _ _
-      (place (g.R.LineReader.said here.reader) here.lines here.part.items) reading _
-      (take c.in-Ok-read.count c.read.new.buf) c.in-Ok-read.count
-      (place (g.R.LineReader.said next.reader) next.lines next.part.items) (takes reading.come).ok
+      read-on reading _ _ (take c.in-Ok-read.count c.read.new.buf) c.in-Ok-read.count (takes reading.come).ok
       c.in-Ok-read.ensures.bytes.takes
       (piece-read _ c.in-Ok-read.count _ _ c.in-Ok-read.ensures.bytes.within c.in-Ok-read.ensures.bytes.gives);
   level = c.in_ok-take_piece.ensures.level ∙ c.pieces.invariant.level;
@@ -86,17 +78,12 @@ pieces-preserved g c = record {
 
 pub returns-in_err-take_piece-clause-bad_line : goal.returns-in_err-take_piece-clause-bad_line
 returns-in_err-take_piece-clause-bad_line g c line e all told =
-    let here = c.pieces.stage in
-    let next = c.take_piece.new.self in
     let reading = c.pieces.invariant.reading in
     let p = err_from_is_err_and c.from_residual.result c.from_residual.ensures.1 in
     let is : c.in_err-take_piece.field-0.0 ≡ BadLine line = cc (p.1, p.2) in
     let takes = rw c.pieces.invariant.level at (c.in_err-take_piece.ensures.taken reading.bytes) in
-    lines-refused (g.R.LineReader.step c.args.n) g.R.LineReader.start (g.R.LineReader.file c.args.n) refuses _ _ _
-    (place (g.R.LineReader.said here.reader) here.lines here.part.items) reading
-    (take c.in-Ok-read.count c.read.new.buf) c.in-Ok-read.count
-    (place (g.R.LineReader.said next.reader) next.lines next.part.items) c.in_err-take_piece.field-0.0 line
-    (takes reading.come) is
+    read-settles reading (g.R.LineReader.file c.args.n) (Err line) (take c.in-Ok-read.count c.read.new.buf)
+    c.in-Ok-read.count ((takes reading.come).bad_line line (ap Err is))
     (piece-read _ c.in-Ok-read.count _ _ c.in-Ok-read.ensures.bytes.within c.in-Ok-read.ensures.bytes.gives) all told
 
 pub returns-then-count-eq0-clause-same : goal.returns-then-count-eq0-clause-same

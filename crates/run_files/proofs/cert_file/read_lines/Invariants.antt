@@ -1,18 +1,19 @@
 use Rattle.std.proofs.Common.{◌≡◌, ◌+◌, ◌-◌, ◌*◌, ◌^◌, false, length}
 use Rattle.roam_edge.specs.Fault.{next_count, IsInTime}
 use Rattle.roam_script.specs.declared.limits.TheConstants.{MOST_LINE_BYTES}
+use Rattle.run_laws.specs.CertFile.{HaveCome}
 use Rattle.run_laws.specs.Moment.{OnlyReads}
 use Rattle.run_laws.proofs.CertFileLemmas.{place}
-use Rattle.run_laws.proofs.StageLemmas.{IsReading}
+use Rattle.run_laws.proofs.FileLemmas.{HasReadOf}
 use Rattle.run_files.specs.LineStage.{IsStage}
 use Rattle.run_files.proofs.cert_file.read_lines.Given as goal
 
 -- the bytes that were read were taken, and the shelf has not failed
 abbrev pub invariant-pieces : goal.invariant-pieces
 invariant-pieces g l = record {
-  reading : IsReading (g.R.LineReader.step l.n) g.R.LineReader.start (g.O.Outside.moment l.fn.outside).shelf.files
-      (g.O.Outside.moment l.outside).shelf.rest l.name
-      (place (g.R.LineReader.said l.stage.reader) l.stage.lines l.stage.part.items);
+  reading : HasReadOf (λ bytes. HaveCome (g.R.LineReader.step l.n) g.R.LineReader.start bytes
+      (place (g.R.LineReader.said l.stage.reader) l.stage.lines l.stage.part.items))
+      (g.O.Outside.moment l.fn.outside).shelf.files (g.O.Outside.moment l.outside).shelf.rest l.name;
   level : g.R.LineReader.level l.stage.reader ≡ l.n;
   sound : IsStage (g.R.LineReader.Goes l.stage.reader) (g.R.LineReader.count (g.R.LineReader.said l.stage.reader))
       l.stage.lines l.stage.part.items;

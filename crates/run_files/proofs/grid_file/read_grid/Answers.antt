@@ -2,10 +2,11 @@ use Rattle.std.proofs.Common.{◌≡◌, Err, inl, inr, rules, arith, ap, ◌∙
 use Rattle.std.proofs.lemmas.Grind.{common_steps}
 use Rattle.run_files.specs.GridStop.{stop_for}
 use Rattle.run_files.specs.declared.grid_file.GridStop.TheVariants.{Refused, NoMemory}
-use Rattle.run_laws.proofs.FileLemmas.{piece-read, stops-unopened}
-use Rattle.run_files.proofs.ReadingLemmas.{reading-begin, reading-more, reading-refused, reading-unsettled}
+use Rattle.pgm_grid.specs.Progress.{grid_of}
+use Rattle.run_laws.proofs.FileLemmas.{piece-read, stops-unopened, read-on, read-settles, read-ended}
+use Rattle.run_files.proofs.ReadingLemmas.{reading-begin, taken-more, taken-refused, reading-unsettled}
 use Rattle.run_files.proofs.ReadingLemmas.{reading-failed, start-unsettled, nothing-undecided, reading-header}
-use Rattle.run_files.proofs.ReadingLemmas.{grid-header, grid-ended, stop_for-refused, stop_for-memory}
+use Rattle.run_files.proofs.ReadingLemmas.{grid-header, stop_for-refused, stop_for-memory}
 use Rattle.run_files.proofs.grid_file.read_grid.Goals as goal
 
 pub pieces-init : goal.pieces-init
@@ -24,15 +25,16 @@ pieces-init g c = record {
 pub returns-in-Err-clause-refused : goal.returns-in-Err-clause-refused
 returns-in-Err-clause-refused g c fault is all told =
     let found = stop_for-refused c.in-Err.fault fault (let e : stop_for c.in-Err.fault ≡ Refused fault = cc in e) in
-    reading-refused _ _ _ _ c.in-Ok-read.count _ _ c.pieces.invariant.reading
-    (piece-read _ c.in-Ok-read.count _ _ c.in-Ok-read.ensures.bytes.within c.in-Ok-read.ensures.bytes.gives)
-    (rw found.0 at (c.in-Err.ensures.refusal found.1)) all told
+    read-settles c.pieces.invariant.reading grid_of (Err fault) _ c.in-Ok-read.count
+    (taken-refused _ _ _ fault c.pieces.invariant.reading.come (rw found.0 at (c.in-Err.ensures.refusal found.1)))
+    (piece-read _ c.in-Ok-read.count _ _ c.in-Ok-read.ensures.bytes.within c.in-Ok-read.ensures.bytes.gives) all told
 
 pub pieces-preserved : goal.pieces-preserved
 pieces-preserved g c = record {
-  reading = reading-more _ _ _ _ _ c.in-Ok-read.count _ _ c.pieces.invariant.reading c.in-Ok-read.ensures.bytes.takes
-      (piece-read _ c.in-Ok-read.count _ _ c.in-Ok-read.ensures.bytes.within c.in-Ok-read.ensures.bytes.gives)
-      c.in_default-feed.ensures.ok c.in_default-feed.ensures.count;
+  reading = read-on c.pieces.invariant.reading _ _ _ c.in-Ok-read.count
+      (taken-more _ _ _ _ c.pieces.invariant.reading.come c.in_default-feed.ensures.ok c.in_default-feed.ensures.count)
+      c.in-Ok-read.ensures.bytes.takes
+      (piece-read _ c.in-Ok-read.count _ _ c.in-Ok-read.ensures.bytes.within c.in-Ok-read.ensures.bytes.gives);
   unsettled = c.in_default-feed.ensures.unsettled;
   few = c.in_default-feed.ensures.limit;
   open_file = search rules;
@@ -64,11 +66,10 @@ returns-then-count-eq0-clause-header g c =
 
 pub returns-then-count-eq0-clause-ended : goal.returns-then-count-eq0-clause-ended
 returns-then-count-eq0-clause-ended g c =
-    grid-ended _ _ _ _ c.pieces.invariant.reading
-    (λ unread is. (c.in-Ok-read.ensures.bytes.empty unread is).0 c.if-count-eq0.true)
-    _ _ _ c.in-Ok-read.count _ c.finished.result (c.in-Ok-read.ensures.only.files
-    ∙ c.pieces.invariant.only.files) c.if-count-eq0.true (c.in-Ok-read.ensures.ends.at_end c.if-count-eq0.true)
-    c.in-Ok-read.ensures.bytes.told c.in-Ok-read.ensures.bytes.takes
+    read-ended c.pieces.invariant.reading c.finished.result _ _ _ c.in-Ok-read.count _
+    (c.in-Ok-read.ensures.only.files ∙ c.pieces.invariant.only.files) c.if-count-eq0.true
+    (c.in-Ok-read.ensures.ends.at_end c.if-count-eq0.true) c.in-Ok-read.ensures.bytes.told
+    c.in-Ok-read.ensures.bytes.takes (λ unread is. (c.in-Ok-read.ensures.bytes.empty unread is).0 c.if-count-eq0.true)
 
 pub returns-in_default-read-clause-undecided : goal.returns-in_default-read-clause-undecided
 returns-in_default-read-clause-undecided g c is all told =

@@ -1,11 +1,11 @@
-use Rattle.std.proofs.Common.{◌≡◌, [], take, rules, arith, Err, ap, sym, ◌∙◌, subst}
+use Rattle.std.proofs.Common.{◌≡◌, [], take, rules, arith, Ok, Err, ap, sym, ◌∙◌, subst}
 use Rattle.std.proofs.lemmas.Grind.{common_steps}
 use Rattle.std.proofs.lemmas.Result.{err_from_is_err_and}
-use Rattle.run_laws.proofs.FileLemmas.{piece-read, stops-unopened}
-use Rattle.run_laws.proofs.PointFileLemmas.{points-begin, points-nothing, points-more, points-stopped, points-whole}
-use Rattle.run_laws.specs.PointFile.{PointPlace, HavePointsCome}
-use Rattle.run_files.specs.PointStage.{point_place, stops}
-use Rattle.run_files.proofs.PointStageLemmas.{stage-ok, stage-ended}
+use Rattle.run_laws.proofs.FileLemmas.{piece-read, stops-unopened, read-on, read-settles, read-whole, read-made}
+use Rattle.run_laws.proofs.FileLemmas.{read-ended}
+use Rattle.run_laws.proofs.PointFileLemmas.{points-begin, points-nothing}
+use Rattle.run_laws.specs.PointFile.{PointPlace, HavePointsCome, points_in}
+use Rattle.run_files.specs.PointStage.{stops}
 use Rattle.run_files.proofs.points_file.read_points.Goals as goal
 
 pub returns-in_default-clause-undecided : goal.returns-in_default-clause-undecided
@@ -34,23 +34,21 @@ pub returns-then-count-eq0-clause-ok : goal.returns-then-count-eq0-clause-ok
 returns-then-count-eq0-clause-ok g c =
     let reading = c.pieces.invariant.reading in
     let ok = rw c.pieces.invariant.level at (c.end.ensures.ok reading.bytes) in
-    stage-ok c.args.n _ _ _ (point_place c.pieces.stage) reading
-    (λ unread is. (c.in-Ok-read.ensures.bytes.empty unread is).0 c.if-count-eq0.true)
-    (λ all. all.items) c.end.result (ok reading.come)
+    read-made reading (points_in c.args.n) (λ all. Ok all.items) c.end.result
+    (λ unread is. (c.in-Ok-read.ensures.bytes.empty unread is).0 c.if-count-eq0.true) (ok reading.come)
 
 pub returns-then-count-eq0-clause-ended : goal.returns-then-count-eq0-clause-ended
 returns-then-count-eq0-clause-ended g c =
-    stage-ended c.args.n _ _ _ (point_place c.pieces.stage) c.pieces.invariant.reading
-    (λ unread is. (c.in-Ok-read.ensures.bytes.empty unread is).0 c.if-count-eq0.true)
-    _ _ _ c.in-Ok-read.count _ c.end.result (c.in-Ok-read.ensures.only.files
-    ∙ c.pieces.invariant.only.files) c.if-count-eq0.true (c.in-Ok-read.ensures.ends.at_end c.if-count-eq0.true)
-    c.in-Ok-read.ensures.bytes.told c.in-Ok-read.ensures.bytes.takes
+    read-ended c.pieces.invariant.reading c.end.result _ _ _ c.in-Ok-read.count _
+    (c.in-Ok-read.ensures.only.files ∙ c.pieces.invariant.only.files) c.if-count-eq0.true
+    (c.in-Ok-read.ensures.ends.at_end c.if-count-eq0.true) c.in-Ok-read.ensures.bytes.told
+    c.in-Ok-read.ensures.bytes.takes (λ unread is. (c.in-Ok-read.ensures.bytes.empty unread is).0 c.if-count-eq0.true)
 
 pub returns-then-count-eq0-clause-refused : goal.returns-then-count-eq0-clause-refused
 returns-then-count-eq0-clause-refused g c why e =
     let reading = c.pieces.invariant.reading in
     let refusal = rw c.pieces.invariant.level at (c.end.ensures.refusal reading.bytes) in
-    points-whole c.args.n _ _ _ (point_place c.pieces.stage) reading (Err why)
+    read-whole reading (points_in c.args.n) (Err why)
     (λ unread is. (c.in-Ok-read.ensures.bytes.empty unread is).0 c.if-count-eq0.true) (refusal reading.come why e)
 
 pub returns-in_err-take_piece-clause-refused : goal.returns-in_err-take_piece-clause-refused
@@ -59,8 +57,8 @@ returns-in_err-take_piece-clause-refused g c why e =
     let p = err_from_is_err_and c.from_residual.result c.from_residual.ensures.1 in
     let is : c.in_err-take_piece.field-0.0 ≡ stops why = cc (p.1, p.2) in
     let takes = rw c.pieces.invariant.level at (c.in_err-take_piece.ensures.taken reading.bytes) in
-    points-stopped c.args.n _ _ _ (point_place c.pieces.stage) reading (take c.in-Ok-read.count c.read.new.buf)
-    c.in-Ok-read.count why ((takes reading.come).refusal why (ap Err is))
+    read-settles reading (points_in c.args.n) (Err why) (take c.in-Ok-read.count c.read.new.buf) c.in-Ok-read.count
+    ((takes reading.come).refusal why (ap Err is))
     (piece-read _ c.in-Ok-read.count _ _ c.in-Ok-read.ensures.bytes.within c.in-Ok-read.ensures.bytes.gives)
 
 pub pieces-preserved : goal.pieces-preserved
@@ -68,9 +66,7 @@ pieces-preserved g c = record {
   reading =
       let reading = c.pieces.invariant.reading in
       let takes = rw c.pieces.invariant.level at (c.in_ok-take_piece.ensures.taken reading.bytes) in
-      points-more c.args.n _ _ _ (point_place c.pieces.stage) reading _
-      (take c.in-Ok-read.count c.read.new.buf) c.in-Ok-read.count (point_place c.take_piece.new.self)
-      (takes reading.come).ok
+      read-on reading _ _ (take c.in-Ok-read.count c.read.new.buf) c.in-Ok-read.count (takes reading.come).ok
       c.in-Ok-read.ensures.bytes.takes
       (piece-read _ c.in-Ok-read.count _ _ c.in-Ok-read.ensures.bytes.within c.in-Ok-read.ensures.bytes.gives);
   level = c.in_ok-take_piece.ensures.n ∙ c.pieces.invariant.level;

@@ -3,15 +3,16 @@ use Rattle.roam_edge.specs.Fault.{next_count, IsInTime}
 use Rattle.roam_script.specs.declared.limits.TheConstants.{MOST_LINE_BYTES}
 use Rattle.roam_script.specs.PointText.{most_points}
 use Rattle.run_laws.specs.Moment.{OnlyReads}
-use Rattle.run_laws.proofs.PointFileLemmas.{IsReadingPoints}
+use Rattle.run_laws.specs.PointFile.{HavePointsCome}
+use Rattle.run_laws.proofs.FileLemmas.{HasReadOf}
 use Rattle.run_files.specs.PointStage.{point_place, IsPointStage}
 use Rattle.run_files.proofs.points_file.read_points.Given as goal
 
 -- the bytes that were read were taken, and the shelf has not failed
 abbrev pub invariant-pieces : goal.invariant-pieces
 invariant-pieces g l = record {
-  reading : IsReadingPoints l.n (g.O.Outside.moment l.fn.outside).shelf.files
-      (g.O.Outside.moment l.outside).shelf.rest l.name (point_place l.stage);
+  reading : HasReadOf (λ bytes. HavePointsCome l.n bytes (point_place l.stage))
+      (g.O.Outside.moment l.fn.outside).shelf.files (g.O.Outside.moment l.outside).shelf.rest l.name;
   level : l.stage.n ≡ l.n;
   sound : IsPointStage l.stage;
   open_file : (g.O.Outside.moment l.outside).shelf.ended ≡ false;
