@@ -9,10 +9,11 @@ use Rattle.bintree_laws.proofs.LatticeLemmas.{same_point}
 use Rattle.mosaic_laws.specs.Tile.{IsTile}
 use Rattle.page_laws.specs.Pages.{square_above}
 use Rattle.page_wedges.specs.Page.{Page}
-use Rattle.page_store.specs.Store.{Store, top_of, page_at, grid_at, AreJoined, joined_page}
+use Rattle.page_store.specs.Store.{Store, top_of, page_at, AreJoined, joined_page}
 use Rattle.page_store.specs.Change.{IsPageJoined, AreSameGrids, AreOthersJoined}
+use Rattle.page_store.specs.Edit.{AreJoinedBut}
 use Rattle.page_store.proofs.TableLemmas.{page_at-some}
-use Rattle.page_store.proofs.ChangeLemmas.{same-or-other, AreSameTerrain, same-terrain}
+use Rattle.page_store.proofs.ChangeLemmas.{same-or-other, AreSameTerrain, same-terrain, grids-but}
 use Rattle.page_store.proofs.JoinLemmas.{terrain-wedge, joined-kept, AreFinerJoined}
 
 -- the square above is one of half as many columns and rows
@@ -24,27 +25,15 @@ above-tile p t tile =
     record { column = omega arith; row = omega arith }
 
 -- a page joined changes no grid
-pub page-grids : (s s' : Store) (q : ℕ) (t : Point) → IsPageJoined s s' q t → AreSameGrids s s'
-page-grids s s' q t j = record {
+pub page-grids : {s s' : Store} {q : ℕ} {t : Point} → IsPageJoined s s' q t → AreSameGrids s s'
+page-grids {s} {s'} {q} {t} j = record {
   large = j.large;
   n = j.n;
-  grids = λ r u. ⊎_elim
-      (λ (same : (r ≡ q) × (u ≡ t)).
-      ap₂ (λ j v. grid_at s' j v) same.0 same.1
-      ∙ ap (option_map (λ (g : Page). g.field)) j.here
-      ∙ fields (page_at s q t)
-      ∙ sym (ap₂ (λ j v. grid_at s j v) same.0 same.1))
-      (λ (other : r ≡ q → u ≡ t → ⊥). ap (option_map (λ (g : Page). g.field)) (j.others r u other))
-      (same-or-other q r t u);
+  grids = grids-but s s' q t (joined_page s q t) (λ _. refl) j.here j.others;
 }
-  where
-    fields : (o : Option Page) → option_map (λ (g : Page). g.field) (option_map (joined_page s q t) o)
-        ≡ option_map (λ (g : Page). g.field) o
-    fields None = refl
-    fields (Some page) = refl
 
-pub grids-then : (a b c : Store) → AreSameGrids a b → AreSameGrids b c → AreSameGrids a c
-grids-then a b c one two = record {
+pub grids-then : {a b c : Store} → AreSameGrids a b → AreSameGrids b c → AreSameGrids a c
+grids-then one two = record {
   large = two.large ∙ one.large;
   n = two.n ∙ one.n;
   grids = λ q t. two.grids q t ∙ one.grids q t;
@@ -66,53 +55,68 @@ half-then : (a k : ℕ) → a / 2 ^ suc k ≡ a / 2 / 2 ^ k
 half-then a k = ap (λ j. a / j) (pow-succ' 2 k) ∙ sym (div-div-eq-div-mul a 2 (2 ^ k))
 
 -- the page as joined has the wedges of its quarters
-pub is-joined : (s s' : Store) (q : ℕ) (t : Point) (page : Page) → AreSameTerrain s s' → s'.large ≡ s.large → s'.n ≡ s.n →
+is-joined : {s s' : Store} (q : ℕ) (t : Point) (page : Page) → AreSameTerrain s s' → s'.large ≡ s.large → s'.n ≡ s.n →
     AreJoined s' q t (joined_page s q t page)
-is-joined s s' q t page same large n zero small = sym (terrain-wedge s s' q t 0 same large n)
-is-joined s s' q t page same large n (suc zero) small = sym (terrain-wedge s s' q t 1 same large n)
-is-joined s s' q t page same large n (suc (suc zero)) small = sym (terrain-wedge s s' q t 2 same large n)
-is-joined s s' q t page same large n (suc (suc (suc zero))) small = sym (terrain-wedge s s' q t 3 same large n)
-is-joined s s' q t page same large n (suc (suc (suc (suc k)))) small = absurd (omega (arith, small))
+is-joined q t page same large n zero small = sym (terrain-wedge q t 0 same large n)
+is-joined q t page same large n (suc zero) small = sym (terrain-wedge q t 1 same large n)
+is-joined q t page same large n (suc (suc zero)) small = sym (terrain-wedge q t 2 same large n)
+is-joined q t page same large n (suc (suc (suc zero))) small = sym (terrain-wedge q t 3 same large n)
+is-joined q t page same large n (suc (suc (suc (suc k)))) small = absurd (omega (arith, small))
+
+-- a page is joined, and is not due any more
+pub join-step : {s s' : Store} {q : ℕ} {t : Point} (due other : ℕ → Point → Type 0) → IsPageJoined s s' q t →
+    AreJoinedBut s due → ((r : ℕ) (u : Point) → (other r u → ⊥) → due r u → (r ≡ q) × (u ≡ t)) → AreJoinedBut s' other
+join-step {s} {s'} {q} {t} due other j joined less r u page not at = ⊎_elim
+    (λ (same : (r ≡ q) × (u ≡ t)).
+    let there : option_map (joined_page s q t) (page_at s q t) ≡ Some page =
+    sym j.here ∙ sym (ap₂ (λ i v. page_at s' i v) same.0 same.1) ∙ at in
+    subst (λ i. AreJoined s' i u page) (sym same.0)
+    (subst (λ v. AreJoined s' q v page) (sym same.1) (was (page_at s q t) there)))
+    (λ (apart : r ≡ q → u ≡ t → ⊥).
+    joined-kept r u page terrain j.large j.n
+    (joined r u page (λ is. let e = less r u not is in apart e.0 e.1) (sym (j.others r u apart) ∙ at)))
+    (same-or-other q r t u)
+  where
+    terrain : AreSameTerrain s s'
+    terrain = same-terrain s s' j.large j.n (page-grids j).grids
+
+    was : (o : Option Page) → option_map (joined_page s q t) o ≡ Some page → AreJoined s' q t page
+    was None e = absurd cc
+    was (Some old) e =
+        let f : joined_page s q t old ≡ page = cc in
+        subst (AreJoined s' q t) f (is-joined q t old terrain j.large j.n)
+
+-- the square u of resolution r, which is coarser than q, has the square t of resolution q in it
+abbrev IsOver : ℕ → Point → ℕ → Point → Type 0
+IsOver q t r u = (q < r) × (u ≡ record { x = t.x / 2 ^ (r - q); y = t.y / 2 ^ (r - q) })
 
 -- a step up
 pub above-step : (s s' : Store) (p : ℕ) (t : Point) → p < top_of s → AreOthersJoined s (top_of s - suc p) t →
     IsPageJoined s s' (top_of s - p) (square_above t) → AreOthersJoined s' (top_of s - p) (square_above t)
-above-step s s' p t coarse others j r u page not at = ⊎_elim
-    (λ (same : (r ≡ top_of s - p) × (u ≡ square_above t)).
-    let there : option_map (joined_page s (top_of s - p) (square_above t)) (page_at s (top_of s - p) (square_above t))
-    ≡ Some page =
-    sym j.here ∙ sym (ap₂ (λ i v. page_at s' i v) same.0 same.1) ∙ at in
-    subst (λ i. AreJoined s' i u page) (sym same.0)
-    (subst (λ v. AreJoined s' (top_of s - p) v page) (sym same.1)
-    (was (page_at s (top_of s - p) (square_above t)) there)))
-    (λ (other : r ≡ top_of s - p → u ≡ square_above t → ⊥).
-    joined-kept s s' r u page terrain j.large j.n
-    (others r u page (λ less is. ⊎_elim
-    (λ (next : r < top_of s - p + 1).
-    let e : r ≡ top_of s - p = omega arith in
-    let one : r - (top_of s - suc p) ≡ 1 = omega arith in
-    other e (is ∙ ap (λ k. record { x = t.x / 2 ^ k; y = t.y / 2 ^ k }) one ∙ same_point (t.x / 2 ^ 1) (t.y / 2 ^ 1)
-    (t.x / 2) (t.y / 2) (omega arith) (omega arith)))
-    (λ (more : top_of s - p + 1 ≤ r).
-    let e : r - (top_of s - suc p) ≡ suc (r - (top_of s - p)) = omega arith in
-    not (omega arith) (is ∙ ap (λ k. record { x = t.x / 2 ^ k; y = t.y / 2 ^ k }) e
-    ∙ same_point (t.x / 2 ^ suc (r - (top_of s - p))) (t.y / 2 ^ suc (r - (top_of s - p)))
-    (t.x / 2 / 2 ^ (r - (top_of s - p))) (t.y / 2 / 2 ^ (r - (top_of s - p)))
-    (half-then t.x (r - (top_of s - p))) (half-then t.y (r - (top_of s - p)))))
-    (cases_lt r (top_of s - p + 1)))
-    (sym (j.others r u other) ∙ at)))
-    (same-or-other (top_of s - p) r (square_above t) u)
+above-step s s' p t coarse others j r u page not at =
+    join-step (IsOver (top_of s - suc p) t) (IsOver (top_of s - p) (square_above t)) j
+    (λ r u page not at. others r u page (λ less is. not (less, is)) at) next r u page (λ d. not d.0 d.1) at
   where
-    terrain : AreSameTerrain s s'
-    terrain = let g = page-grids s s' (top_of s - p) (square_above t) j in same-terrain s s' g.large g.n g.grids
-
-    was : (o : Option Page) → option_map (joined_page s (top_of s - p) (square_above t)) o ≡ Some page →
-        AreJoined s' (top_of s - p) (square_above t) page
-    was None e = absurd cc
-    was (Some old) e =
-        let f : joined_page s (top_of s - p) (square_above t) old ≡ page = cc in
-        subst (AreJoined s' (top_of s - p) (square_above t)) f
-        (is-joined s s' (top_of s - p) (square_above t) old terrain j.large j.n)
+    next : (r : ℕ) (u : Point) → (IsOver (top_of s - p) (square_above t) r u → ⊥) → IsOver (top_of s - suc p) t r u →
+        (r ≡ top_of s - p) × (u ≡ square_above t)
+    next r u not over = ⊎_elim
+        (λ (less : r < top_of s - p + 1).
+        let below = over.0 in
+        let one : r - (top_of s - suc p) ≡ 1 = omega arith in (
+          omega arith,
+          over.1 ∙ ap (λ k. record { x = t.x / 2 ^ k; y = t.y / 2 ^ k }) one
+              ∙ same_point (t.x / 2 ^ 1) (t.y / 2 ^ 1) (t.x / 2) (t.y / 2) (omega arith) (omega arith),
+        ))
+        (λ (more : top_of s - p + 1 ≤ r).
+        let e : r - (top_of s - suc p) ≡ suc (r - (top_of s - p)) = omega arith in
+        absurd (not (
+          omega arith,
+          over.1 ∙ ap (λ k. record { x = t.x / 2 ^ k; y = t.y / 2 ^ k }) e
+              ∙ same_point (t.x / 2 ^ suc (r - (top_of s - p))) (t.y / 2 ^ suc (r - (top_of s - p)))
+              (t.x / 2 / 2 ^ (r - (top_of s - p))) (t.y / 2 / 2 ^ (r - (top_of s - p)))
+              (half-then t.x (r - (top_of s - p))) (half-then t.y (r - (top_of s - p))),
+        )))
+        (cases_lt r (top_of s - p + 1))
 
 -- at the coarsest page all are
 pub above-all : (s : Store) (t : Point) → AreOthersJoined s (top_of s - 0) t → (q : ℕ) (u : Point) (page : Page) →

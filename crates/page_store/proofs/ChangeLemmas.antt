@@ -26,6 +26,25 @@ same-or-other q r t u = ⊎_elim
     (λ (no : nat_eq r q ≡ false). inr (λ e f. eqb-false r q no e))
     (cases_Bool (nat_eq r q))
 
+-- where one page is another, with the same grid, all grids are the same
+pub grids-but : (s s' : Store) (q : ℕ) (t : Point) (other : Page → Page) → ((page : Page) → (other page).field ≡ page.field) →
+    page_at s' q t ≡ option_map other (page_at s q t) →
+    ((r : ℕ) (u : Point) → (r ≡ q → u ≡ t → ⊥) → page_at s' r u ≡ page_at s r u) →
+    (r : ℕ) (u : Point) → grid_at s' r u ≡ grid_at s r u
+grids-but s s' q t other kept here others r u = ⊎_elim
+    (λ (same : (r ≡ q) × (u ≡ t)).
+    ap₂ (λ j v. grid_at s' j v) same.0 same.1
+    ∙ ap (option_map (λ (g : Page). g.field)) here
+    ∙ fields (page_at s q t)
+    ∙ sym (ap₂ (λ j v. grid_at s j v) same.0 same.1))
+    (λ (apart : r ≡ q → u ≡ t → ⊥). ap (option_map (λ (g : Page). g.field)) (others r u apart))
+    (same-or-other q r t u)
+  where
+    fields : (o : Option Page) → option_map (λ (g : Page). g.field) (option_map other o)
+        ≡ option_map (λ (g : Page). g.field) o
+    fields None = refl
+    fields (Some page) = ap Some (kept page)
+
 -- grids alone count
 
 from-grid : (n q : ℕ) (t p : Point) (o z : Option Page) → option_map (λ page. page.field) o ≡ option_map (λ page.

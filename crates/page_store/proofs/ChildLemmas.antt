@@ -23,15 +23,15 @@ use Rattle.page_store.proofs.AloneLemmas.{deep-own}
 use Rattle.page_store.proofs.ValueLemmas.{HalfLaw, half-value}
 
 -- a triangle from the halves down to the last level but one of a page is known
-pub found-known-page : (s : Store) (x p k : ℕ) (t : Point) (page : Page) → IsTable s → IsFound s x p k t page → 2 ≤ x →
+pub found-known-page : {s : Store} {x p k : ℕ} {t : Point} {page : Page} → IsTable s → IsFound s x p k t page → 2 ≤ x →
     level_of x < 2 * (p + s.n) → IsTrue (known_in s x)
-found-known-page s x p k t page i f low less =
+found-known-page {s} {x} {p} i f low less =
     let fits = i.fits in
-    let c = found-cuts s x p k t page i f in
+    let c = found-cuts i f in
     known-page (pages_of s) (top_of s - p) x low (omega arith) record {
-      first = found-deep s x p k t page i f;
+      first = found-deep i f;
       last = omega arith;
-      page = found-loaded s x p k t page i f;
+      page = found-loaded i f;
     }
 
 -- a grandchild of the halves is at level 2 of the page's grid
@@ -47,7 +47,7 @@ grandchild-level k side small less =
     (cases_lt side 1)
 
 -- a child of a quarter
-module _ (s : Store) (p k side : ℕ) (t : Point) (page : Page) (i : IsTable s) (coarse : p < top_of s)
+module _ {s : Store} (p k side : ℕ) {t : Point} {page : Page} (i : IsTable s) (coarse : p < top_of s)
     (tile : IsTile (2 ^ p) (2 ^ p) t) (small : k < 4) (less : side < 2)
     (at : page_at s (top_of s - p) t ≡ Some page) where
   abbrev pub child : ℕ
@@ -96,21 +96,21 @@ module _ (s : Store) (p k side : ℕ) (t : Point) (page : Page) (i : IsTable s) 
         loaded = at;
       }
 
-  module _ (k' : ℕ) (t' : Point) (b : IsBelow child p k t (2 * side) k' t') where
+  module _ {k' : ℕ} {t' : Point} (b : IsBelow child p k t (2 * side) k' t') where
     -- and in a quarter of a finer square
     pub child-square : tile_of (p + 1) (2 * child) ≡ t'
     child-square =
         let f = child-found in
         let level = child-level in
         let low = child-low in
-        square-next child p k t (2 * side) k' t' (omega arith) (omega arith) f.part f.square b
+        square-next b (omega arith) (omega arith) f.part f.square
 
     child-part : quarter_of (p + 1) (prefix_of (p + 1) (2 * child)) ≡ k'
     child-part =
         let f = child-found in
         let level = child-level in
         let low = child-low in
-        part-next child p k t (2 * side) k' t' (omega arith) (omega arith) f.part f.square b
+        part-next b (omega arith) (omega arith) f.part f.square
 
     -- which lies in the page's
     pub child-above : square_above t' ≡ t
@@ -129,10 +129,10 @@ module _ (s : Store) (p k side : ℕ) (t : Point) (page : Page) (i : IsTable s) 
         ∙ f.square
 
     -- it is a half of the finer page, if that is loaded
-    pub child-half : (finer : Page) → HalfLaw → page_at s (top_of s - (p + 1)) t' ≡ Some finer →
+    pub child-half : {finer : Page} → HalfLaw → page_at s (top_of s - (p + 1)) t' ≡ Some finer →
         AreJoined s (top_of s - (p + 1)) t' finer →
         half_in finer (cond (nat_eq k' 1 || nat_eq k' 2) 1 0) ≡ known_wedge s.large (height_in s) (known_in s) child
-    child-half finer law there joined =
+    child-half {finer} law there joined =
         let level = child-level in
         let low = child-low in
         let some = i.some in
@@ -143,8 +143,8 @@ module _ (s : Store) (p k side : ℕ) (t : Point) (page : Page) (i : IsTable s) 
           square = child-square;
           loaded = there;
         } in
-        half-value s child (p + 1) k' t' finer i f (omega arith) (omega arith) law joined
-        (found-known-page s child (p + 1) k' t' finer i f (omega arith) (omega arith))
+        half-value i f (omega arith) (omega arith) law joined
+        (found-known-page i f (omega arith) (omega arith))
 
     -- else its wedge is that of the page's own grid
     pub child-own : page_at s (top_of s - (p + 1)) t' ≡ None →

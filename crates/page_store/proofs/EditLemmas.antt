@@ -126,7 +126,7 @@ place-sized s p t i coarse tile =
     let less = place-less p (top_of s + 1) t tile (omega arith) in
     omega arith
 
-module _ (a b : Store) (area : Area) (dz : ℤ) (due : ℕ → Point → Type 0) (f : Bool)
+module _ {a b : Store} {area : Area} {dz : ℤ} {due : ℕ → Point → Type 0} {f : Bool}
     (r : IsRaisedWhere a b area dz due f) where
   -- the same pages are loaded
   pub raised-loaded : (q : ℕ) (t : Point) → is_some (page_at b q t) ≡ is_some (page_at a q t)
@@ -198,7 +198,7 @@ or-second true g off = absurd (false≢true (sym off))
 or-second false g off = off
 
 -- some pages first, and then others
-module _ (a b c : Store) (area : Area) (dz : ℤ) (one two both : ℕ → Point → Type 0) (f g : Bool)
+module _ {a b c : Store} {area : Area} {dz : ℤ} {one two : ℕ → Point → Type 0} (both : ℕ → Point → Type 0) {f g : Bool}
     (first : IsRaisedWhere a b area dz one f) (second : IsRaisedWhere b c area dz two g)
     (apart : (q : ℕ) (t : Point) → one q t → two q t → ⊥)
     (parts : (q : ℕ) (t : Point) → both q t → one q t ⊎ two q t)
@@ -213,13 +213,13 @@ module _ (a b c : Store) (area : Area) (dz : ℤ) (one two both : ℕ → Point 
       (parts q t is)
 
   was-loaded : (q : ℕ) (t : Point) → IsTrue (is_some (page_at b q t)) → IsTrue (is_some (page_at a q t))
-  was-loaded q t loaded = sym (raised-loaded a b area dz one f first q t) ∙ loaded
+  was-loaded q t loaded = sym (raised-loaded first q t) ∙ loaded
 
   is-loaded : (q : ℕ) (t : Point) → IsTrue (is_some (page_at a q t)) → IsTrue (is_some (page_at b q t))
-  is-loaded q t loaded = raised-loaded a b area dz one f first q t ∙ loaded
+  is-loaded q t loaded = raised-loaded first q t ∙ loaded
 
-  pub raised-then : (h : Bool) → h ≡ f || g → IsRaisedWhere a c area dz both h
-  raised-then h is = record {
+  pub raised-then : {h : Bool} → h ≡ f || g → IsRaisedWhere a c area dz both h
+  raised-then is = record {
     large = second.large ∙ first.large;
     n = second.n ∙ first.n;
     places = second.places ∙ first.places;
@@ -339,14 +339,12 @@ module _ (s : Store) (i : IsSized s) (cuts q : ℕ) (t : Point) (at : ℕ) (coar
       (λ off. sym written ∙ none off)))
 
 -- a square more of a row
-pub row-step : (a b c : Store) (area : Area) (dz : ℤ) (q y low end x : ℕ) (f g h : Bool) →
+pub row-step : {a b c : Store} {area : Area} {dz : ℤ} {q y low end x : ℕ} {f g h : Bool} →
     IsRaisedWhere a b area dz (λ r t. (r ≡ q) × (t.y ≡ y) × (low ≤ t.x) × (t.x < end) × (t.x < x)) f →
     IsRaisedWhere b c area dz (λ r t. (r ≡ q) × (t ≡ record { x = x; y = y })) g → low ≤ x → x < end → h ≡ f || g →
     IsRaisedWhere a c area dz (λ r t. (r ≡ q) × (t.y ≡ y) × (low ≤ t.x) × (t.x < end) × (t.x < x + 1)) h
-row-step a b c area dz q y low end x f g h first second from to is =
-    raised-then a b c area dz (λ r t. (r ≡ q) × (t.y ≡ y) × (low ≤ t.x) × (t.x < end) × (t.x < x))
-    (λ r t. (r ≡ q) × (t ≡ record { x = x; y = y }))
-    (λ r t. (r ≡ q) × (t.y ≡ y) × (low ≤ t.x) × (t.x < end) × (t.x < x + 1)) f g first second
+row-step {q = q} {y} {low} {end} {x} first second from to is =
+    raised-then (λ r t. (r ≡ q) × (t.y ≡ y) × (low ≤ t.x) × (t.x < end) × (t.x < x + 1)) first second
     (λ r t i j. let e : t.x ≡ x = ap (λ (p : Point). p.x) j.1 in omega (arith, i.4))
     (λ r t i. ⊎_elim
     (λ (less : t.x < x). inl (i.0, i.1, i.2, i.3, less))
@@ -355,19 +353,17 @@ row-step a b c area dz q y low end x f g h first second from to is =
     (λ r t i. (i.0, i.1, i.2, i.3, omega (arith, i.4)))
     (λ r t j. let e : t.x ≡ x = ap (λ (p : Point). p.x) j.1 in
     (j.0, ap (λ (p : Point). p.y) j.1, omega arith, omega arith, omega arith))
-    h is
+    is
 
 -- a row more of a resolution
-pub level-step : (a b c : Store) (area : Area) (dz : ℤ) (q cuts y : ℕ) (f g h : Bool) → cuts ≡ cuts_of a q →
+pub level-step : {a b c : Store} {area : Area} {dz : ℤ} {q cuts y : ℕ} {f g h : Bool} → cuts ≡ cuts_of a q →
     IsRaisedWhere a b area dz (λ r t. (r ≡ q) × IsNear a area r t × (t.y < y)) f →
     IsRaisedWhere b c area dz (λ r t. (r ≡ q) × (t.y ≡ y) × (span_from (a.n + q) area.x0 ≤ t.x)
     × (t.x < span_end (a.n + q) cuts area.x1)) g → span_from (a.n + q) area.y0 ≤ y →
     y < span_end (a.n + q) cuts area.y1 → h ≡ f || g →
     IsRaisedWhere a c area dz (λ r t. (r ≡ q) × IsNear a area r t × (t.y < y + 1)) h
-level-step a b c area dz q cuts y f g h depth first second from to is =
-    raised-then a b c area dz (λ r t. (r ≡ q) × IsNear a area r t × (t.y < y))
-    (λ r t. (r ≡ q) × (t.y ≡ y) × (span_from (a.n + q) area.x0 ≤ t.x) × (t.x < span_end (a.n + q) cuts area.x1))
-    (λ r t. (r ≡ q) × IsNear a area r t × (t.y < y + 1)) f g first second
+level-step {a} {area = area} {q = q} {cuts} {y} depth first second from to is =
+    raised-then (λ r t. (r ≡ q) × IsNear a area r t × (t.y < y + 1)) first second
     (λ r t i j. omega (arith, i.2, j.1))
     (λ r t i. ⊎_elim
     (λ (less : t.y < y). inl (i.0, i.1, less))
@@ -392,7 +388,7 @@ level-step a b c area dz q cuts y f g h depth first second from to is =
       }),
       omega (arith, j.1),
     ))
-    h is
+    is
 
 pub near-end : (s : Store) (area : Area) (q r cuts end : ℕ) (t : Point) → cuts ≡ cuts_of s q →
     end ≡ span_end (s.n + q) cuts area.y1 → r ≡ q → IsNear s area r t → t.y < end
@@ -411,13 +407,12 @@ near-same a b area q t large n near = record {
       (subst (λ m. t.y < span_end (m + q) (b.large - (m + q)) area.y1) n near.top);
 }
 
-pub pages-step : (a b c : Store) (area : Area) (dz : ℤ) (q : ℕ) (f g h : Bool) →
+pub pages-step : {a b c : Store} {area : Area} {dz : ℤ} {q : ℕ} {f g h : Bool} →
     IsRaisedWhere a b area dz (λ r t. (r < q) × IsNear a area r t) f →
     IsRaisedWhere b c area dz (λ r t. (r ≡ q) × IsNear b area r t) g → h ≡ f || g →
     IsRaisedWhere a c area dz (λ r t. (r < q + 1) × IsNear a area r t) h
-pages-step a b c area dz q f g h first second is =
-    raised-then a b c area dz (λ r t. (r < q) × IsNear a area r t) (λ r t. (r ≡ q) × IsNear b area r t)
-    (λ r t. (r < q + 1) × IsNear a area r t) f g first second
+pages-step {a} {b} {area = area} {q = q} first second is =
+    raised-then (λ r t. (r < q + 1) × IsNear a area r t) first second
     (λ r t i j. omega (arith, i.0, j.0))
     (λ r t i. ⊎_elim
     (λ (less : r < q). inl (less, i.1))
@@ -425,7 +420,7 @@ pages-step a b c area dz q f g h first second is =
     (cases_lt r q))
     (λ r t i. (omega (arith, i.0), i.1))
     (λ r t j. (omega (arith, j.0), near-same a b area r t first.large first.n j.1))
-    h is
+    is
 
 -- what the tests of a loop say
 pub found-then : (h f g : Bool) → h ≡ true → g ≡ true → h ≡ f || g

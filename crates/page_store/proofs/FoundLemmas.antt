@@ -51,7 +51,7 @@ mate-deep w q x y s coarse low deep page less mate here = ⊎_elim
 
 -- the page found
 
-module _ (s : Store) (x p k : ℕ) (t : Point) (page : Page) (i : IsTable s) (f : IsFound s x p k t page) where
+module _ {s : Store} {x p k : ℕ} {t : Point} {page : Page} (i : IsTable s) (f : IsFound s x p k t page) where
   pub found-cuts : cuts_to (pages_of s) (top_of s - p) ≡ p
   found-cuts = let coarse = f.coarse in let fits = i.fits in omega arith
 

@@ -19,7 +19,7 @@ use Rattle.page_store.specs.Change.{quarter_wedge, IsQuarterJoined, IsPageJoined
 use Rattle.page_store.proofs.TableLemmas.{IsSquare, page_at-some}
 use Rattle.page_store.proofs.WalkLemmas.{place-in, page-there}
 use Rattle.page_store.proofs.AloneLemmas.{quarter-known}
-use Rattle.page_store.proofs.ChangeLemmas.{same-or-other, AreSameTerrain, same-terrain, set-here, set-others}
+use Rattle.page_store.proofs.ChangeLemmas.{same-or-other, AreSameTerrain, same-terrain, grids-but, set-here, set-others}
 
 -- the wedge of a quarter, as `terrain_laws` of `page_wedges` says
 pub record QuarterLaw : Type 0 where
@@ -72,7 +72,7 @@ pub record AreChanged (s : Store) (ys : List (Option Page)) (q : ℕ) (t : Point
   pub valid : IsTable (record s { pages = ys })
 
 -- a page with another wedge of a quarter
-module _ (s : Store) (i : IsTable s) (q : ℕ) (t : Point) (k : ℕ) (page : Page) (at : page_at s q t ≡ Some page) where
+module _ {s : Store} (i : IsTable s) (q : ℕ) (t : Point) (k : ℕ) (page : Page) (at : page_at s q t ≡ Some page) where
   square : IsSquare s q t
   square = page_at-some s q t page at
 
@@ -88,23 +88,20 @@ module _ (s : Store) (i : IsTable s) (q : ℕ) (t : Point) (k : ℕ) (page : Pag
   others : (r : ℕ) (u : Point) → (r ≡ q → u ≡ t → ⊥) → page_at (record s { pages = written }) r u ≡ page_at s r u
   others = set-others s.large s.n s.pages q t (Some (with_quarter page k (quarter_wedge s q t k))) square
 
+  written-here : page_at (record s { pages = written }) q t
+      ≡ option_map (λ (g : Page). with_quarter g k (quarter_wedge s q t k)) (page_at s q t)
+  written-here = here ∙ sym (ap (option_map (λ (g : Page). with_quarter g k (quarter_wedge s q t k))) at)
+
   grids : (r : ℕ) (u : Point) → grid_at (record s { pages = written }) r u ≡ grid_at s r u
-  grids r u = ⊎_elim
-      (λ (same : (r ≡ q) × (u ≡ t)).
-      ap₂ (λ j v. grid_at (record s { pages = written }) j v) same.0 same.1
-      ∙ ap (option_map (λ (g : Page). g.field)) here
-      ∙ ap Some (quarter-field page k (quarter_wedge s q t k))
-      ∙ sym (ap (option_map (λ (g : Page). g.field)) at)
-      ∙ sym (ap₂ (λ j v. grid_at s j v) same.0 same.1))
-      (λ (other : r ≡ q → u ≡ t → ⊥). ap (option_map (λ (g : Page). g.field)) (others r u other))
-      (same-or-other q r t u)
+  grids = grids-but s (record s { pages = written }) q t (λ g. with_quarter g k (quarter_wedge s q t k))
+      (λ g. quarter-field g k (quarter_wedge s q t k)) written-here others
 
   pub quarter-written : AreChanged s written q t k
   quarter-written = record {
     joined = record {
       large = refl;
       n = refl;
-      here = here ∙ sym (ap (option_map (λ (g : Page). with_quarter g k (quarter_wedge s q t k))) at);
+      here = written-here;
       others = others;
     };
     valid = table-kept s written i
@@ -127,16 +124,16 @@ module _ (s : Store) (i : IsTable s) (q : ℕ) (t : Point) (k : ℕ) (page : Pag
   }
 
 -- as the code joins it
-module _ (s : Store) (i : IsTable s) (p : ℕ) (t : Point) (k : ℕ) (page : Page) (coarse : p ≤ top_of s) (small : k < 4)
+module _ {s : Store} (i : IsTable s) (p : ℕ) {t : Point} (k : ℕ) {page : Page} (coarse : p ≤ top_of s) (small : k < 4)
     (tile : IsTile (2 ^ p) (2 ^ p) t) (at : page_at s (top_of s - p) t ≡ Some page) where
   cuts : cuts_of s (top_of s - p) ≡ p
   cuts = let fits = i.fits in omega arith
 
-  joined-wedge : QuarterLaw → (left right : KnownWedge) →
+  joined-wedge : QuarterLaw → {left right : KnownWedge} →
       left ≡ known_wedge s.large (height_in s) (known_in s) (2 * in_tile p t (4 + k) + 0) →
       right ≡ known_wedge s.large (height_in s) (known_in s) (2 * in_tile p t (4 + k) + 1) →
       joined_in page.field (corners_of page.field.n (4 + k)) left right ≡ quarter_wedge s (top_of s - p) t k
-  joined-wedge law left right first second =
+  joined-wedge law first second =
       let placed = i.placed (top_of s - p) t page at in
       let side = placed.side in
       let some = i.some in
@@ -156,13 +153,13 @@ module _ (s : Store) (i : IsTable s) (p : ℕ) (t : Point) (k : ℕ) (page : Pag
       ∙ ap (λ l. known_wedge l (height_in s) (known_in s) (in_tile p t (4 + k))) e
       ∙ ap (λ c. known_wedge s.large (height_in s) (known_in s) (in_tile c t (4 + k))) (sym cuts)
 
-  pub join-written : QuarterLaw → (left right : KnownWedge) (ys : List (Option Page)) →
+  pub join-written : QuarterLaw → {left right : KnownWedge} {ys : List (Option Page)} →
       left ≡ known_wedge s.large (height_in s) (known_in s) (2 * in_tile p t (4 + k) + 0) →
       right ≡ known_wedge s.large (height_in s) (known_in s) (2 * in_tile p t (4 + k) + 1) →
       ys ≡ slice_set s.pages (place p t) (option_map
       (λ (g : Page). with_quarter g k (joined_in g.field (corners_of g.field.n (4 + k)) left right))
       (slice_index_or s.pages (place p t) None)) → AreChanged s ys (top_of s - p) t k
-  join-written law left right ys first second is =
+  join-written law {left} {right} {ys} first second is =
       let there : slice_index_or s.pages (place p t) None ≡ Some page =
       sym (page-there s p t i.fits coarse tile) ∙ at in
       let e : ys ≡ slice_set s.pages (place (cuts_of s (top_of s - p)) t)
@@ -170,70 +167,59 @@ module _ (s : Store) (i : IsTable s) (p : ℕ) (t : Point) (k : ℕ) (page : Pag
       is
       ∙ ap (λ o. slice_set s.pages (place p t) (option_map
       (λ (g : Page). with_quarter g k (joined_in g.field (corners_of g.field.n (4 + k)) left right)) o)) there
-      ∙ ap (λ w. slice_set s.pages (place p t) (Some (with_quarter page k w))) (joined-wedge law left right first
-      second)
+      ∙ ap (λ w. slice_set s.pages (place p t) (Some (with_quarter page k w))) (joined-wedge law first second)
       ∙ ap (λ c. slice_set s.pages (place c t) (Some (with_quarter page k (quarter_wedge s (top_of s - p) t k)))) (sym
       cuts) in
-      subst (λ zs. AreChanged s zs (top_of s - p) t k) (sym e) (quarter-written s i (top_of s - p) t k page at)
+      subst (λ zs. AreChanged s zs (top_of s - p) t k) (sym e) (quarter-written i (top_of s - p) t k page at)
 
 -- a table with one quarter joined is over the same terrain
-quarter-terrain : (s s' : Store) (q : ℕ) (t : Point) (k : ℕ) → IsQuarterJoined s s' q t k → AreSameTerrain s s'
-quarter-terrain s s' q t k j = same-terrain s s' j.large j.n (λ r u. ⊎_elim
-    (λ (same : (r ≡ q) × (u ≡ t)).
-    ap₂ (λ j v. grid_at s' j v) same.0 same.1
-    ∙ ap (option_map (λ (g : Page). g.field)) j.here
-    ∙ fields (page_at s q t)
-    ∙ sym (ap₂ (λ j v. grid_at s j v) same.0 same.1))
-    (λ (other : r ≡ q → u ≡ t → ⊥). ap (option_map (λ (g : Page). g.field)) (j.others r u other))
-    (same-or-other q r t u))
-  where
-    fields : (o : Option Page) → option_map (λ (g : Page). g.field)
-        (option_map (λ (g : Page). with_quarter g k (quarter_wedge s q t k)) o) ≡ option_map (λ (g : Page). g.field) o
-    fields None = refl
-    fields (Some page) = ap Some (quarter-field page k (quarter_wedge s q t k))
+quarter-terrain : {s s' : Store} {q : ℕ} {t : Point} {k : ℕ} → IsQuarterJoined s s' q t k → AreSameTerrain s s'
+quarter-terrain {s} {s'} {q} {t} {k} j = same-terrain s s' j.large j.n
+    (grids-but s s' q t (λ g. with_quarter g k (quarter_wedge s q t k)) (λ g. quarter-field g k (quarter_wedge s q t k))
+    j.here j.others)
 
 -- so quarters have the same wedges
-pub terrain-wedge : (s s' : Store) (q : ℕ) (t : Point) (k : ℕ) → AreSameTerrain s s' → s'.large ≡ s.large → s'.n ≡ s.n →
+pub terrain-wedge : {s s' : Store} (q : ℕ) (t : Point) (k : ℕ) → AreSameTerrain s s' → s'.large ≡ s.large → s'.n ≡ s.n →
     quarter_wedge s' q t k ≡ quarter_wedge s q t k
-terrain-wedge s s' q t k same large n =
+terrain-wedge {s} {s'} q t k same large n =
     ap (λ l. known_wedge l (height_in s') (known_in s') (in_tile (cuts_of s' q) t (4 + k))) large
     ∙ ap (λ h. known_wedge s.large h (known_in s') (in_tile (cuts_of s' q) t (4 + k))) same.heights
     ∙ ap (λ f. known_wedge s.large (height_in s) f (in_tile (cuts_of s' q) t (4 + k))) same.known
     ∙ ap₂ (λ l m. known_wedge s.large (height_in s) (known_in s) (in_tile (l - (m + q)) t (4 + k))) large n
 
 -- and a page stays joined
-pub joined-kept : (s s' : Store) (q : ℕ) (t : Point) (page : Page) → AreSameTerrain s s' → s'.large ≡ s.large →
+pub joined-kept : {s s' : Store} (q : ℕ) (t : Point) (page : Page) → AreSameTerrain s s' → s'.large ≡ s.large →
     s'.n ≡ s.n → AreJoined s q t page → AreJoined s' q t page
-joined-kept s s' q t page same large n joined k small =
-    joined k small ∙ sym (terrain-wedge s s' q t k same large n)
+joined-kept q t page same large n joined k small =
+    joined k small ∙ sym (terrain-wedge q t k same large n)
 
 -- the pages finer than one that is written
 abbrev pub AreFinerJoined : Store → ℕ → Point → Type 0
 AreFinerJoined s p t = (u : Point) (finer : Page) → square_above u ≡ t →
     page_at s (top_of s - (p + 1)) u ≡ Some finer → AreJoined s (top_of s - (p + 1)) u finer
 
-pub finer-kept : (s s' : Store) (p : ℕ) (t : Point) (k : ℕ) → p < top_of s → IsQuarterJoined s s' (top_of s - p) t k →
+pub finer-kept : {s s' : Store} (p : ℕ) {t : Point} {k : ℕ} → p < top_of s → IsQuarterJoined s s' (top_of s - p) t k →
     AreFinerJoined s p t → AreFinerJoined s' p t
-finer-kept s s' p t k coarse j joined u finer above at =
+finer-kept {s} {s'} p coarse j joined u finer above at =
     let e : top_of s' - (p + 1) ≡ top_of s - (p + 1) = ap₂ (λ l m. l - m - (p + 1)) j.large j.n in
     let at' : page_at s' (top_of s - (p + 1)) u ≡ Some finer = ap (λ r. page_at s' r u) (sym e) ∙ at in
     subst (λ r. AreJoined s' r u finer) (sym e)
-    (joined-kept s s' (top_of s - (p + 1)) u finer (quarter-terrain s s' (top_of s - p) t k j) j.large j.n
+    (joined-kept (top_of s - (p + 1)) u finer (quarter-terrain j) j.large j.n
     (joined u finer above (sym (j.others (top_of s - (p + 1)) u (λ same. omega arith)) ∙ at')))
 
 -- four quarters make a page
-pub page-joined : (s a b c d : Store) (q : ℕ) (t : Point) → IsQuarterJoined s a q t 0 → IsQuarterJoined a b q t 1 →
+pub page-joined : {s a b c d : Store} {q : ℕ} {t : Point} → IsQuarterJoined s a q t 0 → IsQuarterJoined a b q t 1 →
     IsQuarterJoined b c q t 2 → IsQuarterJoined c d q t 3 → IsPageJoined s d q t
-page-joined s a b c d q t one two three four =
-    let a-same = quarter-terrain s a q t 0 one in
-    let b-same = quarter-terrain a b q t 1 two in
-    let c-same = quarter-terrain b c q t 2 three in
-    let first : quarter_wedge a q t 1 ≡ quarter_wedge s q t 1 = terrain-wedge s a q t 1 a-same one.large one.n in
+page-joined {s} {a} {b} {c} {d} {q} {t} one two three four =
+    let a-same = quarter-terrain one in
+    let b-same = quarter-terrain two in
+    let c-same = quarter-terrain three in
+    let first : quarter_wedge a q t 1 ≡ quarter_wedge s q t 1 = terrain-wedge q t 1 a-same one.large one.n in
     let second : quarter_wedge b q t 2 ≡ quarter_wedge s q t 2 =
-    terrain-wedge a b q t 2 b-same two.large two.n ∙ terrain-wedge s a q t 2 a-same one.large one.n in
+    terrain-wedge q t 2 b-same two.large two.n ∙ terrain-wedge q t 2 a-same one.large one.n in
     let third : quarter_wedge c q t 3 ≡ quarter_wedge s q t 3 =
-    terrain-wedge b c q t 3 c-same three.large three.n ∙ terrain-wedge a b q t 3 b-same two.large two.n
-    ∙ terrain-wedge s a q t 3 a-same one.large one.n in
+    terrain-wedge q t 3 c-same three.large three.n ∙ terrain-wedge q t 3 b-same two.large two.n
+    ∙ terrain-wedge q t 3 a-same one.large one.n in
     record {
       large = four.large ∙ three.large ∙ two.large ∙ one.large;
       n = four.n ∙ three.n ∙ two.n ∙ one.n;

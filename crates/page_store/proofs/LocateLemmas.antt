@@ -6,7 +6,7 @@ use Rattle.mesh_defs.specs.declared.point.Point.{Point}
 use Rattle.mesh_defs.specs.declared.point.Corners.{Corners}
 use Rattle.mesh_defs.specs.Triangle.{level_of, corners_of}
 use Rattle.bintree_laws.specs.Corners.{IsWithin}
-use Rattle.bintree_laws.proofs.CornerLemmas.{IsWithin-corners_of}
+use Rattle.bintree_laws.proofs.CornerLemmas.{IsWithin-base, IsWithin-corners_of}
 use Rattle.bintree_laws.proofs.LevelLemmas.{level_of-parent, level_of-root}
 use Rattle.mosaic_laws.specs.Glue.{quarter_of, prefix_of, tile_of, local_of}
 use Rattle.page_laws.specs.Pages.{cuts_to, square_at, half, is_turned, half_corners, page_corners}
@@ -32,7 +32,7 @@ pub record HasCorners (n q : ℕ) (t : Point) (terrain : Corners) : Type 0 where
   pub are : terrain ≡ page_corners n q t corners
 
 -- each of them is a point of the page
-module _ (n q : ℕ) (t : Point) (c : Corners) (h : HasCorners n q t c) where
+module _ {n q : ℕ} {t : Point} {c : Corners} (h : HasCorners n q t c) where
   pub apex-point : IsPagePoint n q t c.apex
   apex-point = (h.corners.apex, record { x = h.within.apex_x; y = h.within.apex_y }, ap (λ (d : Corners). d.apex) h.are)
 
@@ -50,40 +50,10 @@ module _ (n q : ℕ) (t : Point) (c : Corners) (h : HasCorners n q t c) where
       ap (local_corners n q t) h.are ∙ e
 
 -- the corners of a half lie in the square
-half-within : (m : ℕ) (turned : Bool) (which : ℕ) → which < 2 → IsWithin m (half_corners m turned which)
-half-within m false zero less = record {
-  apex_x = omega arith;
-  apex_y = omega arith;
-  v0_x = omega arith;
-  v0_y = omega arith;
-  v1_x = omega arith;
-  v1_y = omega arith;
-}
-half-within m false (suc zero) less = record {
-  apex_x = omega arith;
-  apex_y = omega arith;
-  v0_x = omega arith;
-  v0_y = omega arith;
-  v1_x = omega arith;
-  v1_y = omega arith;
-}
-half-within m true zero less = record {
-  apex_x = omega arith;
-  apex_y = omega arith;
-  v0_x = omega arith;
-  v0_y = omega arith;
-  v1_x = omega arith;
-  v1_y = omega arith;
-}
-half-within m true (suc zero) less = record {
-  apex_x = omega arith;
-  apex_y = omega arith;
-  v0_x = omega arith;
-  v0_y = omega arith;
-  v1_x = omega arith;
-  v1_y = omega arith;
-}
-half-within m turned (suc (suc _)) less = absurd (omega (arith, less))
+half-within : (m : ℕ) (turned : Bool) (which : ℕ) → IsWithin m (half_corners m turned which)
+half-within m false which = IsWithin-base m which
+half-within m true zero = grind arith
+half-within m true (suc _) = grind arith
 
 -- a triangle from the halves of a square down to the last level of its page's grid
 pub square-corners : (n q p x : ℕ) → 1 ≤ n → 2 ≤ x → 2 * p ≤ level_of x → level_of x ≤ 2 * (p + n) →
@@ -99,7 +69,7 @@ square-corners n q p x some low first last = ⊎_elim
     let is-half : (w : ℕ) → w < 2 → x ≡ half p (tile_of p (2 * x)) w →
     HasCorners n q (tile_of p (2 * x)) (corners_of (n + q + p) x) = λ w small is. record {
       corners = half_corners (2 ^ n) (is_turned p (tile_of p (2 * x))) w;
-      within = half-within (2 ^ n) (is_turned p (tile_of p (2 * x))) w small;
+      within = half-within (2 ^ n) (is_turned p (tile_of p (2 * x))) w;
       are = ap (corners_of (n + q + p)) is ∙ half-page n q p (tile_of p (2 * x)) w some small (tile-small p (2 * x));
     } in
     ⊎_elim
@@ -110,7 +80,7 @@ square-corners n q p x some low first last = ⊎_elim
 
 -- the page found
 
-module _ (s : Store) (x p k : ℕ) (t : Point) (page : Page) (i : IsTable s) (f : IsFound s x p k t page) (low : 2 ≤ x)
+module _ {s : Store} {x p k : ℕ} {t : Point} {page : Page} (i : IsTable s) (f : IsFound s x p k t page) (low : 2 ≤ x)
   where
     -- the corners
     pub found-corners : level_of x ≤ 2 * (p + s.n) → HasCorners s.n (top_of s - p) t (corners_of s.large x)
@@ -147,7 +117,7 @@ module _ (s : Store) (x p k : ℕ) (t : Point) (page : Page) (i : IsTable s) (f 
     parent-known : 4 ≤ x → IsFinest s x p → 2 * p < level_of x →
         known_in s (x / 2) ≡ nat_lt (level_of (x / 2)) (2 * (p + s.n))
     parent-known big finest deep =
-        found-known s (x / 2) p (quarter_of p (prefix_of p (2 * (x / 2)))) t page i (parent-found big deep)
+        found-known i (parent-found big deep)
         (omega arith) (parent-finest big finest)
 
     -- that of a half is in the page above
@@ -158,10 +128,10 @@ module _ (s : Store) (x p k : ℕ) (t : Point) (page : Page) (i : IsTable s) (f 
         let fits = i.fits in
         let some = i.some in
         let cuts : cuts_to (pages_of s) (top_of s - p + 1) ≡ p - 1 = omega arith in
-        let c = found-cuts s x p k t page i f in
+        let c = found-cuts i f in
         let above : IsTrue ((pages_of s).loaded (top_of s - p + 1) (square_at (pages_of s) (top_of s - p + 1) x)) =
         loaded-up (pages_of s) i.pyramid (top_of s - p) (top_of s - p + 1) x (omega arith) (omega arith) low
-        (omega arith) (found-loaded s x p k t page i f) in
+        (omega arith) (found-loaded i f) in
         let same : tile_of (p - 1) (2 * (x / 2)) ≡ tile_of (p - 1) (2 * x) = tile-parent (p - 1) x big (omega arith) in
         known-page (pages_of s) (top_of s - p + 1) (x / 2) (omega arith) (omega arith) record {
           first = omega arith;
@@ -211,7 +181,7 @@ module _ (s : Store) (x p k : ℕ) (t : Point) (page : Page) (i : IsTable s) (f 
         (λ (there : IsTrue (is_some (page_at s q (square_at (pages_of s) q x)))).
         let cuts : cuts_to (pages_of s) (top_of s - p - 1) ≡ p + 1 = omega arith in
         both_ways ((pages_of s).loaded (top_of s - p - 1) (square_at (pages_of s) (top_of s - p - 1) x))
-        (found-end s x p k t page i f finest (omega arith) (omega arith))
+        (found-end i f finest (omega arith) (omega arith))
         (loaded-up (pages_of s) i.pyramid q (top_of s - p - 1) x (omega arith) (omega arith) low deep there))
       where
         none-of : (o : Option Page) → (IsTrue (is_some o) → ⊥) → o ≡ None
@@ -269,7 +239,7 @@ module _ (s : Store) (x p k : ℕ) (t : Point) (page : Page) (i : IsTable s) (f 
         let deep = f.deep in
         let cuts : cuts_of s (top_of s - p) ≡ p = omega arith in
         let h = found-corners last in
-        let same = local-are s.n (top_of s - p) t (corners_of s.large x) h in
+        let same = local-are h in
         record {
           page = ap is_some f.loaded;
           deep = omega arith;
@@ -280,8 +250,8 @@ module _ (s : Store) (x p k : ℕ) (t : Point) (page : Page) (i : IsTable s) (f 
         }
 
 -- the same, told by other names for the numbers
-module _ (s : Store) (x p k : ℕ) (t : Point) (page : Page) (i : IsTable s) (f : IsFound s x p k t page) (low : 2 ≤ x)
-    (large n : ℕ) (terrain : Corners) (large-is : large ≡ s.large) (n-is : n ≡ s.n)
+module _ {s : Store} {x p k : ℕ} {t : Point} {page : Page} (i : IsTable s) (f : IsFound s x p k t page) (low : 2 ≤ x)
+    {large n : ℕ} {terrain : Corners} (large-is : large ≡ s.large) (n-is : n ≡ s.n)
     (terrain-is : terrain ≡ corners_of large x) where
   q-is : large - n - p ≡ top_of s - p
   q-is = omega arith
@@ -291,7 +261,7 @@ module _ (s : Store) (x p k : ℕ) (t : Point) (page : Page) (i : IsTable s) (f 
       subst (λ m. HasCorners m (large - n - p) t terrain) (sym n-is)
       (subst (λ q. HasCorners s.n q t terrain) (sym q-is)
       (subst (HasCorners s.n (top_of s - p) t) (sym (terrain-is ∙ ap (λ m. corners_of m x) large-is))
-      (found-corners s x p k t page i f low (omega arith))))
+      (found-corners i f low (omega arith))))
 
   pub told-triangle : IsFinest s x p →
       record { q = large - n - p; square = t; corners = local_corners n (large - n - p) t terrain } ≡ page_triangle s x
@@ -302,8 +272,8 @@ module _ (s : Store) (x p k : ℕ) (t : Point) (page : Page) (i : IsTable s) (f 
         corners = local_corners m.0 (large - n - p) t m.1;
       }) (ap₂ (λ (m : ℕ) (c : Corners). (m, c)) n-is (terrain-is ∙ ap (λ m. corners_of m x) large-is))
       ∙ ap (λ q. record { q = q; square = t; corners = local_corners s.n q t (corners_of s.large x) }) q-is
-      ∙ sym (found-triangle s x p k t page i f low finest)
+      ∙ sym (found-triangle i f low finest)
 
   pub told-placed : IsFinest s x p → level_of x ≤ 2 * (p + n) → IsPageTriangle s x (page_triangle s x)
-  told-placed finest last = subst (IsPageTriangle s x) (sym (found-triangle s x p k t page i f low finest))
-      (found-placed s x p k t page i f low finest (omega arith))
+  told-placed finest last = subst (IsPageTriangle s x) (sym (found-triangle i f low finest))
+      (found-placed i f low finest (omega arith))

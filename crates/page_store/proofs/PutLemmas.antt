@@ -17,7 +17,7 @@ use Rattle.page_wedges.specs.Page.{Page, IsAlone}
 use Rattle.page_store.specs.Store.{top_of, maxval_of}
 use Rattle.page_store.specs.Store.{Store, cuts_of, place, page_at, pages_of, local_point, has_point, height_in, grid_at}
 use Rattle.page_store.specs.Store.{AreJoined, IsTable, IsStore}
-use Rattle.page_store.specs.Change.{AreOthersJoined, AreSameGrids}
+use Rattle.page_store.specs.Change.{AreOthersJoined, AreOthersSame, AreHeightsSame, AreSameGrids}
 use Rattle.page_store.specs.Load.{CanLoad}
 use Rattle.page_store.proofs.TableLemmas.{IsSquare, page_at-some, loaded-page, page-loaded}
 use Rattle.page_store.proofs.WalkLemmas.{place-in}
@@ -57,19 +57,26 @@ loaded-has s p l =
     let r = l.point in
     subst (λ z. IsTrue (has_point s.n l.q l.square z)) (sym r.2) (point-has s.n l.q l.square r.0 r.1)
 
-module _ (s : Store) (i : IsStore s) (q : ℕ) (t : Point) (page : Page) (can : CanLoad s q t page.field)
-    (field : IsHeightField page.field) (turned : page.turned ≡ is_turned (cuts_of s q) t) (alone : IsAlone page) where
+-- a page that may be put in a square
+pub record IsReady (s : Store) (q : ℕ) (t : Point) (page : Page) : Type 0 where
+  pub store : IsStore s
+  pub can : CanLoad s q t page.field
+  pub field : IsHeightField page.field
+  pub turned : page.turned ≡ is_turned (cuts_of s q) t
+  pub alone : IsAlone page
+
+module _ {s : Store} {q : ℕ} {t : Point} {page : Page} (h : IsReady s q t page) where
   abbrev pub put_store : Store
   put_store = record s { pages = slice_set s.pages (place (cuts_of s q) t) (Some page) }
 
   square : IsSquare s q t
-  square = let coarse = can.coarse in record { coarse = omega arith; tile = can.tile }
+  square = let coarse = h.can.coarse in record { coarse = omega arith; tile = h.can.tile }
 
   pub put-here : page_at put_store q t ≡ Some page
   put-here =
-      let fits = i.table.fits in
-      let coarse = can.coarse in
-      set-here s.large s.n s.pages q t (Some page) square (place-in s (cuts_of s q) t i.table (omega arith) can.tile)
+      let fits = h.store.table.fits in
+      let coarse = h.can.coarse in
+      set-here s.large s.n s.pages q t (Some page) square (place-in s (cuts_of s q) t h.store.table (omega arith) h.can.tile)
 
   pub put-others : (r : ℕ) (u : Point) → (r ≡ q → u ≡ t → ⊥) → page_at put_store r u ≡ page_at s r u
   put-others = set-others s.large s.n s.pages q t (Some page) square
@@ -78,12 +85,12 @@ module _ (s : Store) (i : IsStore s) (q : ℕ) (t : Point) (page : Page) (can : 
   put-old : (r : ℕ) (u : Point) (old : Page) → page_at s r u ≡ Some old → page_at put_store r u ≡ Some old
   put-old r u old at = ⊎_elim
       (λ (same : (r ≡ q) × (u ≡ t)).
-      let e : None ≡ Some old = sym can.absent ∙ sym (ap₂ (λ j v. page_at s j v) same.0 same.1) ∙ at in absurd cc)
+      let e : None ≡ Some old = sym h.can.absent ∙ sym (ap₂ (λ j v. page_at s j v) same.0 same.1) ∙ at in absurd cc)
       (λ (other : r ≡ q → u ≡ t → ⊥). put-others r u other ∙ at)
       (same-or-other q r t u)
 
   absent : (pages_of s).loaded q t ≡ false
-  absent = ap is_some can.absent
+  absent = ap is_some h.can.absent
 
   loaded-same : (r : ℕ) (u : Point) → (with_page (pages_of s) q t).loaded r u ≡ (pages_of put_store).loaded r u
   loaded-same r u = ⊎_elim
@@ -98,12 +105,12 @@ module _ (s : Store) (i : IsStore s) (q : ℕ) (t : Point) (page : Page) (can : 
   put-pyramid : IsPyramid (pages_of put_store)
   put-pyramid = subst IsPyramid
       (λ j. record { large = s.large; n = s.n; top = s.large - s.n; loaded = λ r u. loaded-same r u j })
-      (load-nested (pages_of s) q t i.table.pyramid can.above can.beside)
+      (load-nested (pages_of s) q t h.store.table.pyramid h.can.above h.can.beside)
 
   -- the bound is that of before
   put-bound : maxval_of put_store ≡ maxval_of s
   put-bound = ap (λ o. unwrap_or (option_map (λ (g : HeightField). g.maxval) (option_map (λ (g : Page). g.field) o)) 0)
-      (put-others (top_of s) (record { x = 0; y = 0 }) (λ top. let coarse = can.coarse in omega arith))
+      (put-others (top_of s) (record { x = 0; y = 0 }) (λ top. let coarse = h.can.coarse in omega arith))
 
   -- any two pages agree
 
@@ -123,14 +130,14 @@ module _ (s : Store) (i : IsStore s) (q : ℕ) (t : Point) (page : Page) (can : 
   -- the height of an old page, and of the new one where it meets an old one
   old-height : (r : ℕ) (u p : Point) (pg : Page) → page_at s r u ≡ Some pg → IsTrue (has_point s.n r u p) →
       height_of s.n pg.field.heights (local_point s.n r u p) ≡ height_in s p
-  old-height r u p pg at has = height-at s r u p pg (i.table.placed r u pg at).heights has
+  old-height r u p pg at has = height-at s r u p pg (h.store.table.placed r u pg at).heights has
 
   new-height : (r : ℕ) (u p : Point) (pg : Page) → page_at s r u ≡ Some pg → IsTrue (has_point s.n r u p) →
       IsTrue (has_point s.n q t p) → height_of s.n page.field.heights (local_point s.n q t p) ≡ height_in s p
   new-height r u p pg at has here =
       let z = point-parts s.n q t p here in
-      can.heights (local_point s.n q t p) z.inside
-      (subst (IsLoadedPoint (pages_of s)) (sym z.is) (point-loaded s r u p pg at i.table.fits has))
+      h.can.heights (local_point s.n q t p) z.inside
+      (subst (IsLoadedPoint (pages_of s)) (sym z.is) (point-loaded s r u p pg at h.store.table.fits has))
       ∙ ap (height_in s) z.is
 
   this-height : (r : ℕ) (u p : Point) (pg : Page) → r ≡ q → u ≡ t → pg ≡ page →
@@ -165,22 +172,22 @@ module _ (s : Store) (i : IsStore s) (q : ℕ) (t : Point) (page : Page) (can : 
   -- it is a table
   pub put-table : IsTable put_store
   put-table = record {
-    some = i.table.some;
-    fits = i.table.fits;
-    small = i.table.small;
-    places = length-set s.pages (place (cuts_of s q) t) (Some page) ∙ i.table.places;
+    some = h.store.table.some;
+    fits = h.store.table.fits;
+    small = h.store.table.small;
+    places = length-set s.pages (place (cuts_of s q) t) (Some page) ∙ h.store.table.places;
     pyramid = put-pyramid;
     placed = λ r u pg at. ⊎_elim
         (λ (new : (r ≡ q) × (u ≡ t) × (pg ≡ page)). record {
-          side = ap (λ (g : Page). g.field.n) new.2 ∙ can.side;
-          bound = ap (λ (g : Page). g.field.maxval) new.2 ∙ can.bound ∙ sym put-bound;
-          field = subst (λ (g : Page). IsHeightField g.field) (sym new.2) field;
-          turned = ap (λ (g : Page). g.turned) new.2 ∙ turned
+          side = ap (λ (g : Page). g.field.n) new.2 ∙ h.can.side;
+          bound = ap (λ (g : Page). g.field.maxval) new.2 ∙ h.can.bound ∙ sym put-bound;
+          field = subst (λ (g : Page). IsHeightField g.field) (sym new.2) h.field;
+          turned = ap (λ (g : Page). g.turned) new.2 ∙ h.turned
               ∙ sym (ap₂ (λ j v. is_turned (cuts_of s j) v) new.0 new.1);
           heights = agreed-samples put_store r u pg put-agreed at;
         })
         (λ (old : page_at s r u ≡ Some pg).
-        let p = i.table.placed r u pg old in
+        let p = h.store.table.placed r u pg old in
         record {
           side = p.side;
           bound = p.bound ∙ sym put-bound;
@@ -208,9 +215,9 @@ module _ (s : Store) (i : IsStore s) (q : ℕ) (t : Point) (page : Page) (can : 
       decide None e = refl
       decide (Some pg) e =
           let old : page_at s (q - 1) u ≡ Some pg = sym (put-others (q - 1) u (λ same. omega arith)) ∙ e in
-          let coarse = can.coarse in
+          let coarse = h.can.coarse in
           let back : q - 1 + 1 ≡ q = omega arith in
-          let up = i.table.pyramid.nested (q - 1) u (omega arith) (page-loaded s (q - 1) u pg old) in
+          let up = h.store.table.pyramid.nested (q - 1) u (omega arith) (page-loaded s (q - 1) u pg old) in
           absurd (both_ways ((pages_of s).loaded q t) absent
           (subst (λ v. IsTrue ((pages_of s).loaded q v)) above
           (subst (λ j. IsTrue ((pages_of s).loaded j (square_above u))) back up)))
@@ -222,22 +229,22 @@ module _ (s : Store) (i : IsStore s) (q : ℕ) (t : Point) (page : Page) (can : 
       subst (λ j. AreJoined put_store j u pg) (sym new.0)
       (subst (λ v. AreJoined put_store q v pg) (sym new.1)
       (subst (AreJoined put_store q t) (sym new.2) (λ k small.
-      alone k small
-      ∙ quarter-alone put_store q t page i.table.some put-pyramid
-      record { coarse = square.coarse; tile = square.tile } put-here can.side
+      h.alone k small
+      ∙ quarter-alone put_store q t page h.store.table.some put-pyramid
+      record { coarse = square.coarse; tile = square.tile } put-here h.can.side
       (put-table.placed q t page put-here).heights put-finest k small))))
       (λ (old : page_at s r u ≡ Some pg). λ k small.
       let sq = page_at-some s r u pg old in
       let coarse = sq.coarse in
-      let coarse' = can.coarse in
-      let placed = i.table.placed r u pg old in
-      i.joined r u pg old k small
-      ∙ wedge-heights (pages_of s) i.table.pyramid (height_in s) (height_in put_store) put-heights
+      let coarse' = h.can.coarse in
+      let placed = h.store.table.placed r u pg old in
+      h.store.joined r u pg old k small
+      ∙ wedge-heights (pages_of s) h.store.table.pyramid (height_in s) (height_in put_store) put-heights
       (in_tile (cuts_of s r) u (4 + k))
-      (quarter-known s r u pg i.table.some i.table.pyramid sq old placed.side placed.heights k small)
+      (quarter-known s r u pg h.store.table.some h.store.table.pyramid sq old placed.side placed.heights k small)
       ∙ wedge-quarter (pages_of s) (pages_of put_store).loaded q t
-      (λ j v other. sym (ap is_some (put-others j v other))) (height_in put_store) r k u i.table.pyramid (omega arith)
-      can.tile absent (omega arith) sq.tile (page-loaded s r u pg old) small not)
+      (λ j v other. sym (ap is_some (put-others j v other))) (height_in put_store) r k u h.store.table.pyramid (omega arith)
+      h.can.tile absent (omega arith) sq.tile (page-loaded s r u pg old) small not)
       (which-page r u pg at)
 
 -- a page with another diagonal is alone, too
@@ -251,18 +258,15 @@ alone-cut page b alone (suc (suc (suc (suc k)))) small = absurd (omega (arith, s
 -- what holds after a load
 pub record IsLoaded (s s' : Store) (q : ℕ) (t : Point) (grid : HeightField) : Type 0 where
   pub here : grid_at s' q t ≡ Some grid
-  pub others : (r : ℕ) (u : Point) → (r ≡ q → u ≡ t → ⊥) → grid_at s' r u ≡ grid_at s r u
-  pub heights : (p : Point) → IsLoadedPoint (pages_of s) p → height_in s' p ≡ height_in s p
+  pub others : AreOthersSame s s' q t
+  pub heights : AreHeightsSame s s s'
 
-pub load-done : (s : Store) (i : IsStore s) (q : ℕ) (t : Point) (page : Page) (can : CanLoad s q t page.field)
-    (field : IsHeightField page.field) (turned : page.turned ≡ is_turned (cuts_of s q) t) (alone : IsAlone page)
-    (s' : Store) → AreSameGrids (put_store s i q t page can field turned alone) s' → IsLoaded s s' q t page.field
-load-done s i q t page can field turned alone s' g =
-    let same = same-terrain (put_store s i q t page can field turned alone) s' g.large g.n g.grids in
+pub load-done : {s s' : Store} {q : ℕ} {t : Point} {page : Page} (h : IsReady s q t page) →
+    AreSameGrids (put_store h) s' → IsLoaded s s' q t page.field
+load-done {s' = s'} {q} {t} h g =
+    let same = same-terrain (put_store h) s' g.large g.n g.grids in
     record {
-      here = g.grids q t ∙ ap (option_map (λ (z : Page). z.field)) (put-here s i q t page can field turned alone);
-      others = λ r u other.
-          g.grids r u ∙ ap (option_map (λ (z : Page). z.field)) (put-others s i q t page can field turned alone r u
-          other);
-      heights = λ p l. ap (λ h. h p) same.heights ∙ sym (put-heights s i q t page can field turned alone p l);
+      here = g.grids q t ∙ ap (option_map (λ (z : Page). z.field)) (put-here h);
+      others = λ r u other. g.grids r u ∙ ap (option_map (λ (z : Page). z.field)) (put-others h r u other);
+      heights = λ p l. ap (λ f. f p) same.heights ∙ sym (put-heights h p l);
     }

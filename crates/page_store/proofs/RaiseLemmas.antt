@@ -142,7 +142,7 @@ raised-out : (maxval : ℕ) (area : Area) (dz : ℤ) (p : Point) (h : ℕ) → i
     raised_in maxval area dz p h ≡ h
 raised-out maxval area dz p h out = ap (λ (b : Bool). if b then clamped maxval (pos h +ℤ dz) else h) out
 
-module _ (a b : Store) (i : IsStore a) (area : Area) (dz : ℤ) (found : Bool)
+module _ {a b : Store} (i : IsStore a) {area : Area} {dz : ℤ} {found : Bool}
     (r : IsRaisedWhere a b area dz (λ q t. (q ≤ top_of a) × IsNear a area q t) found) where
   -- what a page of the terrain was before
   pub record IsRaisedFrom (q : ℕ) (t : Point) (page : Page) : Type 0 where
@@ -152,7 +152,7 @@ module _ (a b : Store) (i : IsStore a) (area : Area) (dz : ℤ) (found : Bool)
     pub near : (page ≡ old) ⊎ IsNear a area q t
 
   loaded : (q : ℕ) (t : Point) → is_some (page_at b q t) ≡ is_some (page_at a q t)
-  loaded = raised-loaded a b area dz (λ q t. (q ≤ top_of a) × IsNear a area q t) found r
+  loaded = raised-loaded r
 
   unchanged : (q : ℕ) (t : Point) (page : Page) → page_at a q t ≡ Some page → IsFar (pages_of a) area q t →
       IsRaisedPage a.n q t area dz page page
@@ -396,29 +396,29 @@ pub record IsAllRaised (a b : Store) (area : Area) (dz : ℤ) (found : Bool) : T
   pub joined : AreJoinedBut b (λ q t. (1 ≤ q) × IsNear b area q t)
   pub valid : IsTable b
 
-pub all-raised : (v a b : Store) (area : Area) (dz : ℤ) (found : Bool) → v ≡ a → IsStore a →
+pub all-raised : {v a b : Store} {area : Area} {dz : ℤ} {found : Bool} → v ≡ a → IsStore a →
     IsRaisedWhere v b area dz (λ q t. (q ≤ top_of v) × IsNear v area q t) found → IsAllRaised a b area dz found
-all-raised v a b area dz found same i r =
+all-raised {a = a} {b} {area} {dz} {found} same i r =
     let z : IsRaisedWhere a b area dz (λ q t. (q ≤ top_of a) × IsNear a area q t) found =
     subst (λ (w : Store). IsRaisedWhere w b area dz (λ q t. (q ≤ top_of w) × IsNear w area q t) found) same r in
     record {
       terrain = record {
         large = z.large;
         n = z.n;
-        pages = same-pages a b i area dz found z;
-        bound = same-bound a b i area dz found z;
-        heights = raised-loaded-height a b i area dz found z;
-        others = outside-height a b i area dz found z;
+        pages = same-pages i z;
+        bound = same-bound i z;
+        heights = raised-loaded-height i z;
+        others = outside-height i z;
       };
-      is_found = (found-some a b i area dz found z, found-all a b i area dz found z);
+      is_found = (found-some i z, found-all i z);
       none = z.same;
-      joined = raised-joined a b i area dz found z;
-      valid = raised-table a b i area dz found z;
+      joined = raised-joined i z;
+      valid = raised-table i z;
     }
 
 -- a table has pages of one side
-pub table-sized : (v s : Store) → v ≡ s → IsTable s → IsSized v
-table-sized v s same i = subst IsSized (sym same) (record {
+pub table-sized : {v s : Store} → v ≡ s → IsTable s → IsSized v
+table-sized same i = subst IsSized (sym same) (record {
   some = i.some;
   fits = i.fits;
   small = i.small;
@@ -427,9 +427,9 @@ table-sized v s same i = subst IsSized (sym same) (record {
 })
 
 -- and so it is after its pages were joined again
-pub raised-again : (a b c : Store) (area : Area) (dz : ℤ) → IsRaisedTerrain a b area dz → AreSameGrids b c →
+pub raised-again : {a b c : Store} {area : Area} {dz : ℤ} → IsRaisedTerrain a b area dz → AreSameGrids b c →
     IsRaisedTerrain a c area dz
-raised-again a b c area dz r g =
+raised-again {b = b} {c} r g =
     let same = same-terrain b c g.large g.n g.grids in
     record {
       large = g.large ∙ r.large;
@@ -472,10 +472,10 @@ raised-there : (m : ℕ) (dz : ℤ) (p : Point) (h : ℕ) → raised_in m (one p
 raised-there m dz p h = ap (λ (b : Bool). if b then clamped m (pos h +ℤ dz) else h) (one-has p)
 
 -- it is lowered to 0, and raised from there
-pub put-height : (a m b : Store) (p : Point) (h : ℕ) (down up : ℤ) → down ≡ negsuc 65534 → up ≡ pos h → h ≤ maxval_of a →
+pub put-height : {a m b : Store} (p : Point) {h : ℕ} {down up : ℤ} → down ≡ negsuc 65534 → up ≡ pos h → h ≤ maxval_of a →
     IsStore a → IsLoadedPoint (pages_of a) p → IsRaisedTerrain a m (one p) down → IsRaisedTerrain m b (one p) up →
     height_in b p ≡ h
-put-height a m b p h down up falls rises small i l first second =
+put-height {a} {m} {b} p {h} {down} {up} falls rises small i l first second =
     let fields : (q : ℕ) (t : Point) (page : Page) → page_at a q t ≡ Some page → IsHeightField page.field = λ q t page at.
     (i.table.placed q t page at).field in
     let low : height_in m p ≡ 0 =

@@ -1,47 +1,22 @@
 -- The pages that meet an area, joined from the finest up.
-use Rattle.std.proofs.Common.{◌≡◌, ℕ, ◌+◌, ◌-◌, ◌<◌, ◌≤◌, sym, ◌∙◌, ap₂, subst, arith, ⊎_elim}
-use Rattle.std.proofs.Common.{Option, Some, None, option_map}
+use Rattle.std.proofs.Common.{◌≡◌, ℕ, ◌+◌, ◌-◌, ◌<◌, ◌≤◌, sym, subst, arith, ⊎_elim, Some}
 use Rattle.std.proofs.lemmas.Bool.{cases_lt}
 use Rattle.mesh_defs.specs.declared.point.Point.{Point}
 use Rattle.mesh_defs.specs.State.{Area}
 use Rattle.bintree_laws.proofs.LatticeLemmas.{same_point}
 use Rattle.page_wedges.specs.Page.{Page}
-use Rattle.page_store.specs.Store.{Store, top_of, cuts_of, page_at, AreJoined, joined_page}
+use Rattle.page_store.specs.Store.{Store, top_of, cuts_of, page_at, AreJoined}
 use Rattle.page_store.specs.Change.{IsPageJoined}
 use Rattle.page_store.specs.Edit.{span_from, span_end, IsNear, AreJoinedBut}
 use Rattle.page_store.proofs.TableLemmas.{page_at-some}
-use Rattle.page_store.proofs.ChangeLemmas.{same-or-other, AreSameTerrain, same-terrain}
-use Rattle.page_store.proofs.JoinLemmas.{joined-kept, AreFinerJoined}
-use Rattle.page_store.proofs.AboveLemmas.{page-grids, is-joined}
+use Rattle.page_store.proofs.JoinLemmas.{AreFinerJoined}
+use Rattle.page_store.proofs.AboveLemmas.{join-step}
 use Rattle.page_store.proofs.EditLemmas.{near-same}
 
 -- where more are due
 pub but-more : (s : Store) (due other : ℕ → Point → Type 0) → AreJoinedBut s due →
     ((q : ℕ) (t : Point) → due q t → other q t) → AreJoinedBut s other
 but-more s due other joined more q t page not at = joined q t page (λ is. not (more q t is)) at
-
--- a page is joined, and is not due any more
-pub join-step : (s s' : Store) (q : ℕ) (t : Point) (due other : ℕ → Point → Type 0) → IsPageJoined s s' q t →
-    AreJoinedBut s due → ((r : ℕ) (u : Point) → (other r u → ⊥) → due r u → (r ≡ q) × (u ≡ t)) → AreJoinedBut s' other
-join-step s s' q t due other j joined less r u page not at = ⊎_elim
-    (λ (same : (r ≡ q) × (u ≡ t)).
-    let there : option_map (joined_page s q t) (page_at s q t) ≡ Some page =
-    sym j.here ∙ sym (ap₂ (λ i v. page_at s' i v) same.0 same.1) ∙ at in
-    subst (λ i. AreJoined s' i u page) (sym same.0)
-    (subst (λ v. AreJoined s' q v page) (sym same.1) (was (page_at s q t) there)))
-    (λ (apart : r ≡ q → u ≡ t → ⊥).
-    joined-kept s s' r u page terrain j.large j.n
-    (joined r u page (λ is. let e = less r u not is in apart e.0 e.1) (sym (j.others r u apart) ∙ at)))
-    (same-or-other q r t u)
-  where
-    terrain : AreSameTerrain s s'
-    terrain = let g = page-grids s s' q t j in same-terrain s s' g.large g.n g.grids
-
-    was : (o : Option Page) → option_map (joined_page s q t) o ≡ Some page → AreJoined s' q t page
-    was None e = absurd cc
-    was (Some old) e =
-        let f : joined_page s q t old ≡ page = cc in
-        subst (AreJoined s' q t) f (is-joined s s' q t old terrain j.large j.n)
 
 -- what is due within a row
 abbrev pub IsDueFrom : Store → Area → ℕ → ℕ → ℕ → ℕ → Point → Type 0
@@ -50,7 +25,7 @@ IsDueFrom s area q y x r t =
 
 pub join-square : (s s' : Store) (area : Area) (q y x : ℕ) → IsPageJoined s s' q (record { x = x; y = y }) →
     AreJoinedBut s (IsDueFrom s area q y x) → AreJoinedBut s' (IsDueFrom s' area q y (x + 1))
-join-square s s' area q y x j joined = join-step s s' q (record { x = x; y = y }) (IsDueFrom s area q y x)
+join-square s s' area q y x j joined = join-step (IsDueFrom s area q y x)
     (IsDueFrom s' area q y (x + 1)) j joined (λ r u not d.
     let near = near-same s' s area r u (sym j.large) (sym j.n) d.1 in
     ⊎_elim

@@ -15,7 +15,7 @@ use Rattle.page_wedges.specs.Page.{Page, IsAlone}
 use Rattle.page_store.specs.Store.{top_of, maxval_of}
 use Rattle.page_store.specs.Store.{Store, cuts_of, place, page_at, grid_at, pages_of, local_point, has_point}
 use Rattle.page_store.specs.Store.{height_in, IsTable, IsStore}
-use Rattle.page_store.specs.Change.{AreOthersJoined, AreSameGrids}
+use Rattle.page_store.specs.Change.{AreOthersJoined, AreOthersSame, AreHeightsSame, AreSameGrids}
 use Rattle.page_store.specs.Unload.{IsFree}
 use Rattle.page_store.proofs.TableLemmas.{IsSquare, page_at-some, loaded-page, page-loaded}
 use Rattle.page_store.proofs.WalkLemmas.{place-in}
@@ -24,18 +24,24 @@ use Rattle.page_store.proofs.AloneLemmas.{HasNoFiner, quarter-known, quarter-alo
 use Rattle.page_store.proofs.ChangeLemmas.{same-or-other, same-terrain, set-here, set-others}
 use Rattle.page_store.proofs.PutLemmas.{height-at, loaded-has}
 
-module _ (s : Store) (i : IsStore s) (q : ℕ) (t : Point) (page : Page) (at : page_at s q t ≡ Some page)
-    (fine : s.n + q < s.large) (free : IsFree s q t) where
+-- a page that may be taken out of its square
+pub record IsSpare (s : Store) (q : ℕ) (t : Point) (page : Page) : Type 0 where
+  pub store : IsStore s
+  pub at : page_at s q t ≡ Some page
+  pub fine : s.n + q < s.large
+  pub free : IsFree s q t
+
+module _ {s : Store} {q : ℕ} {t : Point} {page : Page} (h : IsSpare s q t page) where
   abbrev pub take_store : Store
   take_store = record s { pages = slice_set s.pages (place (cuts_of s q) t) None }
 
   square : IsSquare s q t
-  square = page_at-some s q t page at
+  square = page_at-some s q t page h.at
 
   take-here : page_at take_store q t ≡ None
   take-here =
-      let fits = i.table.fits in
-      set-here s.large s.n s.pages q t None square (place-in s (cuts_of s q) t i.table (omega arith) square.tile)
+      let fits = h.store.table.fits in
+      set-here s.large s.n s.pages q t None square (place-in s (cuts_of s q) t h.store.table (omega arith) square.tile)
 
   pub take-others : (r : ℕ) (u : Point) → (r ≡ q → u ≡ t → ⊥) → page_at take_store r u ≡ page_at s r u
   take-others = set-others s.large s.n s.pages q t None square
@@ -62,11 +68,11 @@ module _ (s : Store) (i : IsStore s) (q : ℕ) (t : Point) (page : Page) (at : p
   take-pyramid : IsPyramid (pages_of take_store)
   take-pyramid = subst IsPyramid
       (λ j. record { large = s.large; n = s.n; top = s.large - s.n; loaded = λ r u. loaded-same r u j })
-      (unload-nested (pages_of s) q t i.table.pyramid (omega arith) free)
+      (unload-nested (pages_of s) q t h.store.table.pyramid (omega (arith, h.fine)) h.free)
 
   old-height : (r : ℕ) (u p : Point) (pg : Page) → page_at take_store r u ≡ Some pg → IsTrue (has_point s.n r u p) →
       height_of s.n pg.field.heights (local_point s.n r u p) ≡ height_in s p
-  old-height r u p pg there has = height-at s r u p pg (i.table.placed r u pg (take-old r u pg there)).heights has
+  old-height r u p pg there has = height-at s r u p pg (h.store.table.placed r u pg (take-old r u pg there)).heights has
 
   take-agreed : AreAgreed take_store
   take-agreed a r u v pg other p there there' has has' =
@@ -74,18 +80,18 @@ module _ (s : Store) (i : IsStore s) (q : ℕ) (t : Point) (page : Page) (at : p
 
   take-bound : maxval_of take_store ≡ maxval_of s
   take-bound = ap (λ o. unwrap_or (option_map (λ (g : HeightField). g.maxval) (option_map (λ (g : Page). g.field) o)) 0)
-      (take-others (top_of s) (record { x = 0; y = 0 }) (λ top. omega arith))
+      (take-others (top_of s) (record { x = 0; y = 0 }) (λ top. omega (arith, h.fine)))
 
   -- it is a table
   pub take-table : IsTable take_store
   take-table = record {
-    some = i.table.some;
-    fits = i.table.fits;
-    small = i.table.small;
-    places = length-set s.pages (place (cuts_of s q) t) None ∙ i.table.places;
+    some = h.store.table.some;
+    fits = h.store.table.fits;
+    small = h.store.table.small;
+    places = length-set s.pages (place (cuts_of s q) t) None ∙ h.store.table.places;
     pyramid = take-pyramid;
     placed = λ r u pg there.
-        let p = i.table.placed r u pg (take-old r u pg there) in
+        let p = h.store.table.placed r u pg (take-old r u pg there) in
         record {
           side = p.side;
           bound = p.bound ∙ sym take-bound;
@@ -110,12 +116,12 @@ module _ (s : Store) (i : IsStore s) (q : ℕ) (t : Point) (page : Page) (at : p
       let sq = page_at-some take_store r u pg there in
       let coarse = sq.coarse in
       let placed = take-table.placed r u pg there in
-      i.joined r u pg old k small
+      h.store.joined r u pg old k small
       ∙ sym (wedge-heights (pages_of take_store) take-pyramid (height_in take_store) (height_in s) take-heights
       (in_tile (cuts_of s r) u (4 + k))
-      (quarter-known take_store r u pg i.table.some take-pyramid sq there placed.side placed.heights k small)
+      (quarter-known take_store r u pg h.store.table.some take-pyramid sq there placed.side placed.heights k small)
       ∙ wedge-quarter (pages_of take_store) (pages_of s).loaded q t
-      (λ j v other. ap is_some (take-others j v other)) (height_in s) r k u take-pyramid (omega arith)
+      (λ j v other. ap is_some (take-others j v other)) (height_in s) r k u take-pyramid (omega (arith, h.fine))
       square.tile (ap is_some take-here) (omega arith) sq.tile (page-loaded take_store r u pg there) small not)
 
   -- and it is alone again
@@ -124,30 +130,27 @@ module _ (s : Store) (i : IsStore s) (q : ℕ) (t : Point) (page : Page) (at : p
     where
       decide : (o : Option Page) → page_at s (q - 1) u ≡ o → o ≡ None
       decide None e = refl
-      decide (Some pg) e = absurd ((free finer u (page-loaded s (q - 1) u pg e)).0 above)
+      decide (Some pg) e = absurd ((h.free finer u (page-loaded s (q - 1) u pg e)).0 above)
 
   pub take-alone : IsAlone page
   take-alone k small =
-      let placed = i.table.placed q t page at in
-      i.joined q t page at k small
-      ∙ sym (quarter-alone s q t page i.table.some i.table.pyramid square at placed.side placed.heights finest k small)
+      let placed = h.store.table.placed q t page h.at in
+      h.store.joined q t page h.at k small
+      ∙ sym (quarter-alone s q t page h.store.table.some h.store.table.pyramid square h.at placed.side placed.heights finest k
+      small)
 
 -- what holds after a page was unloaded
 pub record IsUnloaded (s s' : Store) (q : ℕ) (t : Point) : Type 0 where
   pub gone : grid_at s' q t ≡ None
-  pub others : (r : ℕ) (u : Point) → (r ≡ q → u ≡ t → ⊥) → grid_at s' r u ≡ grid_at s r u
-  pub heights : (p : Point) → IsLoadedPoint (pages_of s') p → height_in s' p ≡ height_in s p
+  pub others : AreOthersSame s s' q t
+  pub heights : AreHeightsSame s' s s'
 
-pub unload-done : (s : Store) (i : IsStore s) (q : ℕ) (t : Point) (page : Page) (at : page_at s q t ≡ Some page)
-    (fine : s.n + q < s.large) (free : IsFree s q t) (s' : Store) →
-    AreSameGrids (take_store s i q t page at fine free) s' → IsUnloaded s s' q t
-unload-done s i q t page at fine free s' g =
-    let same = same-terrain (take_store s i q t page at fine free) s' g.large g.n g.grids in
+pub unload-done : {s s' : Store} {q : ℕ} {t : Point} {page : Page} (h : IsSpare s q t page) →
+    AreSameGrids (take_store h) s' → IsUnloaded s s' q t
+unload-done {s' = s'} {q} {t} h g =
+    let same = same-terrain (take_store h) s' g.large g.n g.grids in
     record {
-      gone = g.grids q t ∙ ap (option_map (λ (z : Page). z.field)) (take-here s i q t page at fine free);
-      others = λ r u other.
-          g.grids r u ∙ ap (option_map (λ (z : Page). z.field)) (take-others s i q t page at fine free r u other);
-      heights = λ p l.
-          ap (λ h. h p) same.heights
-          ∙ take-heights s i q t page at fine free p (subst (λ w. IsLoadedPoint w p) same.pages l);
+      gone = g.grids q t ∙ ap (option_map (λ (z : Page). z.field)) (take-here h);
+      others = λ r u other. g.grids r u ∙ ap (option_map (λ (z : Page). z.field)) (take-others h r u other);
+      heights = λ p l. ap (λ f. f p) same.heights ∙ take-heights h p (subst (λ w. IsLoadedPoint w p) same.pages l);
     }

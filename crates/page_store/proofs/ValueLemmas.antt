@@ -14,6 +14,7 @@ use Rattle.mosaic_laws.specs.Glue.{quarter_of, prefix_at, prefix_of, number_at, 
 use Rattle.mosaic_laws.proofs.AddressLemmas.{in_tile-local, local-big, local-level, quarter-back, quarter_of-small}
 use Rattle.page_laws.specs.Pages.{half, is_turned, left_quarter, cuts_to, square_at}
 use Rattle.page_laws.specs.Loaded.{known_wedge, AreSamples}
+use Rattle.page_laws.specs.declared.wedge.KnownWedge.{KnownWedge}
 use Rattle.page_laws.proofs.SquareLemmas.{tile-self}
 use Rattle.page_laws.proofs.HalfLemmas.{half-left, halves, left_quarter-small}
 use Rattle.page_laws.proofs.PyramidLemmas.{known-splittable}
@@ -28,12 +29,13 @@ use Rattle.page_store.proofs.FoundLemmas.{found-cuts, found-end, found-known}
 
 -- wedges are thin
 
-pub thin : (s : Store) (x : ℕ) → IsTable s →
-    (known_wedge s.large (height_in s) (known_in s) x).thickness ≤ 131070 * 28
-thin s x i =
+pub thin : {s : Store} (x : ℕ) {w : KnownWedge} → IsTable s → w ≡ known_wedge s.large (height_in s) (known_in s) x →
+    w.thickness ≤ 131070 * 28
+thin {s} x i is =
     let small = i.small in
     let bounded = wedge-bounded s.large (height_in s) (known_in s) 65535 x
     (λ r. height-small s r (λ q t page at. (i.placed q t page at).field)) in
+    let same = ap (λ (z : KnownWedge). z.thickness) is in
     omega arith
 
 -- the address in a page's grid
@@ -96,7 +98,7 @@ pub record HalfLaw : Type 0 where
       ≡ known_wedge (page.field.n + q + p) height known (in_tile p t (4 + k))) →
       half_in page which ≡ known_wedge (page.field.n + q + p) height known (half p t which)
 
-module _ (s : Store) (x p k : ℕ) (t : Point) (page : Page) (i : IsTable s) (f : IsFound s x p k t page) (low : 2 ≤ x)
+module _ {s : Store} {x p k : ℕ} {t : Point} {page : Page} (i : IsTable s) (f : IsFound s x p k t page) (low : 2 ≤ x)
   where
     tile : IsTile (2 ^ p) (2 ^ p) t
     tile = subst (IsTile (2 ^ p) (2 ^ p)) f.square (tile-small p (2 * x))
@@ -105,7 +107,7 @@ module _ (s : Store) (x p k : ℕ) (t : Point) (page : Page) (i : IsTable s) (f 
     placed = i.placed (top_of s - p) t page f.loaded
 
     cuts : cuts_of s (top_of s - p) ≡ p
-    cuts = found-cuts s x p k t page i f
+    cuts = found-cuts i f
 
     pub found-side : page.field.n ≡ s.n
     found-side = placed.side
@@ -186,7 +188,7 @@ module _ (s : Store) (x p k : ℕ) (t : Point) (page : Page) (i : IsTable s) (f 
           let level = local-level p x low deep in
           let address : IsAddress s.large x =
           IsAddress-splittable s.large x (known-splittable (pages_of s) i.pyramid x known) in
-          let end = found-known s x p k t page i f low finest in
+          let end = found-known i f low finest in
           let less : level_of x < 2 * (p + s.n) = ltb-true (level_of x) (2 * (p + s.n)) (sym end ∙ known) in
           let local-address : IsAddress s.n (local_of p x) =
           IsAddress-level s.n (local_of p x) (let big = local-big p x low deep in omega arith) (omega arith) in
@@ -198,7 +200,7 @@ module _ (s : Store) (x p k : ℕ) (t : Point) (page : Page) (i : IsTable s) (f 
           (λ finer. subst (λ z. (pages_of s).loaded (top_of s - p - 1) (square_at (pages_of s) (top_of s - p - 1) z) ≡
           false)
           (sym (ap (λ c. in_tile c t (local_of p x)) cuts ∙ there))
-          (found-end s x p k t page i f finest finer
+          (found-end i f finest finer
           (let c : cuts_to (pages_of s) (top_of s - p - 1) ≡ p + 1 = omega arith in omega arith))))
           ∙ ap (λ c. known_wedge s.large (height_in s) (known_in s) (in_tile c t (local_of p x))) cuts
           ∙ ap (known_wedge s.large (height_in s) (known_in s)) there
@@ -207,6 +209,6 @@ module _ (s : Store) (x p k : ℕ) (t : Point) (page : Page) (i : IsTable s) (f 
       pub own-level : IsFinest s x p → IsTrue (known_in s x) → level_of (local_of p x) ≤ 2 * s.n
       own-level finest known =
           let level = local-level p x low deep in
-          let end = found-known s x p k t page i f low finest in
+          let end = found-known i f low finest in
           let less : level_of x < 2 * (p + s.n) = ltb-true (level_of x) (2 * (p + s.n)) (sym end ∙ known) in
           omega arith

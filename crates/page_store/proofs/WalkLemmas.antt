@@ -1,8 +1,9 @@
 -- From the page of a resolution that a triangle lies in to that of the next one.
 use Rattle.std.proofs.Common.{◌≡◌, ℕ, zero, suc, ◌+◌, ◌-◌, ◌*◌, ◌/◌, ◌%◌, ◌^◌, ◌<◌, ◌≤◌, sym, ◌∙◌, ap, subst, arith}
 use Rattle.std.proofs.Common.{refl}
-use Rattle.std.proofs.Common.{Option, Some, None, true, slice_index_or, length, Bor}
+use Rattle.std.proofs.Common.{Option, Some, None, true, slice_index_or, length, Bor, get_or}
 use Rattle.std.proofs.Math.Pow.{pow_mono}
+use Rattle.std.proofs.lemmas.List.{get_or_read}
 use Rattle.std.specs.Option.{IsSome, option_copied}
 use Rattle.std.proofs.Math.Nat.{pow-succ', div-div-eq-div-mul}
 use Rattle.mesh_defs.specs.declared.point.Point.{Point}
@@ -28,6 +29,14 @@ place-in s p t i coarse tile =
     let less = place-less p (top_of s + 1) t tile (omega arith) in
     omega arith
 
+-- and so it has one in the list of a table's fields
+pub place-inside : {v s : Store} (p : ℕ) (t : Point) {at : ℕ} → v ≡ s → IsTable v → p ≤ top_of s →
+    IsTile (2 ^ p) (2 ^ p) t → at ≡ place p t → at < length v.pages
+place-inside {v} {s} p t same i coarse tile is =
+    let e : top_of v ≡ top_of s = ap top_of same in
+    let less = place-in v p t i (omega arith) tile in
+    omega arith
+
 -- where its page stands
 pub page-there : (s : Store) (p : ℕ) (t : Point) → s.n ≤ s.large → p ≤ top_of s → IsTile (2 ^ p) (2 ^ p) t →
     page_at s (top_of s - p) t ≡ slice_index_or s.pages (place p t) None
@@ -38,6 +47,15 @@ page-there s p t fits coarse tile =
       tile = subst (λ k. IsTile (2 ^ k) (2 ^ k) t) (sym e) tile;
     }
     ∙ ap (λ k. slice_index_or s.pages (place k t) None) e
+
+-- as it is read there
+pub page-read : {v s : Store} (p : ℕ) (t : Point) {at : ℕ} {o : Option Page} → v ≡ s → IsTable v → p ≤ top_of s →
+    IsTile (2 ^ p) (2 ^ p) t → at ≡ place p t → o ≡ get_or v.pages at o → o ≡ page_at s (top_of s - p) t
+page-read {v} {s} p t {at} {o} same i coarse tile is read =
+    get_or_read v.pages at o (place-inside p t same i coarse tile is) read None
+    ∙ ap (λ k. slice_index_or v.pages k None) is
+    ∙ ap (λ (z : Store). slice_index_or z.pages (place p t) None) same
+    ∙ sym (page-there s p t (subst (λ (z : Store). z.n ≤ z.large) same i.fits) coarse tile)
 
 -- the bits of an address
 
@@ -96,48 +114,48 @@ pub record IsBelow (x p k : ℕ) (t : Point) (bits : ℕ) (k' : ℕ) (t' : Point
   pub column : t'.x ≡ 2 * t.x + (square_in k (bits / 2)).x
   pub row : t'.y ≡ 2 * t.y + (square_in k (bits / 2)).y
 
-module _ (x p k : ℕ) (t : Point) (bits k' : ℕ) (t' : Point) (low : 2 ≤ x) (deep : 2 * (p + 1) ≤ level_of x)
-    (part : quarter_of p (prefix_of p (2 * x)) ≡ k) (square : tile_of p (2 * x) ≡ t)
-    (b : IsBelow x p k t bits k' t') where
-  next : p + 1 ≡ suc p
-  next = omega arith
+module _ {x p k : ℕ} {t : Point} {bits k' : ℕ} {t' : Point} (b : IsBelow x p k t bits k' t') (low : 2 ≤ x)
+    (deep : 2 * (p + 1) ≤ level_of x) (part : quarter_of p (prefix_of p (2 * x)) ≡ k) (square : tile_of p (2 * x) ≡ t)
+  where
+    next : p + 1 ≡ suc p
+    next = omega arith
 
-  last : prefix_of (suc p) (2 * x) % 4 ≡ bits
-  last = ap (λ j. j % 4) (prefix-is (suc p) x low (omega arith))
-      ∙ ap (λ j. 2 * x / 2 ^ (level_of x - 2 * j) % 4) (sym next)
-      ∙ b.bits-are
+    last : prefix_of (suc p) (2 * x) % 4 ≡ bits
+    last = ap (λ j. j % 4) (prefix-is (suc p) x low (omega arith))
+        ∙ ap (λ j. 2 * x / 2 ^ (level_of x - 2 * j) % 4) (sym next)
+        ∙ b.bits-are
 
-  pub part-next : quarter_of (p + 1) (prefix_of (p + 1) (2 * x)) ≡ k'
-  part-next =
-      let up = prefix-next p x low (omega arith) in
-      ap (λ j. quarter_of j (prefix_of j (2 * x))) next
-      ∙ ap (λ j. quarter_in (quarter_of p j) (prefix_of (suc p) (2 * x) % 4)) up
-      ∙ ap (λ j. quarter_in j (prefix_of (suc p) (2 * x) % 4)) part
-      ∙ ap (quarter_in k) last
-      ∙ sym b.part
+    pub part-next : quarter_of (p + 1) (prefix_of (p + 1) (2 * x)) ≡ k'
+    part-next =
+        let up = prefix-next p x low (omega arith) in
+        ap (λ j. quarter_of j (prefix_of j (2 * x))) next
+        ∙ ap (λ j. quarter_in (quarter_of p j) (prefix_of (suc p) (2 * x) % 4)) up
+        ∙ ap (λ j. quarter_in j (prefix_of (suc p) (2 * x) % 4)) part
+        ∙ ap (quarter_in k) last
+        ∙ sym b.part
 
-  pub square-next : tile_of (p + 1) (2 * x) ≡ t'
-  square-next =
-      let up = prefix-next p x low (omega arith) in
-      let e : square_of (suc p) (prefix_of (suc p) (2 * x))
-      ≡ record { x = 2 * t.x + (square_in k (bits / 2)).x; y = 2 * t.y + (square_in k (bits / 2)).y } =
-      ap (λ j. record {
-        x = 2 * (square_of p j).x + (square_in (quarter_of p j) (prefix_of (suc p) (2 * x) % 4 / 2)).x;
-        y = 2 * (square_of p j).y + (square_in (quarter_of p j) (prefix_of (suc p) (2 * x) % 4 / 2)).y;
-      }) up
-      ∙ ap (λ (u : Point). record {
-        x = 2 * u.x + (square_in (quarter_of p (prefix_of p (2 * x))) (prefix_of (suc p) (2 * x) % 4 / 2)).x;
-        y = 2 * u.y + (square_in (quarter_of p (prefix_of p (2 * x))) (prefix_of (suc p) (2 * x) % 4 / 2)).y;
-      }) square
-      ∙ ap (λ j. record {
-        x = 2 * t.x + (square_in j (prefix_of (suc p) (2 * x) % 4 / 2)).x;
-        y = 2 * t.y + (square_in j (prefix_of (suc p) (2 * x) % 4 / 2)).y;
-      }) part
-      ∙ ap (λ j. record { x = 2 * t.x + (square_in k (j / 2)).x; y = 2 * t.y + (square_in k (j / 2)).y }) last in
-      ap (λ j. tile_of j (2 * x)) next
-      ∙ e
-      ∙ same_point (2 * t.x + (square_in k (bits / 2)).x) (2 * t.y + (square_in k (bits / 2)).y) t'.x t'.y
-      (sym b.column) (sym b.row)
+    pub square-next : tile_of (p + 1) (2 * x) ≡ t'
+    square-next =
+        let up = prefix-next p x low (omega arith) in
+        let e : square_of (suc p) (prefix_of (suc p) (2 * x))
+        ≡ record { x = 2 * t.x + (square_in k (bits / 2)).x; y = 2 * t.y + (square_in k (bits / 2)).y } =
+        ap (λ j. record {
+          x = 2 * (square_of p j).x + (square_in (quarter_of p j) (prefix_of (suc p) (2 * x) % 4 / 2)).x;
+          y = 2 * (square_of p j).y + (square_in (quarter_of p j) (prefix_of (suc p) (2 * x) % 4 / 2)).y;
+        }) up
+        ∙ ap (λ (u : Point). record {
+          x = 2 * u.x + (square_in (quarter_of p (prefix_of p (2 * x))) (prefix_of (suc p) (2 * x) % 4 / 2)).x;
+          y = 2 * u.y + (square_in (quarter_of p (prefix_of p (2 * x))) (prefix_of (suc p) (2 * x) % 4 / 2)).y;
+        }) square
+        ∙ ap (λ j. record {
+          x = 2 * t.x + (square_in j (prefix_of (suc p) (2 * x) % 4 / 2)).x;
+          y = 2 * t.y + (square_in j (prefix_of (suc p) (2 * x) % 4 / 2)).y;
+        }) part
+        ∙ ap (λ j. record { x = 2 * t.x + (square_in k (j / 2)).x; y = 2 * t.y + (square_in k (j / 2)).y }) last in
+        ap (λ j. tile_of j (2 * x)) next
+        ∙ e
+        ∙ same_point (2 * t.x + (square_in k (bits / 2)).x) (2 * t.y + (square_in k (bits / 2)).y) t'.x t'.y
+        (sym b.column) (sym b.row)
 
 -- the square of a triangle is one of so many columns and rows
 pub tile-small : (p x : ℕ) → IsTile (2 ^ p) (2 ^ p) (tile_of p x)
@@ -154,9 +172,8 @@ pub record IsSmallPart (k : ℕ) (t : Point) : Type 0 where
   pub column : t.x < 2 ^ 31
   pub row : t.y < 2 ^ 31
 
-pub found-small : (s : Store) (x p k : ℕ) (t : Point) (page : Page) → IsTable s → IsFound s x p k t page →
-    IsSmallPart k t
-found-small s x p k t page i f =
+pub found-small : {s : Store} {x p k : ℕ} {t : Point} {page : Page} → IsTable s → IsFound s x p k t page → IsSmallPart k t
+found-small {s} {x} {p} {k} {t} i f =
     let coarse = f.coarse in
     let small = i.small in
     let few : p ≤ 31 = omega arith in

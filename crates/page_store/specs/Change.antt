@@ -1,12 +1,14 @@
 -- How a table changes: by the wedge of a quarter, or by those of a page.
--- This project's own. Words: quarter_wedge, IsQuarterJoined, IsPageJoined, AreSameGrids, AreOthersJoined.
+-- This project's own. Words: quarter_wedge, IsQuarterJoined, IsPageJoined, AreSameGrids, AreOthersSame, AreHeightsSame,
+-- AreOthersJoined.
 use Rattle.std.specs.Prelude.{◌≡◌, ℕ, ◌+◌, ◌-◌, ◌/◌, ◌^◌, ◌<◌, Some, option_map}
 use Rattle.mesh_defs.specs.declared.point.Point.{Point}
 use Rattle.mosaic_laws.specs.Tile.{in_tile}
 use Rattle.page_laws.specs.Loaded.{known_wedge}
+use Rattle.page_laws.specs.Pages.{IsLoadedPoint}
 use Rattle.page_laws.specs.declared.wedge.KnownWedge.{KnownWedge}
 use Rattle.page_wedges.specs.Page.{Page, with_quarter}
-use Rattle.page_store.specs.Store.{Store, cuts_of, page_at, grid_at, height_in, known_in, joined_page}
+use Rattle.page_store.specs.Store.{Store, cuts_of, page_at, grid_at, pages_of, height_in, known_in, joined_page}
 use Rattle.page_store.specs.Store.{AreJoined}
 
 -- the wedge of a quarter of a page's square over all that is loaded
@@ -33,6 +35,14 @@ pub record AreSameGrids (before after : Store) : Type 0 where
   pub large : after.large ≡ before.large
   pub n : after.n ≡ before.n
   pub grids : (q : ℕ) (t : Point) → grid_at after q t ≡ grid_at before q t
+
+-- the squares but t of resolution q have the same grids
+abbrev pub AreOthersSame : Store → Store → ℕ → Point → Type 0
+AreOthersSame before after q t = (r : ℕ) (u : Point) → (r ≡ q → u ≡ t → ⊥) → grid_at after r u ≡ grid_at before r u
+
+-- the points of the pages of s have the same heights
+abbrev pub AreHeightsSame : Store → Store → Store → Type 0
+AreHeightsSame s before after = (p : Point) → IsLoadedPoint (pages_of s) p → height_in after p ≡ height_in before p
 
 -- all pages are joined but for those, coarser than q, in which the square t lies
 abbrev pub AreOthersJoined : Store → ℕ → Point → Type 0

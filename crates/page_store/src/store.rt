@@ -15,6 +15,7 @@ ghost use Rattle.page_wedges.specs.Page.{IsAlone};
 ghost use Rattle.page_wedges.specs.declared.join.TheConstants.{THICKEST};
 ghost use Rattle.page_store.specs.Store.{page_at, grid_at, maxval_of, pages_of, height_in, known_in, IsStore};
 ghost use Rattle.page_store.specs.Edit.{HasLoadedPoint, IsRaisedTerrain};
+ghost use Rattle.page_store.specs.Change.{AreOthersSame, AreHeightsSame};
 ghost use Rattle.page_store.specs.Load.{CanLoad, IsLoadFault};
 ghost use Rattle.page_store.specs.Unload.{IsFree, IsUnloadFault};
 
@@ -125,10 +126,8 @@ impl PageStore {
         requires alone { IsAlone page }
         ensures ok { OnOk result (CanLoad self.old q square page.field) }
         ensures loaded { OnOk result (grid_at self.new q square ≡ Some page.field) }
-        ensures others { OnOk result ((r : ℕ) (u : Point) → (r ≡ q → u ≡ square → ⊥) →
-            grid_at self.new r u ≡ grid_at self.old r u) }
-        ensures heights { OnOk result ((p : Point) → IsLoadedPoint (pages_of self.old) p →
-            height_in self.new p ≡ height_in self.old p) }
+        ensures others { OnOk result (AreOthersSame self.old self.new q square) }
+        ensures heights { OnOk result (AreHeightsSame self.old self.old self.new) }
         ensures fault { IfErr result (λ e. IsLoadFault self.old q square page.field e.0) }
         ensures refused { IfErr result (λ e. e.1 ≡ page) }
         ensures err { OnErr result (self.new ≡ self.old) }
@@ -153,10 +152,8 @@ impl PageStore {
         ensures alone { IfOk result IsAlone }
         ensures ok { OnOk result ((self.old.n + q < self.old.large) × IsFree self.old q square) }
         ensures gone { OnOk result (grid_at self.new q square ≡ None) }
-        ensures others { OnOk result ((r : ℕ) (u : Point) → (r ≡ q → u ≡ square → ⊥) →
-            grid_at self.new r u ≡ grid_at self.old r u) }
-        ensures heights { OnOk result ((p : Point) → IsLoadedPoint (pages_of self.new) p →
-            height_in self.new p ≡ height_in self.old p) }
+        ensures others { OnOk result (AreOthersSame self.old self.new q square) }
+        ensures heights { OnOk result (AreHeightsSame self.new self.old self.new) }
         ensures fault { IfErr result (IsUnloadFault self.old q square) }
         ensures err { OnErr result (self.new ≡ self.old) }
         ensures size { (self.new.large ≡ self.old.large) × (self.new.n ≡ self.old.n) }

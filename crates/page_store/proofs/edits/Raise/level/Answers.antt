@@ -10,13 +10,13 @@ loop-y-preserved c =
       | then-row w ↦ found-then _ _ _ w.found-is w.if-row.true
       | else-row w ↦ found-else _ _ _ w.found-is w.if-row.false
     ] in
-    level-step _ _ _ _ _ c.args.q _ c.loop-y.y _ _ _ (omega arith) c.loop-y.invariant c.row.ensures.raised
+    level-step (omega arith) c.loop-y.invariant c.row.ensures.raised
     (let first = c.span-first.ensures.first in omega (arith, c.loop-y.auto.y))
     (let end = c.span-first.ensures.end in omega (arith, c.loop-y-test.true)) found
 
 pub returns : goal.returns
 returns c = record {
-  raised = raised-due _ _ _ _ _ _ c.loop-y.invariant _
+  raised = raised-due c.loop-y.invariant _
       (λ q t i. (
         i.0,
         i.1,

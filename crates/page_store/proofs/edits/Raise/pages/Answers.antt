@@ -10,11 +10,11 @@ loop-q-preserved c =
       | then-level w ↦ found-then _ _ _ w.found-is w.if-level.true
       | else-level w ↦ found-else _ _ _ w.found-is w.if-level.false
     ] in
-    pages-step _ _ _ _ _ c.loop-q.q _ _ _ c.loop-q.invariant c.level.ensures.raised found
+    pages-step c.loop-q.invariant c.level.ensures.raised found
 
 pub returns : goal.returns
 returns c = record {
-  raised = raised-due _ _ _ _ _ _ c.loop-q.invariant _
+  raised = raised-due c.loop-q.invariant _
       (λ q t i. (omega (arith, i.0, c.loop-q-test.false), i.1))
       (λ q t i. (omega (arith, i.0, c.loop-q.auto.q-end), i.1));
 }

@@ -13,5 +13,4 @@ returns-clause-raised c =
     (area_between c.args.x0 c.args.y0 c.args.x1 c.args.y1) c.args.dz) c.self.view_is
     (subst (λ (z : ℤ). IsRaisedTerrain c.self.inside.table c.join_area.new.self
     (area_between c.args.x0 c.args.y0 c.args.x1 c.args.y1) z) (to_z-of_z w32 c.args.dz c.ranges.dz)
-    (raised-again c.self.inside.table c.raise.new.self c.join_area.new.self
-    (area_between c.args.x0 c.args.y0 c.args.x1 c.args.y1) _ c.raise.ensures.raised c.join_area.ensures.grids))
+    (raised-again c.raise.ensures.raised c.join_area.ensures.grids))

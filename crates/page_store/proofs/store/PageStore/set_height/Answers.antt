@@ -15,7 +15,6 @@ returns-clause-height c = λ on.
     let range = c.ranges.h.fits in
     let rises : to_z w32 (of_z w32 c.from.result) ≡ pos c.args.h = ap (λ z. to_z w32 (of_z w32 z)) c.from.ensures
     ∙ to_z-of_z w32 (pos c.args.h) (fits_signed_from_abs w32 (pos c.args.h) (omega arith)) in
-    put-height c.args.self.now c.raise-loaded.new.self c.raise.new.self c.args.p c.args.h _ _ refl rises
-    c.requires.bounded c.large-before.ensures.valid
+    put-height c.args.p refl rises c.requires.bounded c.large-before.ensures.valid
     ((one-loaded c.args.self.now c.args.p).0 (c.raise-loaded.ensures.found.0 on)) c.raise-loaded.ensures.raised
     c.raise.ensures.raised

@@ -1,13 +1,13 @@
 -- A half of the finer page where that is loaded, else a triangle of the page's own grid.
-use Rattle.std.proofs.Common.{◌+◌, ◌*◌, ◌≤◌, ap, sym, ◌∙◌, arith, subst, cond}
+use Rattle.std.proofs.Common.{◌+◌, ◌*◌, ap, sym, ◌∙◌, arith, subst, cond}
 use Rattle.mesh_defs.specs.Triangle.{level_of}
 use Rattle.mosaic_laws.specs.Tile.{in_tile}
-use Rattle.page_laws.specs.declared.wedge.KnownWedge.{KnownWedge}
 use Rattle.page_wedges.specs.Page.{own_wedge, half_in}
 use Rattle.page_store.specs.Store.{IsTable}
 use Rattle.page_store.proofs.WalkLemmas.{IsBelow}
 use Rattle.page_store.proofs.ChildLemmas.{child-bits, child-above, child-half, child-own, grandchild-level}
 use Rattle.page_store.proofs.ValueLemmas.{HalfLaw, thin}
+use Rattle.page_store.proofs.table.Table.child.Goals.{After-below-below}
 use Rattle.page_store.proofs.table.Table.child.Goals as goal
 
 pub own-requires : goal.own-requires
@@ -19,59 +19,41 @@ own-requires c =
     c.requires.quarter c.requires.side in
     record { level = omega arith }
 
+-- what the child's two bits say of the finer square
+below : (c : After-below-below) → IsBelow
+    (2 * in_tile c.args.cuts c.args.part.square (4 + c.args.part.quarter) + c.args.side) c.args.cuts c.args.part.quarter
+    c.args.part.square (2 * c.args.side) c.below-below.result.quarter c.below-below.result.square
+below c = record {
+  bits-are = child-bits c.args.cuts c.args.part.quarter c.args.side (subst IsTable c.self.view_is c.self.invariant)
+      c.requires.coarse c.requires.in_square c.requires.quarter c.requires.side c.requires.page;
+  part = c.below-below.ensures.quarter;
+  column = c.below-below.ensures.column;
+  row = c.below-below.ensures.row;
+}
+
 pub returns-in-Some-clause-value : goal.returns-in-Some-clause-value
 returns-in-Some-clause-value c =
-    let i : IsTable c.args.self.now = subst IsTable c.self.view_is c.self.invariant in
+    let i = subst IsTable c.self.view_is c.self.invariant in
     let law : HalfLaw = record { half = c.terrain_laws.ensures.half } in
-    let b : IsBelow (2 * in_tile c.args.cuts c.args.part.square (4 + c.args.part.quarter) + c.args.side) c.args.cuts
-    c.args.part.quarter c.args.part.square (2 * c.args.side) c.below-below.result.quarter c.below-below.result.square =
-    record {
-      bits-are = child-bits c.args.self.now c.args.cuts c.args.part.quarter c.args.side c.args.part.square
-          c.args.page.now i
-          c.requires.coarse c.requires.in_square c.requires.quarter c.requires.side c.requires.page;
-      part = c.below-below.ensures.quarter;
-      column = c.below-below.ensures.column;
-      row = c.below-below.ensures.row;
-    } in
-    let above = child-above c.args.self.now c.args.cuts c.args.part.quarter c.args.side c.args.part.square
-    c.args.page.now
-    i c.requires.coarse c.requires.in_square c.requires.quarter c.requires.side c.requires.page
-    c.below-below.result.quarter
-    c.below-below.result.square b in
+    let b = below (goal.at.returns-in-Some-clause-value c).After-below-below in
     let there = sym c.in-Some.ensures.value in
+    let above = child-above c.args.cuts c.args.part.quarter c.args.side i c.requires.coarse c.requires.in_square
+    c.requires.quarter c.requires.side c.requires.page b in
     c.half.ensures.value
     ∙ ap (λ b. half_in c.in-Some.finer.now (cond b 1 0)) c.is_upper.ensures.value
-    ∙ child-half c.args.self.now c.args.cuts c.args.part.quarter c.args.side c.args.part.square c.args.page.now
-    i c.requires.coarse c.requires.in_square c.requires.quarter c.requires.side c.requires.page
-    c.below-below.result.quarter
-    c.below-below.result.square b c.in-Some.finer.now law there
+    ∙ child-half c.args.cuts c.args.part.quarter c.args.side i c.requires.coarse c.requires.in_square c.requires.quarter
+    c.requires.side c.requires.page b law there
     (c.requires.joined c.below-below.result.square c.in-Some.finer.now above there)
 
 pub returns-in-Some-clause-thin : goal.returns-in-Some-clause-thin
 returns-in-Some-clause-thin c =
-    let i : IsTable c.args.self.now = subst IsTable c.self.view_is c.self.invariant in
-    subst (λ (w : KnownWedge). w.thickness ≤ 131070 * 28) (sym (half-is c))
-    (thin c.args.self.now (2 * in_tile c.args.cuts c.args.part.square (4 + c.args.part.quarter) + c.args.side) i)
-  where
-    half-is : goal.returns-in-Some-clause-value
-    half-is = returns-in-Some-clause-value
+    thin (2 * in_tile c.args.cuts c.args.part.square (4 + c.args.part.quarter) + c.args.side)
+    (subst IsTable c.self.view_is c.self.invariant) (returns-in-Some-clause-value c)
 
 pub returns-in-None-clause-value : goal.returns-in-None-clause-value
 returns-in-None-clause-value c =
-    let i : IsTable c.args.self.now = subst IsTable c.self.view_is c.self.invariant in
-    let b : IsBelow (2 * in_tile c.args.cuts c.args.part.square (4 + c.args.part.quarter) + c.args.side) c.args.cuts
-    c.args.part.quarter c.args.part.square (2 * c.args.side) c.below-below.result.quarter c.below-below.result.square =
-    record {
-      bits-are = child-bits c.args.self.now c.args.cuts c.args.part.quarter c.args.side c.args.part.square
-          c.args.page.now i
-          c.requires.coarse c.requires.in_square c.requires.quarter c.requires.side c.requires.page;
-      part = c.below-below.ensures.quarter;
-      column = c.below-below.ensures.column;
-      row = c.below-below.ensures.row;
-    } in
     c.own.ensures.value
     ∙ ap (own_wedge c.args.page.now.field) c.grandchild.ensures.value
-    ∙ child-own c.args.self.now c.args.cuts c.args.part.quarter c.args.side c.args.part.square c.args.page.now
-    i c.requires.coarse c.requires.in_square c.requires.quarter c.requires.side c.requires.page
-    c.below-below.result.quarter
-    c.below-below.result.square b (sym c.in-None.ensures.value)
+    ∙ child-own c.args.cuts c.args.part.quarter c.args.side (subst IsTable c.self.view_is c.self.invariant)
+    c.requires.coarse c.requires.in_square c.requires.quarter c.requires.side c.requires.page
+    (below (goal.at.returns-in-None-clause-value c).After-below-below) (sym c.in-None.ensures.value)

@@ -1,17 +1,14 @@
 -- By the finest page.
-use Rattle.std.proofs.Common.{◌+◌, ◌*◌, ◌≤◌, ap, sym, ◌∙◌, arith, subst, nat_lt}
+use Rattle.std.proofs.Common.{◌+◌, ◌*◌, ap, sym, ◌∙◌, arith, subst, nat_lt}
 use Rattle.mesh_defs.specs.Triangle.{level_of}
 use Rattle.page_store.specs.Store.{Store, IsTable}
 use Rattle.page_store.proofs.FoundLemmas.{found-known}
 use Rattle.page_store.proofs.table.Table.is_known.Goals as goal
 
 pub returns : goal.returns
-returns c =
-    let i : IsTable c.args.self.now = subst IsTable c.self.view_is c.self.invariant in
-    let low : 2 ≤ c.args.tri = omega (arith, c.number-address.ensures.value, c.number-address.ensures.low) in
-    record {
-      value = ap (λ l. nat_lt l (2 * (c.finest.result.cuts + c.self.inside.n))) c.level.ensures.value
-          ∙ ap (λ (s : Store). nat_lt (level_of c.args.tri) (2 * (c.finest.result.cuts + s.n))) c.self.view_is
-          ∙ sym (found-known c.args.self.now c.args.tri c.finest.result.cuts c.finest.result.part.quarter
-          c.finest.result.part.square c.finest.result.page.now i c.finest.ensures.found low c.finest.ensures.finest);
-    }
+returns c = record {
+  value = ap (λ l. nat_lt l (2 * (c.finest.result.cuts + c.self.inside.n))) c.level.ensures.value
+      ∙ ap (λ (s : Store). nat_lt (level_of c.args.tri) (2 * (c.finest.result.cuts + s.n))) c.self.view_is
+      ∙ sym (found-known (subst IsTable c.self.view_is c.self.invariant) c.finest.ensures.found
+      (omega (arith, c.number-address.ensures.value, c.number-address.ensures.low)) c.finest.ensures.finest);
+}

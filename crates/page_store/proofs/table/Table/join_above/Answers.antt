@@ -28,9 +28,7 @@ loop-cuts-preserved c =
           (above-step c.loop-cuts.self c.join_page.new.self (c.loop-cuts.cuts - 1) c.loop-cuts.square (omega arith)
           others
           joined);
-      grids = grids-then c.args.self.now c.loop-cuts.self c.join_page.new.self i.grids
-          (page-grids c.loop-cuts.self c.join_page.new.self (top_of c.loop-cuts.self - (c.loop-cuts.cuts - 1))
-          (square_above c.loop-cuts.square) joined);
+      grids = grids-then i.grids (page-grids joined);
       valid = c.join_page.ensures.valid;
     }
 

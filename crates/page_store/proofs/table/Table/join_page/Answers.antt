@@ -7,62 +7,37 @@ use Rattle.page_store.proofs.JoinLemmas.{finer-kept, page-joined}
 use Rattle.page_store.proofs.table.Table.join_page.Goals as goal
 
 -- of one resolution all the time
-top-same : (s s' : Store) (q : ℕ) (t : Point) (k : ℕ) → IsQuarterJoined s s' q t k → top_of s' ≡ top_of s
-top-same s s' q t k j = ap₂ (λ l m. l - m) j.large j.n
+top-same : {s s' : Store} {q : ℕ} {t : Point} {k : ℕ} → IsQuarterJoined s s' q t k → top_of s' ≡ top_of s
+top-same j = ap₂ (λ l m. l - m) j.large j.n
 
-at-top : (s a b : Store) (p : ℕ) (t : Point) (k : ℕ) → top_of a ≡ top_of s →
-    IsQuarterJoined a b (top_of a - p) t k → IsQuarterJoined a b (top_of s - p) t k
-at-top s a b p t k e j = subst (λ m. IsQuarterJoined a b (m - p) t k) e j
+at-top : {a b : Store} {m : ℕ} (p : ℕ) {t : Point} {k : ℕ} → top_of a ≡ m → IsQuarterJoined a b (top_of a - p) t k →
+    IsQuarterJoined a b (m - p) t k
+at-top {a} {b} p {t} {k} e j = subst (λ m. IsQuarterJoined a b (m - p) t k) e j
 
 pub join_quarter-requires-2-clause-joined : goal.join_quarter-requires-2-clause-joined
 join_quarter-requires-2-clause-joined c =
-    finer-kept c.args.self.now c.join_quarter.new.self c.args.cuts c.args.square 0 c.requires.coarse
-    c.join_quarter.ensures.joined c.requires.joined
+    finer-kept c.args.cuts c.requires.coarse c.join_quarter.ensures.joined c.requires.joined
 
 pub join_quarter-requires-3-clause-joined : goal.join_quarter-requires-3-clause-joined
 join_quarter-requires-3-clause-joined c =
-    let e = top-same c.args.self.now c.join_quarter.new.self (top_of c.args.self.now - c.args.cuts) c.args.square 0
-    c.join_quarter.ensures.joined in
-    finer-kept c.join_quarter.new.self c.join_quarter-2.new.self c.args.cuts c.args.square 1
-    (omega (arith, e, c.requires.coarse)) c.join_quarter-2.ensures.joined
-    (finer-kept c.args.self.now c.join_quarter.new.self c.args.cuts c.args.square 0
-    c.requires.coarse c.join_quarter.ensures.joined c.requires.joined)
+    let e = top-same c.join_quarter.ensures.joined in
+    finer-kept c.args.cuts (omega (arith, e, c.requires.coarse)) c.join_quarter-2.ensures.joined
+    (finer-kept c.args.cuts c.requires.coarse c.join_quarter.ensures.joined c.requires.joined)
 
 pub join_quarter-requires-4-clause-joined : goal.join_quarter-requires-4-clause-joined
 join_quarter-requires-4-clause-joined c =
-    let e = top-same c.args.self.now c.join_quarter.new.self (top_of c.args.self.now - c.args.cuts) c.args.square 0
-    c.join_quarter.ensures.joined in
-    let f = top-same c.join_quarter.new.self c.join_quarter-2.new.self (top_of c.join_quarter.new.self - c.args.cuts)
-    c.args.square 1 c.join_quarter-2.ensures.joined in
-    finer-kept c.join_quarter-2.new.self c.join_quarter-3.new.self c.args.cuts c.args.square 2
-    (omega (arith, e, f, c.requires.coarse)) c.join_quarter-3.ensures.joined
-    (finer-kept c.join_quarter.new.self c.join_quarter-2.new.self c.args.cuts c.args.square 1
-    (omega (arith, e, c.requires.coarse)) c.join_quarter-2.ensures.joined
-    (finer-kept c.args.self.now c.join_quarter.new.self c.args.cuts c.args.square 0
-    c.requires.coarse c.join_quarter.ensures.joined c.requires.joined))
+    let e = top-same c.join_quarter.ensures.joined in
+    let f = top-same c.join_quarter-2.ensures.joined in
+    finer-kept c.args.cuts (omega (arith, e, f, c.requires.coarse)) c.join_quarter-3.ensures.joined
+    (finer-kept c.args.cuts (omega (arith, e, c.requires.coarse)) c.join_quarter-2.ensures.joined
+    (finer-kept c.args.cuts c.requires.coarse c.join_quarter.ensures.joined c.requires.joined))
 
 pub returns-clause-joined : goal.returns-clause-joined
 returns-clause-joined c =
-    let s = c.args.self.now in
-    let p = c.args.cuts in
-    let t = c.args.square in
     let one = c.join_quarter.ensures.joined in
-    let a-top : top_of c.join_quarter.new.self ≡ top_of c.args.self.now =
-    top-same c.args.self.now c.join_quarter.new.self (top_of c.args.self.now - c.args.cuts) c.args.square 0 one in
-    let two = at-top c.args.self.now c.join_quarter.new.self c.join_quarter-2.new.self c.args.cuts c.args.square 1 a-top
-    c.join_quarter-2.ensures.joined in
-    let b-top : top_of c.join_quarter-2.new.self ≡ top_of c.args.self.now =
-    top-same c.join_quarter.new.self c.join_quarter-2.new.self (top_of c.args.self.now - c.args.cuts) c.args.square 1
-    two
-    ∙ a-top in
-    let three = at-top c.args.self.now c.join_quarter-2.new.self c.join_quarter-3.new.self c.args.cuts c.args.square 2
-    b-top
-    c.join_quarter-3.ensures.joined in
-    let c-top : top_of c.join_quarter-3.new.self ≡ top_of c.args.self.now =
-    top-same c.join_quarter-2.new.self c.join_quarter-3.new.self (top_of c.args.self.now - c.args.cuts) c.args.square 2
-    three ∙ b-top in
-    let four = at-top c.args.self.now c.join_quarter-3.new.self c.join_quarter-4.new.self c.args.cuts c.args.square 3
-    c-top
-    c.join_quarter-4.ensures.joined in
-    page-joined c.args.self.now c.join_quarter.new.self c.join_quarter-2.new.self c.join_quarter-3.new.self
-    c.join_quarter-4.new.self (top_of c.args.self.now - c.args.cuts) c.args.square one two three four
+    let a : top_of c.join_quarter.new.self ≡ top_of c.args.self.now = top-same one in
+    let two = at-top c.args.cuts a c.join_quarter-2.ensures.joined in
+    let b : top_of c.join_quarter-2.new.self ≡ top_of c.args.self.now = top-same two ∙ a in
+    let three = at-top c.args.cuts b c.join_quarter-3.ensures.joined in
+    let d : top_of c.join_quarter-3.new.self ≡ top_of c.args.self.now = top-same three ∙ b in
+    page-joined one two three (at-top c.args.cuts d c.join_quarter-4.ensures.joined)

@@ -22,8 +22,7 @@ loop-x-preserved c =
     subst (λ k. IsPageJoined c.loop-x.self c.join_page.new.self k (record { x = c.loop-x.x; y = c.args.y })) e
     c.join_page.ensures.joined in
     record {
-      grids = grids-then c.args.self.now c.loop-x.self c.join_page.new.self i.grids
-          (page-grids c.loop-x.self c.join_page.new.self c.args.q (record { x = c.loop-x.x; y = c.args.y }) joined);
+      grids = grids-then i.grids (page-grids joined);
       joined = join-square c.loop-x.self c.join_page.new.self
           (area_between c.args.low.x c.args.low.y c.args.high.x c.args.high.y) c.args.q c.args.y c.loop-x.x joined i.joined;
       valid = c.join_page.ensures.valid;

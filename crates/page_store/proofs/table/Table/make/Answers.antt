@@ -42,18 +42,4 @@ invariant_of-result c =
     field.n_low c.requires.small field c.requires.turned)
 
 pub returns-clause-valid : goal.returns-clause-valid
-returns-clause-valid c =
-    let n : c.n-n.result ≡ c.args.root.field.n = c.n-n.ensures.value
-    ∙ ap (λ (g : HeightField). g.n) c.grid.ensures.value in
-    let field : IsHeightField c.args.root.field = c.grid.ensures.valid in
-    subst (λ m. IsTable (record {
-      large = c.args.large;
-      n = m;
-      pages =
-          slice_set c.in_ok-pages.pages.items 0 (Some c.args.root);
-    }))
-    (sym n)
-    (first-table c.args.large c.args.root c.in_ok-pages.pages.items c.requires.fits
-    (c.in_ok-pages.ensures.value
-    ∙ ap (λ k. replicate k None) (places-are c.args.large c.args.root.field.n c.n-n.result c.requires.small n))
-    field.n_low c.requires.small field c.requires.turned)
+returns-clause-valid c = invariant_of-result c

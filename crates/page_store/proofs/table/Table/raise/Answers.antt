@@ -7,7 +7,7 @@ use Rattle.page_store.proofs.RaiseLemmas.{IsAllRaised, all-raised, table-sized}
 use Rattle.page_store.proofs.table.Table.raise.Goals as goal
 
 pub pages-requires-clause-sized : goal.pages-requires-clause-sized
-pages-requires-clause-sized c = table-sized _ c.args.self.now c.self.view_is c.requires.joined.table
+pages-requires-clause-sized c = table-sized c.self.view_is c.requires.joined.table
 
 module _ (c : goal.After-pages) where
   abbrev after : Store
@@ -18,7 +18,7 @@ module _ (c : goal.After-pages) where
   done = subst (λ (z : ℤ). IsAllRaised c.args.self.now after
       (area_between c.args.low.x c.args.low.y c.args.high.x c.args.high.y) z c.pages.result)
       (to_z-of_z w32 c.args.dz c.ranges.dz)
-      (all-raised _ c.args.self.now after _ _ c.pages.result c.self.view_is c.requires.joined c.pages.ensures.raised)
+      (all-raised c.self.view_is c.requires.joined c.pages.ensures.raised)
 
 pub invariant_of-self : goal.invariant_of-self
 invariant_of-self c = (done c).valid
