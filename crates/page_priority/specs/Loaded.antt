@@ -15,7 +15,7 @@ use Rattle.page_laws.specs.declared.wedge.KnownWedge.{KnownWedge}
 use Rattle.page_laws.specs.Opened.{with_known_mate, opened}
 use Rattle.page_laws.specs.Pages.{Pages, is_known}
 use Rattle.page_laws.specs.Loaded.{known_wedge, known_box, known_priority}
-use Rattle.page_priority.specs.declared.reach.TheConstants.{LONGEST_WAY}
+use Rattle.page_priority.specs.declared.reach.TheConstants.{LONGEST_SLACK}
 
 -- the pages of a terrain, the heights that the loaded ones have, and the view
 pub record LoadedState : Type 0 where
@@ -60,7 +60,7 @@ loaded_priorities s = record { n = s.pages.large; of = loaded_priority s }
 -- what is not open has priority 0 from each place
 abbrev pub loaded_readings : LoadedState → Readings
 loaded_readings s = record {
-  slack = λ a. cond (is_open s a) (loaded_distance s a / 8) LONGEST_WAY;
+  slack = λ a. cond (is_open s a) (loaded_distance s a / 8) LONGEST_SLACK;
   upper = λ a. loaded_priority_at s a (loaded_distance s a - loaded_distance s a / 8);
   lower = λ a. loaded_priority_at s a (loaded_distance s a + loaded_distance s a / 8);
 }

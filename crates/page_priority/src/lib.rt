@@ -14,6 +14,6 @@ mod viewpoint;
 
 pub use gauge::LoadedGauge;
 pub use laws::{loaded_laws, nesting_laws};
-pub use reach::LONGEST_WAY;
+pub use reach::LONGEST_SLACK;
 pub use scene::LoadedScene;
 pub use viewpoint::Viewpoint;

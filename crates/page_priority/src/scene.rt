@@ -8,7 +8,7 @@ ghost use Rattle.page_priority.specs.Loaded.{is_open, loaded_wedge, loaded_box, 
 ghost use Rattle.page_priority.specs.Loaded.{loaded_priority, loaded_readings};
 ghost use Rattle.page_priority.specs.Scene.{loaded_in};
 
-use crate::{LONGEST_WAY, Viewpoint, nesting_laws};
+use crate::{LONGEST_SLACK, Viewpoint, nesting_laws};
 use bintree_addr::{Cuboid, Rank, Tri};
 use page_store::PageStore;
 use std::marker::Model;
@@ -56,7 +56,7 @@ impl<'a> LoadedScene<'a> {
     pub fn bounds_by_slack(&self, t: Tri, meter: &mut Meter) -> (u64, Bounds)
         requires level { level_of t ≤ 2 * self.now.store.large }
         ensures slack { result.0 ≡ (loaded_readings (loaded_in self.now)).slack t }
-        ensures small { result.0 ≤ LONGEST_WAY }
+        ensures small { result.0 ≤ LONGEST_SLACK }
         ensures hi_tri { result.1.hi.tri ≡ t }
         ensures lo_tri { result.1.lo.tri ≡ t }
         ensures hi { result.1.hi.p ≡ (loaded_readings (loaded_in self.now)).upper t }
@@ -72,7 +72,7 @@ impl<'a> LoadedScene<'a> {
             None => {
                 let hi = Rank { p: 0, tri: t };
                 let lo = hi;
-                (LONGEST_WAY, Bounds { hi, lo })
+                (LONGEST_SLACK, Bounds { hi, lo })
             }
         }
     }
