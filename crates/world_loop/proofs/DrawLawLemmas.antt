@@ -1,13 +1,12 @@
 -- What draws are: runs of triangles of one page each, one behind the other.
-use Rattle.std.proofs.Common.{◌≡◌, ℕ, zero, suc, ◌+◌, ◌*◌, ◌/◌, ◌≤◌, true, false, IsTrue, ◌||◌, nat_eq, cond, inl, inr, refl, sym, ◌&&◌, ◌<◌}
-use Rattle.std.proofs.Common.{◌∙◌, ap, subst, arith, ⊎_elim, List, [], ◌∷◌, ◌++◌, length, map, replicate, append_assoc, Bool}
+use Rattle.std.proofs.Common.{◌≡◌, ℕ, suc, ◌+◌, ◌*◌, ◌/◌, ◌≤◌, true, false, IsTrue, ◌||◌, nat_eq, cond, inl, inr, refl, sym, ◌&&◌, ◌<◌}
+use Rattle.std.proofs.Common.{◌∙◌, ap, subst, arith, ⊎_elim, List, [], ◌∷◌, ◌++◌, length, map, replicate, append_assoc}
 use Rattle.std.proofs.lemmas.Bool.{cases_Bool, and_parts, eqb-true}
 use Rattle.std.proofs.lemmas.List.{replicate-append-replicate}
 use Rattle.mesh_defs.specs.declared.point.Point.{Point}
 use Rattle.mesh_defs.specs.ClosedSet.{IsSubset}
 use Rattle.mesh_laws.specs.Edge.{mate_of}
 use Rattle.mesh_laws.proofs.DescentLemmas.{All-leaves_of}
-use Rattle.bintree_laws.proofs.LatticeLemmas.{same_point}
 use Rattle.page_store.specs.declared.locate.PageTriangle.{PageTriangle}
 use Rattle.page_store.specs.Store.{Store, known_in}
 use Rattle.page_store.specs.Locate.{IsInReach}

@@ -1,5 +1,5 @@
 -- The draws of triangles, made one triangle after another.
-use Rattle.std.proofs.Common.{◌≡◌, ℕ, zero, suc, ◌+◌, ◌-◌, ◌*◌, ◌^◌, ◌<◌, ◌≤◌, Bool, true, false, ◌&&◌, nat_eq, cond, refl, sym}
+use Rattle.std.proofs.Common.{◌≡◌, ℕ, suc, ◌+◌, ◌-◌, ◌*◌, ◌^◌, ◌<◌, ◌≤◌, true, false, ◌&&◌, nat_eq, cond, refl, sym}
 use Rattle.std.proofs.Common.{◌∙◌, ap, ap₂, subst, arith, ⊎_elim, List, [], ◌∷◌, ◌++◌, length, take, drop, get_or, set, map}
 use Rattle.std.proofs.Common.{Option, None, Some, append_assoc, All, drop-cons, length-append}
 use Rattle.std.specs.Option.{IfSome}
@@ -8,10 +8,9 @@ use Rattle.std.proofs.Math.Seq.{take-append_seam}
 use Rattle.std.proofs.lemmas.List.{append-nil, take_more, length-take-le, at_drop_all, drop-map}
 use Rattle.std.proofs.lemmas.Slice.{drop-append-drop}
 use Rattle.std.proofs.lemmas.Grind.{flat_map-append}
-use Rattle.std.proofs.lemmas.Bool.{cases_Bool, and_parts, and_from, eqb-true, eq-eqb}
+use Rattle.std.proofs.lemmas.Bool.{cases_Bool, and_parts, eqb-true}
 use Rattle.std.proofs.lemmas.List.Elements.{All-weaker}
 use Rattle.mesh_defs.specs.Triangle.{level_of, IsAddress}
-use Rattle.mesh_defs.specs.ClosedSet.{leaves_of}
 use Rattle.bintree_laws.proofs.LevelLemmas.{level-le}
 use Rattle.mesh_laws.proofs.DescentLemmas.{IsAddress-leaves_of}
 use Rattle.mesh_laws.proofs.LeafLemmas.{leaves-most}
@@ -20,6 +19,7 @@ use Rattle.page_store.specs.declared.locate.PageTriangle.{PageTriangle}
 use Rattle.world_loop.specs.declared.draws.Draw.{Draw}
 use Rattle.page_store.specs.Store.{Store}
 use Rattle.page_store.specs.Locate.{page_triangle}
+use Rattle.world_loop.specs.World.{WorldState, is_split, mesh_seen}
 use Rattle.world_loop.specs.Draws.{located, draw_at, are_of_one_page, joined, draws_from, goes_on, with_next}
 
 -- pages
@@ -147,20 +147,20 @@ so_far-next all ended rest r k count (Some d) h = ⊎_elim
     (cases_Bool (are_of_one_page d (draw_at r 0)))
 
 -- at the end
-pub so_far-all : (all ended : List Draw) (k count : ℕ) (last : Option Draw) → AreSoFar all [] k count last ended →
+pub so_far-all : {all ended : List Draw} {k count : ℕ} {last : Option Draw} → AreSoFar all [] k count last ended →
     all ≡ ended ++ listed last
-so_far-all all ended k count None h = h.split
-so_far-all all ended k count (Some d) h = h.split
+so_far-all {last = None} h = h.split
+so_far-all {last = Some d} h = h.split
 
-pub so_far-count : (all ended : List Draw) (k count : ℕ) (last : Option Draw) → AreSoFar all [] k count last ended →
+pub so_far-count : {all ended : List Draw} {k count : ℕ} {last : Option Draw} → AreSoFar all [] k count last ended →
     count ≡ length all
-so_far-count all ended k count last h =
-    h.counted ∙ sym (length-append ended (listed last)) ∙ ap length (sym (so_far-all all ended k count last h))
+so_far-count {ended = ended} {last = last} h =
+    h.counted ∙ sym (length-append ended (listed last)) ∙ ap length (sym (so_far-all h))
 
 -- in the middle there is room for the last
-pub so_far-room : (all ended : List Draw) (rest : List PageTriangle) (k count : ℕ) (d : Draw) →
+pub so_far-room : {all ended : List Draw} {rest : List PageTriangle} {k count : ℕ} {d : Draw} →
     AreSoFar all rest k count (Some d) ended → (count ≡ length ended + 1) × (count ≤ length all)
-so_far-room all ended rest k count d h =
+so_far-room {all} {ended} {rest} {k} {count} {d} h =
     let some = joined-some d (draws_from k rest) in
     let counted = h.counted in
     let whole : length all ≡ length ended + length (joined d (draws_from k rest)) =
@@ -199,7 +199,7 @@ pub written-next : (all ended start array : List Draw) (rest : List PageTriangle
     ≡ (with_ended ended last r ++ (with_next last r k ∷ [])) ++ drop (cond (goes_on last r) count (count + 1)) start
 written-next all ended start array rest r k count None h room was =
     let next = so_far-next all ended rest r k count None h in
-    let fits = so_far-room all (ended ++ []) rest (suc k) (count + 1) (draw_at r k) next in
+    let fits = so_far-room next in
     let fits' = fits.1 in
     let long : length (ended ++ []) ≡ count = omega (arith, h.counted, length-append ended []) in
     let back : count + 1 - 1 ≡ count = omega arith in
@@ -222,7 +222,7 @@ written-next all ended start array rest r k count (Some d) h room was = ⊎_elim
     subst (λ b. AreSoFar all rest (suc k) (cond b count (count + 1))
     (Some (cond b (record d { triangles = d.triangles + 1 }) (draw_at r k))) (cond b ended (ended ++ (d ∷ [])))) not
     (so_far-next all ended rest r k count (Some d) h) in
-    let fits = so_far-room all (ended ++ (d ∷ [])) rest (suc k) (count + 1) (draw_at r k) next in
+    let fits = so_far-room next in
     let fits' = fits.1 in
     let long : length (ended ++ (d ∷ [])) ≡ count = omega (arith, h.counted, length-append ended (d ∷ [])) in
     let back : count + 1 - 1 ≡ count = omega arith in
@@ -247,9 +247,9 @@ pub located-end : (s : Store) (triangles : List ℕ) (k : ℕ) → length triang
 located-end s triangles k more =
     drop-map (page_triangle s) k triangles ∙ ap (map (page_triangle s)) (at_drop_all (λ (xs : List ℕ). xs) triangles k more)
 
-module _ (s : Store) (triangles : List ℕ) (all : List Draw) (k a count : ℕ) (last : Option Draw) (ended : List Draw)
+module _ (s : Store) (triangles : List ℕ) {all : List Draw} {k a count : ℕ} {last : Option Draw} {ended : List Draw}
     (less : k < length triangles) (is : a ≡ get_or triangles k a)
-    (h : AreSoFar all (drop k (located s triangles)) k count last ended) (count' : ℕ) (next : Draw)
+    (h : AreSoFar all (drop k (located s triangles)) k count last ended) {count' : ℕ} {next : Draw}
     (count-is : count' ≡ cond (goes_on last (page_triangle s a)) count (count + 1))
     (next-is : next ≡ with_next last (page_triangle s a) k) where
   here : AreSoFar all (page_triangle s a ∷ drop (suc k) (located s triangles)) k count last ended
@@ -307,16 +307,22 @@ indices-next f triangles k a at start was now three less is place so_far written
     threes [] = omega arith
     threes (x ∷ xs) = omega (arith, threes xs, three x, length-append (f x) (flat_map f xs))
 
--- leaves
+-- the triangles of a world's mesh
 
--- a grid's leaves are its triangles
-pub leaves-levels : (n : ℕ) (has : ℕ → Bool) → All (λ a. level_of a ≤ 2 * n) (leaves_of n has)
-leaves-levels n has =
-    All-weaker (IsAddress n) (λ a. level_of a ≤ 2 * n) (λ a h. level-le n a h) (leaves_of n has) (IsAddress-leaves_of n has)
+-- they are of its grid
+pub seen-levels : {v w : WorldState} {seen : List ℕ} → v ≡ w → seen ≡ mesh_seen w →
+    All (λ a. level_of a ≤ 2 * v.store.large) seen
+seen-levels {v} same is =
+    let n : ℕ = v.store.large in
+    subst (λ xs. All (λ a. level_of a ≤ 2 * v.store.large) xs) (ap mesh_seen same ∙ sym is)
+    (All-weaker (IsAddress n) (λ a. level_of a ≤ 2 * n) (λ a h. level-le n a h) (mesh_seen v)
+    (IsAddress-leaves_of n (is_split v)))
 
 -- and fewer than numbers of 32 bits
-pub leaves-few : (n : ℕ) (has : ℕ → Bool) → n ≤ 14 → length (leaves_of n has) < 4294967296
-leaves-few n has small =
-    let most = leaves-most n has in
+pub seen-few : {v w : WorldState} {seen : List ℕ} → v ≡ w → seen ≡ mesh_seen w → v.store.large ≤ 14 →
+    length seen < 4294967296
+seen-few {v} same is small =
+    let n : ℕ = v.store.large in
+    let most = leaves-most n (is_split v) in
     let high : 4 ^ n ≤ 4 ^ 14 = pow-le-pow_right {n = 4} (let h : 0 < 4 = omega arith in h) small in
-    omega arith
+    subst (λ (xs : List ℕ). length xs < 4294967296) (ap mesh_seen same ∙ sym is) (omega arith)

@@ -1,5 +1,5 @@
 -- Planes that turn: what keeps its priority.
-use Rattle.std.proofs.Common.{◌≡◌, ◌↔◌, ℕ, Bool, cond, true, false, List, refl, sym, ◌∙◌}
+use Rattle.std.proofs.Common.{◌≡◌, ◌↔◌, ℕ, Bool, true, false, List, refl}
 use Rattle.std.proofs.lemmas.Bool.{true≢false}
 use Rattle.mesh_defs.specs.declared.mark.Mark.{Mark}
 use Rattle.mesh_defs.specs.declared.mark.Mark.TheVariants.{Inside, Cut, Outside}

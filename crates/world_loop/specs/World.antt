@@ -1,11 +1,12 @@
 -- A world between two calls: what is loaded of a terrain, a view of it, and the mesh that follows the view.
 -- All of it is this project's own.
 -- Words: WorldState, world_of, loaded_of, sight_of, priority_in, is_split, mesh_seen, IsWorld, IsWorn, IsFrameDone,
--- IsStill.
-use Rattle.std.specs.Prelude.{◌≡◌, ◌⊎◌, ℕ, ◌*◌, ◌^◌, ◌≤◌, min, Bool, List, length}
+-- IsStill, IsKept.
+use Rattle.std.specs.Prelude.{◌≡◌, ◌⊎◌, ℕ, ◌*◌, ◌^◌, ◌≤◌, min, Bool, List, length, Option, Some}
 use Rattle.mesh_defs.specs.declared.counters.TheConstants.{CHANGES_AT_FRAME, LONGEST_WAY}
 use Rattle.mesh_defs.specs.ClosedSet.{leaves_of, among}
 use Rattle.mesh_defs.specs.View.{View}
+use Rattle.mesh_laws.specs.Slots.{split_set}
 use Rattle.wedgie_tree.specs.declared.wedges.TheConstants.{GREATEST_SPACING}
 use Rattle.triangle_pool.specs.declared.pool.TheConstants.{MOST_LEAVES}
 use Rattle.roam_mesh.specs.Mesh.{MeshState, pool_members}
@@ -92,3 +93,9 @@ pub record IsFrameDone (before after : WorldState) (note : WorldNote) : Type 0 w
 -- A frame from here does nothing, and this is what it tells.
 abbrev pub IsStill : WorldState → WorldNote → Type 0
 IsStill w note = IsFrameDone w w note
+
+-- What holds of a world with its list of leaves, which has room for those of the mesh, and what a frame would tell, if it
+-- would do nothing.
+abbrev pub IsKept : WorldState → List ℕ → ℕ → Option WorldNote → Type 0
+IsKept w leaves most still = IsWorld w × (leaves ≡ leaves_of w.store.large (split_set w.mesh.pool.pairs))
+    × (most ≡ w.mesh.pool.most) × ((note : WorldNote) → still ≡ Some note → IsStill w note)

@@ -11,11 +11,10 @@ ghost use Rattle.page_store.specs.Store.{pages_of, maxval_of, height_in};
 ghost use Rattle.page_store.specs.Edit.{HasLoadedPoint, IsRaisedTerrain};
 ghost use Rattle.view_mesh.specs.Expiry.{IsExpired};
 
+use crate::laws::change_laws;
 use crate::world::World;
 use mesh_defs::Point;
-use page_laws::height_laws;
-use page_priority::loaded_laws;
-use view_mesh::{expire_area, sight_laws};
+use view_mesh::expire_area;
 use wedgie_tree::Area;
 
 impl World {
@@ -37,9 +36,7 @@ impl World {
             (λ a. overlaps (corners_of self.old.store.large a) (area_between p.x p.y p.x p.y)) }
         ensures none { result ≡ false → self.new ≡ self.old }
     {
-        height_laws();
-        loaded_laws();
-        sight_laws();
+        change_laws();
         let _before = self.store.large();
         let _only = self.mesh.pool();
         if !self.store.set_height(p, h) {
@@ -69,9 +66,7 @@ impl World {
             (λ a. overlaps (corners_of self.old.store.large a) (area_between x0 y0 x1 y1)) }
         ensures none { result ≡ false → self.new ≡ self.old }
     {
-        height_laws();
-        loaded_laws();
-        sight_laws();
+        change_laws();
         let _before = self.store.large();
         let _only = self.mesh.pool();
         if !self.store.raise(x0, y0, x1, y1, dz) {

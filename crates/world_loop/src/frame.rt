@@ -21,9 +21,10 @@ ghost use Rattle.world_loop.specs.World.{loaded_of, sight_of, priority_in, is_sp
 use crate::laws::world_laws;
 use crate::listing::list_changed;
 use crate::note::{WorldNote, Worn};
+use crate::scene::scene_of;
 use crate::world::World;
 use mesh_defs::CHANGES_AT_FRAME;
-use page_priority::{LoadedGauge, LoadedScene, Viewpoint, loaded_laws};
+use page_priority::{LoadedGauge, LoadedScene, loaded_laws};
 use roam_mesh::Mesh;
 use view_mesh::{advance, still_laws};
 use view_priority::Meter;
@@ -91,16 +92,7 @@ impl World {
         world_laws();
         still_laws();
         let _valid = self.store.large();
-        let viewpoint = Viewpoint {
-            camera: &self.camera,
-            spacing: self.spacing,
-            planes: &self.planes,
-            threshold: self.threshold,
-        };
-        let scene = LoadedScene {
-            store: &self.store,
-            viewpoint,
-        };
+        let scene = scene_of!(self);
         let _before = self.mesh.pool();
         let note = advance_mesh(&mut self.mesh, scene, self.budget, self.odometer);
         list_changed(self.mesh.pool(), self.mesh.changed(), &mut self.list);

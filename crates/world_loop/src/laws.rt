@@ -1,16 +1,62 @@
 //! What a frame and other calls rest on, as laws.
 
-ghost use Rattle.std.specs.Prelude.{◌≡◌, ℕ};
-ghost use Rattle.page_laws.specs.Pages.{IsPyramid};
-ghost use Rattle.page_priority.specs.Loaded.{LoadedState};
-ghost use Rattle.view_mesh.specs.Sight.{IsSound};
-ghost use Rattle.world_loop.specs.World.{sight_of};
+ghost use Rattle.std.specs.Prelude.{◌≡◌, ℕ, ◌+◌, ◌≤◌, Bool, false, List, Option, None};
+ghost use Rattle.mesh_defs.specs.declared.point.Point.{Point};
+ghost use Rattle.mesh_defs.specs.State.{Area, is_in_area};
+ghost use Rattle.mesh_defs.specs.Triangle.{corners_of, IsAddress};
+ghost use Rattle.mesh_defs.specs.View.{View, ViewPlane};
+ghost use Rattle.bintree_laws.specs.Areas.{overlaps};
+ghost use Rattle.roam_mesh.specs.Mesh.{MeshState, OnlyEntriesStamped};
+ghost use Rattle.page_laws.specs.Pages.{IsPyramid, page_area};
+ghost use Rattle.page_store.specs.Store.{Store, pages_of, height_in};
+ghost use Rattle.page_store.specs.Change.{AreOthersSame, AreHeightsSame};
+ghost use Rattle.page_priority.specs.Loaded.{LoadedState, loaded_within};
+ghost use Rattle.page_priority.specs.Scene.{loaded_in};
+ghost use Rattle.view_mesh.specs.Expiry.{IsExpired};
+ghost use Rattle.view_mesh.specs.Sight.{IsSound, IsSamePriority};
+ghost use Rattle.world_loop.specs.declared.note.WorldNote.{WorldNote};
+ghost use Rattle.world_loop.specs.Turn.{is_turned};
+ghost use Rattle.world_loop.specs.World.{WorldState, loaded_of, sight_of, IsKept};
 
+use page_laws::{area_laws, height_laws};
 use page_priority::loaded_laws;
+use view_mesh::sight_laws;
 
 /// What is loaded can be followed: priorities fall, and readings bracket them.
 pub fn world_laws()
     ensures sound { (s : LoadedState) → IsPyramid s.pages → IsSound (sight_of s) }
 {
     loaded_laws();
+}
+
+/// What stays where a call changes what is loaded or seen.
+///
+/// A triangle keeps its priority, from every place, if its bounding rectangle does not meet the square of a page that is
+/// loaded (`page`) or the area where heights change (`heights`), or if planes do not turn it (`planes`). Where the stamps of
+/// all others expired, a world is one again (`again`).
+pub(crate) fn change_laws()
+    ensures page { (s more : Store) (q : ℕ) (t : Point) (view : View) → more.large ≡ s.large → more.n ≡ s.n →
+        AreOthersSame s more q t → s.n + q ≤ s.large → IsPyramid (pages_of s) → AreHeightsSame s s more → (a : ℕ) →
+        2 ≤ a → overlaps (corners_of s.large a) (page_area (pages_of s) q t) ≡ false →
+        IsSamePriority (sight_of (loaded_in (record { store = s; view = view })))
+        (sight_of (loaded_in (record { store = more; view = view }))) a }
+    ensures heights { (s more : Store) (area : Area) (view : View) → pages_of more ≡ pages_of s →
+        ((p : Point) → is_in_area area p.x p.y ≡ false → height_in more p ≡ height_in s p) → (a : ℕ) → 2 ≤ a →
+        overlaps (corners_of s.large a) area ≡ false →
+        IsSamePriority (sight_of (loaded_in (record { store = s; view = view })))
+        (sight_of (loaded_in (record { store = more; view = view }))) a }
+    ensures planes { (s : LoadedState) (planes : List ViewPlane) (a : ℕ) → is_turned s planes a ≡ false →
+        IsSamePriority (sight_of s) (sight_of (loaded_within planes s)) a }
+    ensures again { (w : WorldState) (leaves : List ℕ) (most : ℕ) (still : Option WorldNote) (store : Store)
+        (view : View) (mesh : MeshState) (expired : ℕ → Bool) → IsKept w leaves most still →
+        OnlyEntriesStamped w.mesh → store.large ≡ w.store.large → view.camera ≡ w.view.camera →
+        view.spacing ≡ w.view.spacing → IsExpired w.mesh mesh expired →
+        ((a : ℕ) → IsAddress w.store.large a → expired a ≡ false → IsSamePriority (sight_of (loaded_of w))
+        (sight_of (loaded_in (record { store = store; view = view }))) a) →
+        IsKept (record w { store = store; view = view; mesh = mesh }) leaves most None }
+{
+    area_laws();
+    height_laws();
+    loaded_laws();
+    sight_laws();
 }

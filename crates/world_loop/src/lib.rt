@@ -15,6 +15,7 @@ mod look;
 mod moves;
 mod note;
 mod paging;
+mod scene;
 mod world;
 
 pub use cull_marks::Planes;

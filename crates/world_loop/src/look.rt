@@ -7,12 +7,14 @@ ghost use Rattle.view_mesh.specs.Expiry.{IsExpired};
 ghost use Rattle.world_loop.specs.World.{loaded_of};
 ghost use Rattle.world_loop.specs.Turn.{is_turned};
 
+use crate::laws::change_laws;
+use crate::scene::scene_of;
 use crate::world::World;
 use bintree_addr::{Cuboid, Tri};
 use cull_marks::Planes;
 use page_laws::pyramid_laws;
-use page_priority::{LoadedScene, Viewpoint, loaded_laws, nesting_laws};
-use view_mesh::{Boxes, expire_turned, sight_laws};
+use page_priority::{LoadedScene, nesting_laws};
+use view_mesh::{Boxes, expire_turned};
 
 impl World {
     /// Puts a whole set of planes in force in the place of those before, and expires the stamps of what they turn.
@@ -29,20 +31,10 @@ impl World {
         ensures mesh { IsExpired self.old.mesh self.new.mesh
             (is_turned (loaded_of self.old) planes.now) }
     {
-        loaded_laws();
-        sight_laws();
+        change_laws();
         let _only = self.mesh.pool();
         self.still = None;
-        let viewpoint = Viewpoint {
-            camera: &self.camera,
-            spacing: self.spacing,
-            planes: &self.planes,
-            threshold: self.threshold,
-        };
-        let scene = LoadedScene {
-            store: &self.store,
-            viewpoint,
-        };
+        let scene = scene_of!(self);
         expire_turned(&mut self.mesh, &OpenBoxes { scene }, &self.planes, planes);
         self.planes.put(planes);
     }

@@ -1,23 +1,22 @@
 //! Pages that come and go.
 
-ghost use Rattle.std.specs.Prelude.{◌≡◌, ℕ, ◌+◌, ◌<◌, ◌≤◌, ◌^◌, OnOk, OnErr, IfOk, IfErr, Some, None};
-ghost use Rattle.mesh_defs.specs.declared.point.Point.{Point};
+ghost use Rattle.std.specs.Prelude.{◌≡◌, ◌+◌, ◌<◌, ◌≤◌, ◌^◌, OnOk, OnErr, IfOk, IfErr, Some, None};
 ghost use Rattle.mesh_defs.specs.Triangle.{corners_of};
 ghost use Rattle.bintree_laws.specs.Areas.{overlaps};
 ghost use Rattle.mosaic_laws.specs.Tile.{IsTile};
-ghost use Rattle.page_laws.specs.Pages.{IsLoadedPoint, page_area};
+ghost use Rattle.page_laws.specs.Pages.{page_area};
 ghost use Rattle.page_wedges.specs.Page.{IsAlone};
-ghost use Rattle.page_store.specs.Store.{page_at, grid_at, pages_of, cuts_of, height_in};
+ghost use Rattle.page_store.specs.Store.{page_at, grid_at, pages_of, cuts_of};
+ghost use Rattle.page_store.specs.Change.{AreOthersSame, AreHeightsSame};
 ghost use Rattle.page_store.specs.Load.{CanLoad, IsLoadFault};
 ghost use Rattle.page_store.specs.Unload.{IsFree, IsUnloadFault};
 ghost use Rattle.view_mesh.specs.Expiry.{IsExpired};
 
+use crate::laws::change_laws;
 use crate::world::World;
 use mesh_defs::Point;
-use page_laws::{area_laws, height_laws};
-use page_priority::loaded_laws;
 use page_store::{LoadFault, PageStore, PageWedges, UnloadFault};
-use view_mesh::{expire_area, sight_laws};
+use view_mesh::expire_area;
 use wedgie_tree::Area;
 
 impl World {
@@ -35,10 +34,8 @@ impl World {
         requires alone { IsAlone page }
         ensures ok { OnOk result (CanLoad self.old.store q square page.field) }
         ensures loaded { OnOk result (grid_at self.new.store q square ≡ Some page.field) }
-        ensures others { OnOk result ((r : ℕ) (u : Point) → (r ≡ q → u ≡ square → ⊥) →
-            grid_at self.new.store r u ≡ grid_at self.old.store r u) }
-        ensures heights { OnOk result ((p : Point) → IsLoadedPoint (pages_of self.old.store) p →
-            height_in self.new.store p ≡ height_in self.old.store p) }
+        ensures others { OnOk result (AreOthersSame self.old.store self.new.store q square) }
+        ensures heights { OnOk result (AreHeightsSame self.old.store self.old.store self.new.store) }
         ensures rest { self.new ≡ record self.old { store = self.new.store; mesh = self.new.mesh } }
         ensures mesh { OnOk result (IsExpired self.old.mesh self.new.mesh
             (λ a. overlaps (corners_of self.old.store.large a) (page_area (pages_of self.old.store) q square))) }
@@ -46,10 +43,7 @@ impl World {
         ensures refused { IfErr result (λ e. e.1 ≡ page) }
         ensures err { OnErr result (self.new ≡ self.old) }
     {
-        area_laws();
-        height_laws();
-        loaded_laws();
-        sight_laws();
+        change_laws();
         let _before = self.store.large();
         let _only = self.mesh.pool();
         match self.store.load(q, square, page) {
@@ -72,20 +66,15 @@ impl World {
         ensures alone { IfOk result IsAlone }
         ensures ok { OnOk result ((self.old.store.n + q < self.old.store.large) × IsFree self.old.store q square) }
         ensures gone { OnOk result (grid_at self.new.store q square ≡ None) }
-        ensures others { OnOk result ((r : ℕ) (u : Point) → (r ≡ q → u ≡ square → ⊥) →
-            grid_at self.new.store r u ≡ grid_at self.old.store r u) }
-        ensures heights { OnOk result ((p : Point) → IsLoadedPoint (pages_of self.new.store) p →
-            height_in self.new.store p ≡ height_in self.old.store p) }
+        ensures others { OnOk result (AreOthersSame self.old.store self.new.store q square) }
+        ensures heights { OnOk result (AreHeightsSame self.new.store self.old.store self.new.store) }
         ensures rest { self.new ≡ record self.old { store = self.new.store; mesh = self.new.mesh } }
         ensures mesh { OnOk result (IsExpired self.old.mesh self.new.mesh
             (λ a. overlaps (corners_of self.old.store.large a) (page_area (pages_of self.old.store) q square))) }
         ensures fault { IfErr result (IsUnloadFault self.old.store q square) }
         ensures err { OnErr result (self.new ≡ self.old) }
     {
-        area_laws();
-        height_laws();
-        loaded_laws();
-        sight_laws();
+        change_laws();
         let _only = self.mesh.pool();
         match self.store.unload(q, square) {
             Ok(page) => {

@@ -45,24 +45,16 @@ pub struct World {
 }
 
 impl Model for World {
-    ghost use Rattle.std.specs.Prelude.{◌≡◌, Some};
-    ghost use Rattle.mesh_defs.specs.ClosedSet.{leaves_of};
-    ghost use Rattle.mesh_laws.specs.Slots.{split_set};
     ghost use Rattle.view_priority.specs.Camera.{view_above};
-    ghost use Rattle.world_loop.specs.declared.note.WorldNote.{WorldNote};
-    ghost use Rattle.world_loop.specs.World.{WorldState, world_of, IsWorld, IsStill};
+    ghost use Rattle.world_loop.specs.World.{WorldState, world_of, IsKept};
 
     ghost Value = { WorldState };
 
     ghost view = { λ w. world_of w.store (view_above w.threshold w.camera w.spacing w.planes) w.budget w.most w.mesh
         w.odometer };
 
-    ghost invariant = { λ w. IsWorld (world_of w.store
-        (view_above w.threshold w.camera w.spacing w.planes) w.budget w.most w.mesh w.odometer)
-        × (w.list.leaves ≡ leaves_of w.store.large (split_set w.mesh.pool.pairs))
-        × (w.list.most ≡ w.mesh.pool.most)
-        × ((note : WorldNote) → w.still ≡ Some note → IsStill (world_of w.store
-        (view_above w.threshold w.camera w.spacing w.planes) w.budget w.most w.mesh w.odometer) note) };
+    ghost invariant = { λ w. IsKept (world_of w.store (view_above w.threshold w.camera w.spacing w.planes) w.budget w.most
+        w.mesh w.odometer) w.list.leaves w.list.most w.still };
 }
 
 impl World {

@@ -1,4 +1,4 @@
-use Rattle.std.proofs.Common.{◌≡◌, ℕ, ◌+◌, subst, arith, length}
+use Rattle.std.proofs.Common.{◌≡◌, ◌+◌, subst, arith, length}
 use Rattle.world_loop.specs.Draws.{draws_from, AreInTurn}
 use Rattle.world_loop.proofs.DrawLawLemmas.{in-turn, apart-from, pages-from, reach-open}
 use Rattle.world_loop.proofs.draws.draw_laws.Goals as goal

@@ -7,54 +7,56 @@ use Rattle.page_store.specs.declared.locate.PageTriangle.{PageTriangle}
 use Rattle.page_store.specs.Locate.{page_triangle, IsPageTriangle}
 use Rattle.world_loop.specs.declared.draws.Draw.{Draw}
 use Rattle.world_loop.specs.Draws.{located, draws_from, draws_of, draw_indices, goes_on, with_next}
-use Rattle.world_loop.proofs.DrawLemmas.{AreSoFar, listed, with_ended, told-next, told-written, located-end, so_far-all}
+use Rattle.world_loop.proofs.DrawLemmas.{AreSoFar, with_ended, told-next, told-written, located-end, so_far-all}
 use Rattle.world_loop.proofs.DrawLemmas.{so_far-count, so_far-room, indices-next}
+use Rattle.world_loop.proofs.draws.write_draws.Goals.{After-next_draw-next}
 use Rattle.world_loop.proofs.draws.write_draws.Goals as goal
+
+-- a triangle more
+module _ (c : After-next_draw-next) where
+  abbrev all : List Draw
+  all = draws_from 0 (located c.args.store.now c.args.triangles.now)
+
+  is : c.unwrap-placed.result ≡ page_triangle c.args.store.now c.index-triangles-k.result
+  is = rw c.unwrap-placed.ensures at c.locate.ensures.value
+
+  count-is : c.next_draw-next.result.0
+      ≡ cond (goes_on c.loop-k.last (page_triangle c.args.store.now c.index-triangles-k.result)) c.loop-k.count
+      (c.loop-k.count + 1)
+  count-is = c.next_draw-next.ensures.count
+      ∙ ap (λ (r : PageTriangle). cond (goes_on c.loop-k.last r) c.loop-k.count (c.loop-k.count + 1)) is
+
+  draw-is : c.next_draw-next.result.1
+      ≡ with_next c.loop-k.last (page_triangle c.args.store.now c.index-triangles-k.result) c.loop-k.k
+  draw-is = c.next_draw-next.ensures.draw ∙ ap (λ (r : PageTriangle). with_next c.loop-k.last r c.loop-k.k) is
+
+  abbrev ended : List Draw
+  ended = with_ended c.loop-k.invariant.ended c.loop-k.last (page_triangle c.args.store.now c.index-triangles-k.result)
+
+  next : AreSoFar all (drop (c.loop-k.k + 1) (located c.args.store.now c.args.triangles.now)) (c.loop-k.k + 1)
+      c.next_draw-next.result.0 (Some c.next_draw-next.result.1) ended
+  next = told-next c.args.store.now c.args.triangles.now c.loop-k-test.true c.index-triangles-k.is
+      c.loop-k.invariant.so_far count-is draw-is
 
 pub bounds-draws-count : goal.bounds-draws-count
 unfolding draws_of
 bounds-draws-count c =
-    let s = c.args.store.now in
-    let k = c.loop-k.k in
-    let last = c.loop-k.last in
-    let ended = c.loop-k.invariant.ended in
-    let tri = c.index-triangles-k.result in
-    let all = draws_from 0 (located c.args.store.now c.args.triangles.now) in
-    let is : c.unwrap-placed.result ≡ page_triangle c.args.store.now c.index-triangles-k.result =
-    rw c.unwrap-placed.ensures at c.locate.ensures.value in
-    let count-is = c.next_draw-next.ensures.count
-    ∙ ap (λ (r : PageTriangle). cond (goes_on c.loop-k.last r) c.loop-k.count (c.loop-k.count + 1)) is in
-    let draw-is = c.next_draw-next.ensures.draw
-    ∙ ap (λ (r : PageTriangle). with_next c.loop-k.last r c.loop-k.k) is in
-    let next = told-next s c.args.triangles.now all k tri c.loop-k.count last ended c.loop-k-test.true
-    c.index-triangles-k.is c.loop-k.invariant.so_far c.next_draw-next.result.0 c.next_draw-next.result.1 count-is draw-is in
-    let fits = so_far-room all (with_ended ended last (page_triangle s tri)) (drop (k + 1) (located s c.args.triangles.now))
-    (k + 1) c.next_draw-next.result.0 c.next_draw-next.result.1 next in
+    let h = (goal.at.bounds-draws-count c).After-next_draw-next in
+    let fits = so_far-room (next h) in
     let some = fits.0 in
     let most = fits.1 in
-    let room : length all ≤ length c.args.draws.now = c.requires.room in
+    let room : length (all h) ≤ length c.args.draws.now = c.requires.room in
     let same = c.loop-k.auto.draws in
     omega arith
 
 pub loop-k-preserved : goal.loop-k-preserved
 unfolding draws_of
 loop-k-preserved c =
-    let s = c.args.store.now in
+    let h = (goal.at.loop-k-preserved c).After-next_draw-next in
     let k = c.loop-k.k in
-    let last = c.loop-k.last in
-    let ended = c.loop-k.invariant.ended in
     let tri = c.index-triangles-k.result in
-    let all = draws_from 0 (located c.args.store.now c.args.triangles.now) in
-    let is : c.unwrap-placed.result ≡ page_triangle c.args.store.now c.index-triangles-k.result =
-    rw c.unwrap-placed.ensures at c.locate.ensures.value in
-    let count-is = c.next_draw-next.ensures.count
-    ∙ ap (λ (r : PageTriangle). cond (goes_on c.loop-k.last r) c.loop-k.count (c.loop-k.count + 1)) is in
-    let draw-is = c.next_draw-next.ensures.draw
-    ∙ ap (λ (r : PageTriangle). with_next c.loop-k.last r c.loop-k.k) is in
-    let next = told-next s c.args.triangles.now all k tri c.loop-k.count last ended c.loop-k-test.true
-    c.index-triangles-k.is c.loop-k.invariant.so_far c.next_draw-next.result.0 c.next_draw-next.result.1 count-is draw-is in
     let placed : IsPageTriangle c.args.store.now tri (page_triangle c.args.store.now tri) =
-    subst (IsPageTriangle c.args.store.now tri) is (rw c.unwrap-placed.ensures at c.locate.ensures.placed) in
+    subst (IsPageTriangle c.args.store.now tri) (is h) (rw c.unwrap-placed.ensures at c.locate.ensures.placed) in
     record {
       placed = All-more (λ a. IsPageTriangle c.args.store.now a (page_triangle c.args.store.now a)) c.args.triangles.now k tri
           c.loop-k-test.true c.loop-k.invariant.placed
@@ -64,12 +66,12 @@ loop-k-preserved c =
           c.loop-k-test.true c.index-triangles-k.is refl c.loop-k.invariant.indices
           (c.write_corners.ensures ∙ ap₂ (λ (n : ℕ) (r : PageTriangle).
           take (3 * k) c.loop-k.indices ++ indices_at n r.corners ++ drop (3 * k + 3) c.loop-k.indices) c.n-n.ensures.value
-          is);
-      ended = with_ended ended last (page_triangle s tri);
-      so_far = next;
-      draws = told-written s c.args.triangles.now all k tri c.loop-k.count last ended c.loop-k-test.true
-          c.index-triangles-k.is c.loop-k.invariant.so_far c.next_draw-next.result.0 c.next_draw-next.result.1 count-is
-          draw-is c.args.draws.now c.loop-k.draws c.requires.room c.loop-k.invariant.draws;
+          (is h));
+      ended = ended h;
+      so_far = next h;
+      draws = told-written c.args.store.now c.args.triangles.now c.loop-k-test.true c.index-triangles-k.is
+          c.loop-k.invariant.so_far (count-is h) (draw-is h) c.args.draws.now c.loop-k.draws c.requires.room
+          c.loop-k.invariant.draws;
     }
 
 pub returns-clause-draws : goal.returns-clause-draws
@@ -81,8 +83,8 @@ returns-clause-draws c =
     (located-end c.args.store.now c.args.triangles.now c.loop-k.k c.loop-k-test.false) c.loop-k.invariant.so_far in
     c.loop-k.invariant.draws
     ∙ ap₂ (λ (xs : List Draw) (j : ℕ). xs ++ drop j c.args.draws.now)
-    (sym (so_far-all all c.loop-k.invariant.ended c.loop-k.k c.loop-k.count c.loop-k.last h))
-    (so_far-count all c.loop-k.invariant.ended c.loop-k.k c.loop-k.count c.loop-k.last h)
+    (sym (so_far-all h))
+    (so_far-count h)
 
 pub returns-clause-indices : goal.returns-clause-indices
 unfolding draw_indices

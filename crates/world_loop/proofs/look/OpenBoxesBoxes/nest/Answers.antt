@@ -1,4 +1,4 @@
-use Rattle.std.proofs.Common.{◌≡◌, ℕ, ◌+◌, ◌*◌, ◌/◌, sym, subst, ⊎_elim}
+use Rattle.std.proofs.Common.{◌≡◌, ◌+◌, ◌*◌, ◌/◌, sym, subst, ⊎_elim}
 use Rattle.bintree_laws.proofs.LevelLemmas.{left-or-right}
 use Rattle.cull_marks.specs.Nesting.{IsInside}
 use Rattle.page_laws.specs.Pages.{IsPyramid}
