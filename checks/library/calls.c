@@ -43,20 +43,13 @@ static void test_state(struct engine *e) {
 
 static void do_open(struct engine *e, const uint16_t *from, size_t count, uint32_t budget, uint32_t spacing) {
     call = OPEN;
-    long held = blocks;
-    has_failed = false;
-    int32_t wanted = level_of(count) == 0 ? ROAM_BAD_GRID : budget < 2 || budget > 1048576 ? ROAM_BAD_BUDGET
+    const int32_t wanted = level_of(count) == 0 ? ROAM_BAD_GRID : budget < 2 || budget > 1048576 ? ROAM_BAD_BUDGET
                      : spacing < 1 || spacing > 1024 ? ROAM_BAD_SPACING : ROAM_OK;
-    int32_t answer = roam_open(&e->handle, from, count, budget, spacing);
-    left = -1;
-    if (wanted == ROAM_OK && has_failed) wanted = ROAM_NO_MEMORY;
-    answers(answer, wanted);
-    if (answer != ROAM_OK) must(blocks == held, "a refused call has left memory behind");
-    if (answer == ROAM_OK) {
+    if (OPENED(roam_open(&e->handle, from, count, budget, spacing), wanted) == ROAM_OK) {
         memset(&e->state, 0, sizeof e->state);
         memset(e->camera, 0, sizeof e->camera);
         e->threshold = 0;
-        e->state.side = ((size_t)1 << level_of(count)) + 1;
+        e->state.side = side_of(level_of(count));
         e->state.most = e->state.budget = budget;
         e->is_open = true, e->triangles = 2, e->vertices = 4, e->before_count = 0, e->spacing = spacing;
         e->old_count = e->now_count = 2, e->old[0] = e->now[0] = 2, e->old[1] = e->now[1] = 3;
@@ -73,14 +66,11 @@ static void do_close(struct engine *e) {
 }
 
 static uint64_t distance(int64_t a, int64_t b) { return a < b ? (uint64_t)(b - a) : (uint64_t)(a - b); }
-static bool is_within(int64_t a, int64_t end) { return -end <= a && a <= end; }
 
 static void do_camera(struct engine *e, int64_t x, int64_t y, int64_t z) {
     call = CAMERA;
-    const int64_t end = (int64_t)1 << 30;
-    bool is_place = is_within(x, end) && is_within(y, end) && is_within(z, end);
-    answers(roam_camera(&e->handle, x, y, z), !e->is_open ? ROAM_IS_EMPTY : is_place ? ROAM_OK : ROAM_BAD_CAMERA);
-    if (e->is_open && is_place) {
+    answers(roam_camera(&e->handle, x, y, z), !e->is_open ? ROAM_IS_EMPTY : is_place(x, y, z) ? ROAM_OK : ROAM_BAD_CAMERA);
+    if (e->is_open && is_place(x, y, z)) {
         e->state.way += distance(e->camera[0], x) + distance(e->camera[1], y) + distance(e->camera[2], z);
         e->camera[0] = x, e->camera[1] = y, e->camera[2] = z;
     }
@@ -89,9 +79,8 @@ static void do_camera(struct engine *e, int64_t x, int64_t y, int64_t z) {
 
 static void do_add_plane(struct engine *e, int64_t a, int64_t b, int64_t c, int64_t d) {
     call = ADD_PLANE;
-    const int64_t slope = (int64_t)1 << 20, offset = (int64_t)1 << 50;
-    bool is_plane = is_within(a, slope) && is_within(b, slope) && is_within(c, slope) && is_within(d, offset);
-    int32_t wanted = !e->is_open ? ROAM_IS_EMPTY : !is_plane ? ROAM_BAD_PLANE : e->state.planes >= 6 ? ROAM_TOO_MANY_PLANES : ROAM_OK;
+    const roam_plane plane = { a, b, c, d };
+    int32_t wanted = !e->is_open ? ROAM_IS_EMPTY : !is_plane(&plane) ? ROAM_BAD_PLANE : e->state.planes >= 6 ? ROAM_TOO_MANY_PLANES : ROAM_OK;
     answers(roam_add_plane(&e->handle, a, b, c, d), wanted);
     e->state.planes += wanted == ROAM_OK;
     test_state(e);
@@ -99,11 +88,7 @@ static void do_add_plane(struct engine *e, int64_t a, int64_t b, int64_t c, int6
 
 static void do_look(struct engine *e, const roam_plane *planes, size_t count) {
     call = LOOK;
-    const int64_t slope = (int64_t)1 << 20, offset = (int64_t)1 << 50;
-    bool are_planes = true;
-    for (size_t k = 0; k < count; k++)
-        are_planes &= is_within(planes[k].a, slope) && is_within(planes[k].b, slope) && is_within(planes[k].c, slope) && is_within(planes[k].d, offset);
-    int32_t wanted = !e->is_open ? ROAM_IS_EMPTY : !are_planes ? ROAM_BAD_PLANE : count > 6 ? ROAM_TOO_MANY_PLANES : ROAM_OK;
+    const int32_t wanted = wanted_look(e->is_open, planes, count);
     answers(roam_look(&e->handle, planes, count), wanted);
     if (wanted == ROAM_OK) e->state.planes = (uint32_t)count;
     test_state(e);
@@ -435,13 +420,11 @@ static void do_certificate(struct engine *e, int64_t x, int64_t y, int64_t z, si
     call = CERTIFICATE;
     long held = blocks;
     size_t length, leaves = 0, reasons = 0;
-    const int64_t end = (int64_t)1 << 30;
     if (room > sizeof text) room = sizeof text;
     fill(text, sizeof text), fill(&length, sizeof length);
     has_failed = false;
     int32_t answer = roam_certificate(&e->handle, x, y, z, text, room, &length);
-    bool is_place = is_within(x, end) && is_within(y, end) && is_within(z, end);
-    int32_t wanted = or_no_memory(!e->is_open ? ROAM_IS_EMPTY : is_place ? ROAM_OK : ROAM_BAD_CAMERA);
+    int32_t wanted = or_no_memory(!e->is_open ? ROAM_IS_EMPTY : is_place(x, y, z) ? ROAM_OK : ROAM_BAD_CAMERA);
     if (answer == ROAM_NO_ROOM && wanted == ROAM_OK) { /* by as much as is enough at first, else by one byte */
         must(room < 48 + 30 * (size_t)e->state.budget, "there is room enough");
         answers(answer, ROAM_NO_ROOM);
@@ -496,8 +479,7 @@ static void open_some(struct engine *e) {
     static const size_t counts[] = { 9, 9, 25, 25, 81, 81, 289, 1089, 0, 1, 4, 8, 10, 16, 24, 26, 80, 82, 290, 1088 };
     static const uint32_t budgets[] = { 0, 1, 2, 3, 1048577, UINT32_MAX };
     static const uint32_t spacings[] = { 0, 1, 2, 1023, 1024, 1025, UINT32_MAX };
-    unsigned rough = (unsigned)below(17);
-    for (int k = 0; k < POINTS && below(4) == 0; k++) heights[below(POINTS)] = (uint16_t)(word() >> rough);
+    draw_heights(heights, POINTS);
     if (below(16) == 0) left = (long)below(32);
     do_open(e, heights, OF(counts), below(8) ? 2 + (uint32_t)below(300) : OF(budgets), below(4) ? 1 + (uint32_t)below(40) : OF(spacings));
     left = -1;
@@ -577,22 +559,12 @@ static void start(void) {
     memset(engines, 0, sizeof engines);
     engines[0].handle = empty;
     fill(&engines[1].handle, sizeof engines[1].handle); /* a handle that nobody has written */
-    for (int k = 0; k < POINTS; k++) heights[k] = (uint16_t)(k * 7919 % 211);
+    begin_heights(heights, POINTS);
 }
-static void finish(void) {
+static void close_all(void) {
     for (int k = 0; k < ENGINES; k++) if (engines[k].is_open) do_close(&engines[k]);
-    must(blocks == 0, "blocks are left when all is closed");
 }
 
-#ifdef FUZZER
-int LLVMFuzzerTestOneInput(const uint8_t *data, size_t size) {
-    bytes = data, byte_count = size;
-    start();
-    while (byte_count > 0) step();
-    finish();
-    return 0;
-}
-#else
 /* --- What random calls do not come to. --- */
 
 static void test_sides(void) {
@@ -601,7 +573,7 @@ static void test_sides(void) {
     uint16_t *large = calloc(most + 1, sizeof *large);
     must(large != NULL, "out of memory");
     for (unsigned n = 1; n <= 13; n++) {
-        size_t count = ((size_t)1 << n | 1) * ((size_t)1 << n | 1);
+        size_t count = side_of(n) * side_of(n);
         do_open(e, large, count - 1, 2, 1);
         do_open(e, large, count + 1, 2, 1);
         do_open(e, large, count, n >= 11 ? 1048576 : 2, 1024);
@@ -669,18 +641,4 @@ static void test_worn(void) {
     do_close(e);
 }
 
-int main(int argc, char **argv) {
-    start();
-    if (argc == 2 && strcmp(argv[1], "ends") == 0) {
-        test_sides(), test_refused_in_calls(), test_refused_allocations(), test_worn();
-        finish();
-        return 0;
-    }
-    if (argc != 3) return fprintf(stderr, "usage: calls SEED COUNT, or calls ends\n"), 2;
-    seed = strtoull(argv[1], NULL, 10);
-    make_each(strtoul(argv[2], NULL, 10));
-    finish();
-    tell_all();
-    return 0;
-}
-#endif
+static void test_ends(void) { test_sides(), test_refused_in_calls(), test_refused_allocations(), test_worn(); }

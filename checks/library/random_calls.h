@@ -1,5 +1,5 @@
-/* What programs of random calls share: a heap that counts its blocks and fails, the numbers, and what a call has to answer. Who
- * includes it has the enum of the calls, its last one CALLS, and their names. */
+/* What programs of random calls share: a heap that counts its blocks and fails, the numbers, what a call has to answer, and `main`.
+ * Who includes it has the enum of the calls, its last one CALLS, and their names, and defines the functions declared here. */
 #include "roam.h"
 #include <stdbool.h>
 #include <stdio.h>
@@ -77,11 +77,44 @@ static bool is_filled(const void *at, size_t size) {
 
 /* Whether memory ran out during a call that takes some. */
 static int32_t or_no_memory(int32_t wanted) { left = -1; return wanted == ROAM_OK && has_failed ? ROAM_NO_MEMORY : wanted; }
+/* The answer of a call that takes no memory: it has none. */
+#define WITHOUT_MEMORY(made) (left = 0, has_failed = false, none_was_asked(made))
+static inline int32_t none_was_asked(int32_t answer) {
+    left = -1;
+    must(!has_failed, "a call asks for memory that takes none");
+    return answer;
+}
 
-/* The number of the level of a grid of so many heights, or 0. */
+/* The answer of a call that opens a handle: where it is refused, no more memory is held than before. */
+#define OPENED(made, wanted) (held_before = blocks, has_failed = false, is_as_opened(made, wanted))
+static long held_before;
+static inline int32_t is_as_opened(int32_t answer, int32_t wanted) {
+    answers(answer, or_no_memory(wanted));
+    must(answer == ROAM_OK || blocks == held_before, "a refused call has left memory behind");
+    return answer;
+}
+
+/* The points of a side of a grid of this level, and the number of the level of a grid of so many heights, or 0. */
+static size_t side_of(unsigned n) { return ((size_t)1 << n) + 1; }
 static unsigned level_of(size_t count) {
-    for (unsigned n = 1; n <= 14; n++) if (count == ((size_t)1 << n | 1) * ((size_t)1 << n | 1)) return n;
+    for (unsigned n = 1; n <= 14; n++) if (count == side_of(n) * side_of(n)) return n;
     return 0;
+}
+
+static inline bool is_within(int64_t a, int64_t end) { return -end <= a && a <= end; }
+static inline bool is_place(int64_t x, int64_t y, int64_t z) {
+    const int64_t end = (int64_t)1 << 30;
+    return is_within(x, end) && is_within(y, end) && is_within(z, end);
+}
+static inline bool is_plane(const roam_plane *p) {
+    const int64_t slope = (int64_t)1 << 20, offset = (int64_t)1 << 50;
+    return is_within(p->a, slope) && is_within(p->b, slope) && is_within(p->c, slope) && is_within(p->d, offset);
+}
+/* What a call that takes the planes of an engine or a world has to answer. */
+static inline int32_t wanted_look(bool is_open, const roam_plane *planes, size_t count) {
+    bool are_planes = true;
+    for (size_t k = 0; k < count; k++) are_planes &= is_plane(&planes[k]);
+    return !is_open ? ROAM_IS_EMPTY : !are_planes ? ROAM_BAD_PLANE : count > 6 ? ROAM_TOO_MANY_PLANES : ROAM_OK;
 }
 
 /* --- Arguments at the ends of their ranges. --- */
@@ -93,9 +126,34 @@ static uint32_t number(uint32_t end) {
     return below(4) == 0 ? OF(ends) : (uint32_t)below((size_t)end + 1);
 }
 
-/* --- Until each call was made so often. --- */
+/* Heights of a few values, and now and then some that are drawn anew. */
+static void begin_heights(uint16_t *height, size_t count) { for (size_t k = 0; k < count; k++) height[k] = (uint16_t)(k * 7919 % 211); }
+static void draw_heights(uint16_t *height, size_t count) {
+    const unsigned rough = (unsigned)below(17);
+    for (size_t k = 0; k < count && below(4) == 0; k++) height[below(count)] = (uint16_t)((word() & 0xFFFF) >> rough);
+}
 
+/* --- The program: until each call was made so often, what random calls do not come to, or the numbers of libFuzzer. --- */
+
+static void start(void);
 static void step(void);
+static void close_all(void);
+static void test_ends(void);
+
+static void finish(void) {
+    close_all();
+    must(blocks == 0, "blocks are left when all is closed");
+}
+
+#ifdef FUZZER
+int LLVMFuzzerTestOneInput(const uint8_t *data, size_t size) {
+    bytes = data, byte_count = size;
+    start();
+    while (byte_count > 0) step();
+    finish();
+    return 0;
+}
+#else
 static void make_each(unsigned long wanted) {
     for (int k = 0; k < CALLS;) {
         step();
@@ -110,3 +168,15 @@ static void tell_all(void) {
     }
     printf("each answer is the one that roam.h says\n");
 }
+
+int main(int argc, char **argv) {
+    const bool is_of_ends = argc == 2 && strcmp(argv[1], "ends") == 0;
+    if (!is_of_ends && argc != 3) return fprintf(stderr, "usage: %s SEED COUNT, or %s ends\n", argv[0], argv[0]), 2;
+    start();
+    if (is_of_ends) test_ends();
+    else seed = strtoull(argv[1], NULL, 10), make_each(strtoul(argv[2], NULL, 10));
+    finish();
+    if (!is_of_ends) tell_all();
+    return 0;
+}
+#endif

@@ -19,7 +19,6 @@ static const char *const names[CALLS] = {
 enum { LEVELS = 4, SIDE = 17, POINTS = SIDE * SIDE, MOST = 2 * (SIDE - 1) * (SIDE - 1), END = 2 * MOST, ROOM = 3 * MOST + 8 };
 
 static struct triangle { int64_t x[3], y[3]; uint32_t mate; } triangles[LEVELS + 1][END]; /* apex and the ends of the base */
-static size_t side_of(unsigned n) { return ((size_t)1 << n) + 1; }
 static uint32_t splittable_end(unsigned n) { return (uint32_t)2 << 2 * n; }
 
 static void make_triangles(void) {
@@ -87,7 +86,7 @@ static int64_t off(const struct mesh *m, uint32_t a, const struct limit *limit) 
         }
     return most;
 }
-static bool is_within(const struct mesh *m, const struct limit *limit) {
+static bool is_mesh_within(const struct mesh *m, const struct limit *limit) {
     for (uint32_t a = 2; a < splittable_end(m->n); a++) if (is_leaf(m, a) && off(m, a, limit) > 0) return false;
     return true;
 }
@@ -132,10 +131,6 @@ static uint32_t list[ROOM], tolerances[POINTS + 2], required[POINTS + 8];
 static size_t tolerance_count, required_count;
 static uint32_t thousandths;
 
-/* A call that takes no memory has none. */
-static void without_memory(void) { left = 0, has_failed = false; }
-static void none_was_asked(void) { left = -1; must(!has_failed, "a call asks for memory that takes none"); }
-
 static void test_fitter(struct fitter *f) {
     const int was = call;
     size_t count;
@@ -159,12 +154,8 @@ static void begin_mesh(struct mesh *m, const uint16_t *from, unsigned n) {
 /* Whether it was refused memory; so the others that take some. */
 static bool do_fitter_open(struct fitter *f, const uint16_t *from, size_t count) {
     call = FITTER_OPEN;
-    const long held = blocks;
-    has_failed = false;
-    const int32_t answer = roam_fitter_open(&f->handle, from, count);
-    answers(answer, or_no_memory(level_of(count) == 0 ? ROAM_BAD_GRID : ROAM_OK));
-    if (answer != ROAM_OK) must(blocks == held, "a refused call has left memory behind");
-    else {
+    const int32_t answer = OPENED(roam_fitter_open(&f->handle, from, count), level_of(count) == 0 ? ROAM_BAD_GRID : ROAM_OK);
+    if (answer == ROAM_OK) {
         f->is_open = true;
         begin_mesh(&f->mesh, from, level_of(count));
         f->count = leaves_of(&f->mesh, f->leaf);
@@ -197,9 +188,7 @@ static void do_fit(struct fitter *f, bool is_fresh) {
     fill(&triangles_told, sizeof triangles_told);
     const size_t side = side_of(f->mesh.n);
     const int32_t wanted = !f->is_open ? ROAM_IS_EMPTY : wanted_of_fit(side * side);
-    without_memory();
-    const int32_t answer = (is_fresh ? roam_fitter_fit : roam_fitter_more)(&f->handle, thousandths, tolerances, tolerance_count, required, required_count, &triangles_told);
-    none_was_asked();
+    const int32_t answer = WITHOUT_MEMORY((is_fresh ? roam_fitter_fit : roam_fitter_more)(&f->handle, thousandths, tolerances, tolerance_count, required, required_count, &triangles_told));
     answers(answer, wanted);
     if (wanted != ROAM_OK) {
         must(is_filled(&triangles_told, sizeof triangles_told), "a refused call has written");
@@ -209,7 +198,7 @@ static void do_fit(struct fitter *f, bool is_fresh) {
     const struct limit limit = limit_now();
     struct mesh *m = &f->mesh;
     if (is_fresh) memset(m->split, 0, sizeof m->split);
-    if (is_fresh || is_within(m, &limit)) { /* the plain program's mesh */
+    if (is_fresh || is_mesh_within(m, &limit)) { /* the plain program's mesh */
         split_at(m, required, required_count);
         settle(m, &limit);
         f->count = leaves_of(m, f->leaf);
@@ -256,9 +245,7 @@ static void do_list(struct fitter *f, unsigned each, int spare) {
     size_t count;
     fill(list, sizeof list), fill(&count, sizeof count);
     const int32_t wanted = !f->is_open ? ROAM_IS_EMPTY : places < length ? ROAM_NO_ROOM : ROAM_OK;
-    without_memory();
-    const int32_t answer = (each == 3 ? roam_fitter_indices : each == 1 ? roam_fitter_leaves : roam_fitter_border)(&f->handle, list, places, &count);
-    none_was_asked();
+    const int32_t answer = WITHOUT_MEMORY((each == 3 ? roam_fitter_indices : each == 1 ? roam_fitter_leaves : roam_fitter_border)(&f->handle, list, places, &count));
     answers(answer, wanted);
     if (wanted == ROAM_OK) {
         must(count == length / (each == 3 ? 3 : 1) && memcmp(list, wanted_list, length * sizeof *list) == 0, "the list is another");
@@ -279,9 +266,7 @@ static void do_deviation(struct fitter *f) {
     call = FITTER_DEVIATION;
     roam_deviation_note it;
     fill(&it, sizeof it);
-    without_memory();
-    const int32_t answer = roam_fitter_deviation(&f->handle, &it);
-    none_was_asked();
+    const int32_t answer = WITHOUT_MEMORY(roam_fitter_deviation(&f->handle, &it));
     answers(answer, f->is_open ? ROAM_OK : ROAM_IS_EMPTY);
     if (f->is_open) must(it.over == side_of(f->mesh.n) - 1 && it.off == deviation_of(&f->mesh), "off or over is another");
     else must(is_filled(&it, sizeof it), "a refused call has written");
@@ -300,9 +285,7 @@ static void do_restore(struct fitter *f, const uint32_t *leaf, size_t count) {
         for (uint32_t a = leaf[k] / 2; is_mesh && a >= 2; a /= 2) next.split[a] = 1;
     }
     is_mesh = is_mesh && is_conforming(&next) && leaves_of(&next, again) == count && memcmp(again, leaf, count * sizeof *leaf) == 0;
-    without_memory();
-    const int32_t answer = roam_fitter_restore(&f->handle, leaf, count);
-    none_was_asked();
+    const int32_t answer = WITHOUT_MEMORY(roam_fitter_restore(&f->handle, leaf, count));
     answers(answer, !f->is_open ? ROAM_IS_EMPTY : is_mesh ? ROAM_OK : ROAM_BAD_MESH);
     if (answer == ROAM_OK) f->mesh = next, f->count = leaves_of(&next, f->leaf);
     test_fitter(f);
@@ -395,9 +378,7 @@ static void do_required(struct mosaic *m, uint32_t column, uint32_t row, size_t 
     if (is_tile && !m->is_large) for (size_t k = 0; k < m->side * m->side; k++) length += is_asked(m, column, row, k);
     if (is_tile && m->is_large) length = 1;
     const int32_t wanted = !m->is_open ? ROAM_IS_EMPTY : !is_tile ? ROAM_OUTSIDE_GRID : places < length ? ROAM_NO_ROOM : ROAM_OK;
-    without_memory();
-    const int32_t answer = roam_mosaic_required(&m->handle, column, row, list, places, &it);
-    none_was_asked();
+    const int32_t answer = WITHOUT_MEMORY(roam_mosaic_required(&m->handle, column, row, list, places, &it));
     answers(answer, wanted);
     if (wanted != ROAM_OK) {
         must(is_filled(list, sizeof list) && is_filled(&it, sizeof it), "a refused call has written");
@@ -424,13 +405,9 @@ static void test_mosaic(struct mosaic *m) {
 
 static bool do_mosaic_open(struct mosaic *m, uint32_t columns, uint32_t rows, uint32_t side) {
     call = MOSAIC_OPEN;
-    const long held = blocks;
-    has_failed = false;
     const bool is_shape = columns >= 1 && columns <= 65536 && rows >= 1 && rows <= 65536 && level_of((size_t)side * side) > 0;
-    const int32_t answer = roam_mosaic_open(&m->handle, columns, rows, side);
-    answers(answer, or_no_memory(is_shape ? ROAM_OK : ROAM_BAD_GRID));
-    if (answer != ROAM_OK) must(blocks == held, "a refused call has left memory behind");
-    else {
+    const int32_t answer = OPENED(roam_mosaic_open(&m->handle, columns, rows, side), is_shape ? ROAM_OK : ROAM_BAD_GRID);
+    if (answer == ROAM_OK) {
         const roam_mosaic handle = m->handle;
         memset(m, 0, sizeof *m);
         m->handle = handle, m->is_open = true, m->columns = columns, m->rows = rows, m->side = side;
@@ -452,9 +429,7 @@ static void do_next(struct mosaic *m) {
     call = MOSAIC_NEXT;
     roam_tile_note it;
     fill(&it, sizeof it);
-    without_memory();
-    const int32_t answer = roam_mosaic_next(&m->handle, &it);
-    none_was_asked();
+    const int32_t answer = WITHOUT_MEMORY(roam_mosaic_next(&m->handle, &it));
     answers(answer, m->is_open ? ROAM_OK : ROAM_IS_EMPTY);
     if (!m->is_open) {
         must(is_filled(&it, sizeof it), "a refused call has written");
@@ -496,9 +471,7 @@ static void do_put(struct mosaic *m, uint32_t column, uint32_t row, const uint32
     }
     for (size_t k = 0; k < POINTS && is_tile; k++) is_less |= m->has[tile][k] && !has[k];
     const int32_t wanted = !m->is_open ? ROAM_IS_EMPTY : !is_tile || !are_border ? ROAM_OUTSIDE_GRID : is_less ? ROAM_SHRUNK : ROAM_OK;
-    without_memory();
-    const int32_t answer = roam_mosaic_put(&m->handle, column, row, border, count);
-    none_was_asked();
+    const int32_t answer = WITHOUT_MEMORY(roam_mosaic_put(&m->handle, column, row, border, count));
     answers(answer, wanted);
     if (answer == ROAM_OK) memcpy(m->has[tile], has, sizeof has), m->is_put[tile] = true;
     test_mosaic(m);
@@ -509,8 +482,7 @@ static void do_put(struct mosaic *m, uint32_t column, uint32_t row, const uint32
 static const size_t counts[] = { 9, 9, 25, 25, 81, 289, 0, 1, 4, 8, 10, 16, 24, 26, 80, 82, 288 };
 
 static void open_fitter(struct fitter *f) {
-    const unsigned rough = (unsigned)below(17);
-    for (int k = 0; k < POINTS && below(4) == 0; k++) heights[below(POINTS)] = (uint16_t)((word() & 0xFFFF) >> rough);
+    draw_heights(heights, POINTS);
     if (below(16) == 0) left = (long)below(8);
     do_fitter_open(f, heights, OF(counts));
     left = -1;
@@ -652,24 +624,14 @@ static void start(void) {
     for (int k = 0; k < FITTERS; k++) fitters[k].mesh.n = 1;
     fitters[0].handle = empty, mosaics[0].handle = none;
     fill(&fitters[1].handle, sizeof fitters[1].handle), fill(&mosaics[1].handle, sizeof mosaics[1].handle); /* that nobody has written */
-    for (int k = 0; k < POINTS; k++) heights[k] = (uint16_t)(k * 7919 % 211);
+    begin_heights(heights, POINTS);
     if (triangles[1][2].x[1] == 0) make_triangles();
 }
-static void finish(void) {
+static void close_all(void) {
     for (int k = 0; k < FITTERS; k++) if (fitters[k].is_open) do_fitter_close(&fitters[k]);
     for (int k = 0; k < MOSAICS; k++) if (mosaics[k].is_open) do_mosaic_close(&mosaics[k]);
-    must(blocks == 0, "blocks are left when all is closed");
 }
 
-#ifdef FUZZER
-int LLVMFuzzerTestOneInput(const uint8_t *data, size_t size) {
-    bytes = data, byte_count = size;
-    start();
-    while (byte_count > 0) step();
-    finish();
-    return 0;
-}
-#else
 /* --- What random calls do not come to. --- */
 
 /* Each side: flat ground, on which a mesh is what its points need, and one summit in the last place. */
@@ -787,18 +749,4 @@ static void test_kinds(void) {
     must(blocks == 0, "blocks are left of what other handles had");
 }
 
-int main(int argc, char **argv) {
-    start();
-    if (argc == 2 && strcmp(argv[1], "ends") == 0) {
-        test_kinds(), test_sides(), test_many_tiles(), test_refused_allocations();
-        finish();
-        return 0;
-    }
-    if (argc != 3) return fprintf(stderr, "usage: tiles SEED COUNT, or tiles ends\n"), 2;
-    seed = strtoull(argv[1], NULL, 10);
-    make_each(strtoul(argv[2], NULL, 10));
-    finish();
-    tell_all();
-    return 0;
-}
-#endif
+static void test_ends(void) { test_kinds(), test_sides(), test_many_tiles(), test_refused_allocations(); }

@@ -42,9 +42,7 @@ static void do_draws(struct world *w, size_t places, size_t room) {
     size_t runs = runs_of(w, list, leaves, wanted, index);
     call = WORLD_DRAWS;
     fill(draws, sizeof draws), fill(indices, sizeof indices), fill(&count, sizeof count), fill(&triangles, sizeof triangles);
-    without_memory();
-    const int32_t answer = roam_world_draws(&w->handle, draws, places, &count, indices, room, &triangles);
-    none_was_asked();
+    const int32_t answer = WITHOUT_MEMORY(roam_world_draws(&w->handle, draws, places, &count, indices, room, &triangles));
     const bool has_room = runs <= places && 3 * leaves <= room;
     answers(answer, !w->is_open ? ROAM_IS_EMPTY : runs == 0 ? ROAM_NOT_THERE : has_room ? ROAM_OK : ROAM_NO_ROOM);
     if (answer == ROAM_OK || answer == ROAM_NO_ROOM) must(count == runs && triangles == leaves, "the counts are others");

@@ -29,22 +29,12 @@ static struct world {
     struct { bool is_there; uint16_t height[POINTS]; } loaded[TABLE]; /* of a terrain whose side is halved at most CUTS times */
 } worlds[WORLDS];
 
-static size_t side_of(unsigned n) { return ((size_t)1 << n) + 1; }
-
-/* A call that takes no memory has none. */
-static void without_memory(void) { left = 0, has_failed = false; }
-static void none_was_asked(void) { left = -1; must(!has_failed, "a call asks for memory that takes none"); }
-
 /* --- Pages. --- */
 
 static bool do_page_make(struct page *p, const uint16_t *from, size_t count) {
     call = PAGE_MAKE;
-    const long held = blocks;
-    has_failed = false;
-    const int32_t answer = roam_page_make(&p->handle, from, count);
-    answers(answer, or_no_memory(level_of(count) == 0 ? ROAM_BAD_GRID : ROAM_OK));
-    if (answer != ROAM_OK) must(blocks == held, "a refused call has left memory behind");
-    else p->is_full = true, p->n = level_of(count), memcpy(p->height, from, count * sizeof *from);
+    const int32_t answer = OPENED(roam_page_make(&p->handle, from, count), level_of(count) == 0 ? ROAM_BAD_GRID : ROAM_OK);
+    if (answer == ROAM_OK) p->is_full = true, p->n = level_of(count), memcpy(p->height, from, count * sizeof *from);
     return answer == ROAM_NO_MEMORY;
 }
 static void do_page_drop(struct page *p) {
@@ -57,6 +47,10 @@ static void do_page_drop(struct page *p) {
 
 /* The columns x0 to x1 and the rows y0 to y1, and by how much their heights rise; or, of one point, the height that it gets. */
 struct change { uint32_t x0, y0, x1, y1; bool is_set; uint16_t height; int32_t dz; };
+
+/* The call that makes a change, by the calls of pages or of worlds: its answer. */
+#define CHANGED(kind, handle, c) WITHOUT_MEMORY((c)->is_set ? kind##_set_height(handle, (c)->x0, (c)->y0, (c)->height) \
+                                                            : kind##_raise(handle, (c)->x0, (c)->y0, (c)->x1, (c)->y1, (c)->dz))
 
 /* A page's heights at its points in the area, `step` grid steps apart from the point (x, y) on; whether there is one. */
 static bool change_heights(uint16_t *height, unsigned n, uint32_t x, uint32_t y, uint32_t step, const struct change *c) {
@@ -78,10 +72,7 @@ static int32_t wanted_change(const struct change *c, uint32_t side) {
 
 static void do_page_change(struct page *p, const struct change *c) {
     call = c->is_set ? PAGE_SET_HEIGHT : PAGE_RAISE;
-    without_memory();
-    const int32_t answer = c->is_set ? roam_page_set_height(&p->handle, c->x0, c->y0, c->height)
-                                     : roam_page_raise(&p->handle, c->x0, c->y0, c->x1, c->y1, c->dz);
-    none_was_asked();
+    const int32_t answer = CHANGED(roam_page, &p->handle, c);
     answers(answer, p->is_full ? wanted_change(c, (uint32_t)1 << p->n) : ROAM_IS_EMPTY);
     if (answer == ROAM_OK) (void)change_heights(p->height, p->n, 0, 0, 1, c);
 }
@@ -183,9 +174,7 @@ static bool can_unload(const struct world *w, uint32_t q, uint32_t column, uint3
 static void do_load(struct world *w, uint32_t q, uint32_t column, uint32_t row, struct page *p) {
     call = WORLD_LOAD;
     const bool can = w->is_open && p->is_full && can_load(w, q, column, row, p);
-    without_memory();
-    const int32_t answer = roam_world_load(&w->handle, q, column, row, &p->handle);
-    none_was_asked();
+    const int32_t answer = WITHOUT_MEMORY(roam_world_load(&w->handle, q, column, row, &p->handle));
     answers(answer, !w->is_open || !p->is_full ? ROAM_IS_EMPTY : can ? ROAM_OK : ROAM_BAD_PAGE);
     if (answer != ROAM_OK) return;
     const size_t k = at(w->large - w->n - q, column, row);
@@ -227,10 +216,7 @@ static void change_twin(struct world *w, const struct change *c) {
 }
 static void do_change(struct world *w, const struct change *c) {
     call = c->is_set ? WORLD_SET_HEIGHT : WORLD_RAISE;
-    without_memory();
-    const int32_t answer = c->is_set ? roam_world_set_height(&w->handle, c->x0, c->y0, c->height)
-                                     : roam_world_raise(&w->handle, c->x0, c->y0, c->x1, c->y1, c->dz);
-    none_was_asked();
+    const int32_t answer = CHANGED(roam_world, &w->handle, c);
     const int32_t wanted = w->is_open ? wanted_change(c, (uint32_t)1 << w->large) : ROAM_IS_EMPTY;
     answers(answer, wanted != ROAM_OK ? wanted : change_loaded(w, c) ? ROAM_OK : ROAM_NOT_THERE);
     if (answer == ROAM_OK) change_twin(w, c);
@@ -238,41 +224,25 @@ static void do_change(struct world *w, const struct change *c) {
 
 static void do_camera(struct world *w, int64_t x, int64_t y, int64_t z) {
     call = WORLD_CAMERA;
-    const int64_t end = (int64_t)1 << 30;
-    const bool is_place = -end <= x && x <= end && -end <= y && y <= end && -end <= z && z <= end;
-    without_memory();
-    const int32_t answer = roam_world_camera(&w->handle, x, y, z);
-    none_was_asked();
-    answers(answer, !w->is_open ? ROAM_IS_EMPTY : is_place ? ROAM_OK : ROAM_BAD_CAMERA);
+    const int32_t answer = WITHOUT_MEMORY(roam_world_camera(&w->handle, x, y, z));
+    answers(answer, !w->is_open ? ROAM_IS_EMPTY : is_place(x, y, z) ? ROAM_OK : ROAM_BAD_CAMERA);
     if (answer == ROAM_OK) (void)roam_camera(&w->twin, x, y, z);
-}
-static bool is_plane(const roam_plane *p) {
-    const int64_t slope = (int64_t)1 << 20, offset = (int64_t)1 << 50;
-    return -slope <= p->a && p->a <= slope && -slope <= p->b && p->b <= slope && -slope <= p->c && p->c <= slope && -offset <= p->d && p->d <= offset;
 }
 static void do_look(struct world *w, const roam_plane *planes, size_t count) {
     call = WORLD_LOOK;
-    bool are_planes = true;
-    for (size_t k = 0; k < count; k++) are_planes &= is_plane(&planes[k]);
-    without_memory();
-    const int32_t answer = roam_world_look(&w->handle, planes, count);
-    none_was_asked();
-    answers(answer, !w->is_open ? ROAM_IS_EMPTY : !are_planes ? ROAM_BAD_PLANE : count > 6 ? ROAM_TOO_MANY_PLANES : ROAM_OK);
+    const int32_t answer = WITHOUT_MEMORY(roam_world_look(&w->handle, planes, count));
+    answers(answer, wanted_look(w->is_open, planes, count));
     if (answer == ROAM_OK) (void)roam_look(&w->twin, planes, count);
 }
 static void do_threshold(struct world *w, uint64_t ratio) {
     call = WORLD_THRESHOLD;
-    without_memory();
-    const int32_t answer = roam_world_threshold(&w->handle, ratio);
-    none_was_asked();
+    const int32_t answer = WITHOUT_MEMORY(roam_world_threshold(&w->handle, ratio));
     answers(answer, w->is_open ? ROAM_OK : ROAM_IS_EMPTY);
     (void)roam_threshold(&w->twin, ratio);
 }
 static void do_budget(struct world *w, uint32_t triangles) {
     call = WORLD_BUDGET;
-    without_memory();
-    const int32_t answer = roam_world_budget(&w->handle, triangles);
-    none_was_asked();
+    const int32_t answer = WITHOUT_MEMORY(roam_world_budget(&w->handle, triangles));
     answers(answer, !w->is_open ? ROAM_IS_EMPTY : triangles < 2 || triangles > w->most ? ROAM_BAD_BUDGET : ROAM_OK);
     if (answer == ROAM_OK) (void)roam_budget(&w->twin, triangles);
 }
@@ -281,9 +251,7 @@ static void do_frame(struct world *w) {
     roam_world_note note;
     roam_frame_note twin;
     fill(&note, sizeof note);
-    without_memory();
-    const int32_t answer = roam_world_frame(&w->handle, &note);
-    none_was_asked();
+    const int32_t answer = WITHOUT_MEMORY(roam_world_frame(&w->handle, &note));
     answers(answer, w->is_open ? ROAM_OK : ROAM_IS_EMPTY);
     if (answer != ROAM_OK) must(is_filled(&note, sizeof note), "a refused call has written");
     else {
@@ -301,9 +269,7 @@ static void do_leaves(struct world *w, size_t places) {
     if (places > ROOM) places = ROOM;
     size_t count, twins;
     fill(list, sizeof list), fill(&count, sizeof count);
-    without_memory();
-    const int32_t answer = roam_world_leaves(&w->handle, list, places, &count);
-    none_was_asked();
+    const int32_t answer = WITHOUT_MEMORY(roam_world_leaves(&w->handle, list, places, &count));
     answers(answer, !w->is_open ? ROAM_IS_EMPTY : places < w->triangles ? ROAM_NO_ROOM : ROAM_OK);
     if (answer == ROAM_OK) {
         must(count == w->triangles && is_filled(list + count, sizeof list - count * sizeof *list), "the count is another");
@@ -321,8 +287,7 @@ static void do_leaves(struct world *w, size_t places) {
 static const size_t counts[] = { 9, 9, 25, 25, 81, 81, 289, 0, 1, 4, 8, 10, 16, 24, 26, 80, 82, 288 };
 
 static void make_page(struct page *p) {
-    const unsigned rough = (unsigned)below(17);
-    for (int k = 0; k < POINTS && below(4) == 0; k++) heights[below(POINTS)] = (uint16_t)((word() & 0xFFFF) >> rough);
+    draw_heights(heights, POINTS);
     if (below(16) == 0) left = (long)below(8);
     do_page_make(p, heights, OF(counts));
     left = -1;
@@ -429,23 +394,13 @@ static void start(void) {
     for (int k = 0; k < PAGES; k++) pages[k].n = 1;
     for (int k = 0; k < WORLDS; k++) worlds[k].triangles = 2, worlds[k].n = worlds[k].large = 1;
     fill(&pages[1].handle, sizeof pages[1].handle), fill(&worlds[1].handle, sizeof worlds[1].handle); /* that nobody has written */
-    for (int k = 0; k < POINTS; k++) heights[k] = (uint16_t)(k * 7919 % 211);
+    begin_heights(heights, POINTS);
 }
-static void finish(void) {
+static void close_all(void) {
     for (int k = 0; k < PAGES; k++) if (pages[k].is_full) do_page_drop(&pages[k]);
     for (int k = 0; k < WORLDS; k++) if (worlds[k].is_open) do_world_close(&worlds[k]);
-    must(blocks == 0, "blocks are left when all is closed");
 }
 
-#ifdef FUZZER
-int LLVMFuzzerTestOneInput(const uint8_t *data, size_t size) {
-    bytes = data, byte_count = size;
-    start();
-    while (byte_count > 0) step();
-    finish();
-    return 0;
-}
-#else
 static void test_refused_allocations(void) {
     struct page *p = &pages[0];
     struct world *w = &worlds[0];
@@ -545,18 +500,4 @@ static void test_paging(void) {
     must(roam_close(&finer) == ROAM_OK && roam_close(&coarser) == ROAM_OK && blocks == 0, "blocks are left");
 }
 
-int main(int argc, char **argv) {
-    start();
-    if (argc == 2 && strcmp(argv[1], "ends") == 0) {
-        test_kinds(), test_paging(), test_refused_allocations();
-        finish();
-        return 0;
-    }
-    if (argc != 3) return fprintf(stderr, "usage: worlds SEED COUNT, or worlds ends\n"), 2;
-    seed = strtoull(argv[1], NULL, 10);
-    make_each(strtoul(argv[2], NULL, 10));
-    finish();
-    tell_all();
-    return 0;
-}
-#endif
+static void test_ends(void) { test_kinds(), test_paging(), test_refused_allocations(); }

@@ -8,6 +8,8 @@ import numpy as np
 import pytest
 
 from calfrewin import Engine, Fitter
+from frames import leaves_of
+from terrain import level
 
 WINDOW = 24  # points a side
 
@@ -32,9 +34,6 @@ class Plain:
         middle = ((v0[0] + v1[0]) // 2, (v0[1] + v1[1]) // 2)
         return (middle, v1, apex) if a % 2 else (middle, apex, v0)
 
-    def level(self, a):
-        return a.bit_length() - 2
-
     def mate(self, a):
         """The triangle of the level that holds what lies beyond the base: counted in eighths of a step."""
         apex, v0, v1 = self.corners(a)
@@ -43,7 +42,7 @@ class Plain:
         if not all(0 <= it <= 8 * 2 ** self.n for it in beyond):
             return None
         b = 2 if sum(beyond) < 8 * 2 ** self.n else 3
-        while self.level(b) < self.level(a):
+        while level(b) < level(a):
             b = next(child for child in (2 * b, 2 * b + 1) if self.holds(child, beyond))
         return b
 
@@ -58,7 +57,7 @@ class Plain:
         sides = list(zip(*corners))
         if any(max(side) < low or min(side) >= low + WINDOW for side, low in zip(sides, self.at)):
             return 0, 0, 0
-        if self.level(a) == 2 * self.n:
+        if level(a) == 2 * self.n:
             own = [self.height(corner) for corner in corners]
             return 0, min(own), max(own)
         (e, low, high), (f, low2, high2) = self.wedge(2 * a), self.wedge(2 * a + 1)
@@ -88,17 +87,11 @@ class Plain:
             if len(split) + len(more) + 2 > budget:
                 break
             split |= more
-            if self.level(a) + 1 < 2 * self.n:
+            if level(a) + 1 < 2 * self.n:
                 for child in (2 * a, 2 * a + 1):
                     heapq.heappush(queue, (-self.priority(child), child))
-        found, left = [], [3, 2]
-        while left:
-            a = left.pop()
-            if a in split:
-                left += [2 * a + 1, 2 * a]
-            else:
-                found.append(a)
-        return found, max(map(self.priority, found))
+        leaves = leaves_of(split)
+        return leaves, max(map(self.priority, leaves))
 
 
 @pytest.mark.parametrize("exponent, at, spacing", [(12, (2048, 1000), 30), (13, (8150, 3), 90), (13, (4085, 4090), 1024)])

@@ -14,6 +14,7 @@ from hypothesis import given, strategies as st
 import calfrewin
 import sessions
 from calfrewin import Engine, _library, surface
+from threads import check_that_one_thread_is_taken, on_a_thread
 
 TOP = pathlib.Path(__file__).resolve().parents[2]
 HEADER = TOP / "lib/roam.h"
@@ -221,15 +222,6 @@ def fly(engine, frames):
     return found
 
 
-def on_a_thread(call, *words):
-    """What the call gives on a thread of its own, at its end."""
-    found = []
-    thread = threading.Thread(target=lambda: found.append(call(*words)))
-    thread.start()
-    thread.join()
-    return found[0]
-
-
 def alone():
     with Engine(HEIGHTS, 400, 10) as engine:
         return fly(engine, range(FRAMES))
@@ -284,18 +276,6 @@ def test_an_engine_that_another_thread_lets_go_of_gives_its_memory_back():
 
 def test_a_call_lets_other_threads_run_and_a_second_one_on_its_engine_is_refused():
     heights = np.random.default_rng(1).integers(0, 60000, (1025, 1025)).astype(np.uint16)
-    engine, refused = Engine(heights, 2), []
-    thread = threading.Thread(target=lambda: engine.fit(10))
-    thread.start()
-    while thread.is_alive():
-        try:
-            engine.state()
-        except RuntimeError as why:
-            refused.append(str(why))
-            if len(refused) == 1:
-                with pytest.raises(RuntimeError, match="cannot be closed"):
-                    engine.close()
-    thread.join()
-    # Were the interpreter locked in the call, none would come to its turn while it lasts.
-    assert len(refused) > 100 and set(refused) == {"another thread is using this engine: give each its own, or share a lock"}
+    engine = Engine(heights, 2)
+    check_that_one_thread_is_taken(engine, lambda: engine.fit(10), engine.state)
     assert engine.state().side == 1025

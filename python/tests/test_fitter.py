@@ -1,11 +1,10 @@
 """The calls of a fitter and of a mosaic, beside those of an engine and definitions of their own."""
-import threading
-
 import numpy as np
 import pytest
 from hypothesis import given, strategies as st
 
 from calfrewin import ANY, Engine, Fitter, Mosaic, fit_with, surface
+from threads import check_that_one_thread_is_taken
 
 numbers = st.integers(0, 2 ** 32 - 1)
 
@@ -123,18 +122,8 @@ def test_refusals_name_the_argument_and_change_nothing():
 
 
 def test_a_second_thread_on_one_fitter_is_refused():
-    heights = heights_of(10, 5, 60_000)
-    with Fitter(heights) as fitter:
-        begun = threading.Thread(target=fitter.fit, args=(0,))
-        begun.start()
-        refused = 0
-        while begun.is_alive():
-            try:
-                fitter.border()
-            except RuntimeError as why:
-                refused += "another thread is using this fitter" in str(why)
-        begun.join()
-        assert refused
+    with Fitter(heights_of(10, 5, 60_000)) as fitter:
+        check_that_one_thread_is_taken(fitter, lambda: fitter.fit(0), fitter.border)
 
 
 def meshed(heights, columns, rows, steps, tolerance, order):

@@ -8,6 +8,7 @@ from hypothesis import given, strategies as st
 
 import calfrewin
 from calfrewin import BadPage, Engine, Page, Square, World
+from threads import check_that_one_thread_is_taken
 
 numbers = st.integers(0, 2 ** 32 - 1)
 FLAT = np.zeros((5, 5), np.uint16)
@@ -306,20 +307,8 @@ def test_pages_are_made_on_other_threads_while_a_world_flies():
 
 
 def test_a_second_call_on_a_world_in_use_is_refused():
-    heights, refused = terrain(10, 1, 60_000), []
-    with World(heights, 10, 200_000) as world:
-        thread = threading.Thread(target=world.frame)
-        thread.start()
-        while thread.is_alive():
-            try:
-                world.camera(0, 0, 0)
-            except RuntimeError as why:
-                refused.append(str(why))
-                if len(refused) == 1:
-                    with pytest.raises(RuntimeError, match="cannot be closed"):
-                        world.close()
-        thread.join()
-    assert len(refused) > 100 and set(refused) == {"another thread is using this world: give each its own, or share a lock"}
+    with World(terrain(10, 1, 60_000), 10, 200_000) as world:
+        check_that_one_thread_is_taken(world, world.frame, lambda: world.camera(0, 0, 0))
 
 
 def test_names_of_the_package():
