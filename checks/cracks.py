@@ -12,6 +12,7 @@ A mesh has no cracks where all of this holds:
 - the areas add up to that of the rectangle, and each quarter of each cell is covered once;
 - each edge is had once in its direction and once in the other one, but for the rim, where it is had once;
 - no vertex lies inside an edge."""
+import functools
 import sys
 
 import numpy as np
@@ -21,15 +22,26 @@ def doubled_area(p, q, r):
     return (q[0] - p[0]) * (r[1] - p[1]) - (r[0] - p[0]) * (q[1] - p[1])
 
 
+RIGHT, UP = np.array([2, 3, 2, 1])[:, None, None], np.array([1, 2, 3, 2])[:, None, None]  # of each quarter a point amid it
+
+
+@functools.cache
+def quarters_of(qx, qy, rx, ry):
+    """Which quarters of cells a triangle of the corners (0, 0), (qx, qy) and (rx, ry) covers, in the columns and the rows that it
+    has: of each by a point amid it, in quarters of a grid step."""
+    corners = (0, 0), (qx, qy), (rx, ry)
+    (left, *_, right), (near, *_, far) = (sorted(ends) for ends in zip(*corners))
+    x, y = 4 * np.arange(left, right) + RIGHT, 4 * np.arange(near, far)[:, None] + UP
+    inside = True
+    for a, b in zip(corners, corners[1:] + corners[:1]):
+        inside = inside & ((b[0] - a[0]) * (y - 4 * a[1]) > (x - 4 * a[0]) * (b[1] - a[1]))
+    return left, right, near, far, inside
+
+
 def add_covered(covered, p, q, r):
-    """Counts a triangle in the quarters that it covers: of each, by a point amid it, in quarters of a grid step."""
-    low, high = np.min([p, q, r], axis=0), np.max([p, q, r], axis=0)
-    x, y = np.arange(low[0], high[0])[None, :] * 4, np.arange(low[1], high[1])[:, None] * 4
-    for part, (right, up) in enumerate([(2, 1), (3, 2), (2, 3), (1, 2)]):
-        inside = True
-        for a, b in ((p, q), (q, r), (r, p)):
-            inside = inside & ((b[0] - a[0]) * (y + up - 4 * a[1]) - (x + right - 4 * a[0]) * (b[1] - a[1]) > 0)
-        covered[part, low[1]:high[1], low[0]:high[0]] += inside
+    """Counts a triangle in the quarters that it covers."""
+    left, right, near, far, inside = quarters_of(q[0] - p[0], q[1] - p[1], r[0] - p[0], r[1] - p[1])
+    covered[:, p[1] + near:p[1] + far, p[0] + left:p[0] + right] += inside
 
 
 def crack_in(triangles, width, height):

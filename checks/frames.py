@@ -1,6 +1,7 @@
 """Closed sets, the frame of a budget, the steps that lead to it from the set before, and the text of a mesh, each by
 looking at everything. A closed set is a set of addresses; rank is a place in the list of all triangles, the first
 in rank first."""
+import itertools
 
 
 class View:
@@ -8,11 +9,12 @@ class View:
 
     def __init__(self, terrain):
         self.priorities = terrain.priorities()
-        order = sorted(terrain.addresses, key=lambda a: (-self.priorities[a], a))
+        # Those of one priority stay by address.
+        order = sorted(terrain.addresses, key=self.priorities.__getitem__, reverse=True)
         self.rank = [None] * len(self.priorities)
         for place, a in enumerate(order):
             self.rank[a] = place
-        self.ranking = [a for a in order if self.priorities[a] > 0 and a in terrain.splittable]
+        self.ranking = [a for a in itertools.takewhile(self.priorities.__getitem__, order) if a in terrain.splittable]
 
     def worst(self, leaves):
         return max(self.priorities[a] for a in leaves)

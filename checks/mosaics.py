@@ -7,6 +7,7 @@ usage: checks/mosaics.py LEVEL P SEED THOUSANDTHS MESH.obj    of the generated g
        tiles: writes the mesh, with vertices by y and then by x and faces tile by tile, and prints its counts and how far
        it is off
 """
+import functools
 import sys
 
 import numpy as np
@@ -67,6 +68,17 @@ class Large:
         self.mate = Mates(self.corners, m)
 
 
+@functools.cache
+def held_points(bx, by, cx, cy):
+    """The points (x, y) of a triangle of the corners (0, 0), (bx, by) and (cx, cy), and for each corner its part at each of
+    them; the three parts of a point make the doubled area."""
+    x, y = np.arange(min(0, bx, cx), max(0, bx, cx) + 1), np.arange(min(0, by, cy), max(0, by, cy) + 1)[:, None]
+    parts = np.array([(cx - bx) * (y - by) - (x - bx) * (cy - by), x * cy - cx * y, bx * y - x * by])
+    is_held = (parts >= 0).all(axis=0)
+    y, x = is_held.nonzero()
+    return x + min(0, bx, cx), y + min(0, by, cy), parts[:, is_held]
+
+
 class LargeErrors(dict):
     """The errors of triangles by address: how far the heights are from the plane at a point that the triangle holds, at
     most, times m.
@@ -98,20 +110,16 @@ class LargeErrors(dict):
 
     def greatest(self, a):
         (ax, ay), (bx, by), (cx, cy) = corners = self.large.corners[a]
-        low, high = np.min(corners, axis=0), np.max(corners, axis=0)
-        x, y = np.arange(low[0], high[0] + 1)[None, :], np.arange(low[1], high[1] + 1)[:, None]
-        parts = [(cx - bx) * (y - by) - (x - bx) * (cy - by), (ax - cx) * (y - cy) - (x - cx) * (ay - cy),
-                 (bx - ax) * (y - ay) - (x - ax) * (by - ay)]
-        area = (bx - ax) * (cy - ay) - (cx - ax) * (by - ay)
-        inside = (parts[0] >= 0) & (parts[1] >= 0) & (parts[2] >= 0)
-        there = slice(low[1], high[1] + 1), slice(low[0], high[0] + 1)
-        plane = sum(part * int(self.large.heights[y, x]) for part, (x, y) in zip(parts, corners)) * self.large.m
-        assert not (plane[inside] % area).any()
-        off = np.abs(self.large.heights[there] * self.large.m - plane // area)
+        heights, m = self.large.heights, self.large.m
+        x, y, parts = held_points(bx - ax, by - ay, cx - ax, cy - ay)
+        there = y + ay, x + ax
+        plane, rest = np.divmod(m * (np.array([heights[y, x] for x, y in corners]) @ parts), parts[:, 0].sum())
+        assert not rest.any()
+        off = np.abs(heights[there] * m - plane)
         if self.tolerances is None:
-            return int(off[inside].max())
+            return int(off.max())
         own = self.tolerances[there]
-        return int(np.max((1000 * off - own * self.large.m)[inside & (own >= 0)], initial=0))
+        return int(np.max((1000 * off - own * m)[own >= 0], initial=0))
 
 
 def least_mosaic(large, errors, p, tolerance):

@@ -109,5 +109,9 @@ class World(Terrain):
             wedges[a] = self.joined_wedge(a, wedges[2 * a], wedges[2 * a + 1]) if a in self.known else self.corner_wedge(a)
         return wedges
 
-    def priority(self, a):
-        return super().priority(a) if a in self.open else 0
+    def priorities(self):
+        """By address; 0 but for what is open."""
+        found = [0] * len(self.corners)
+        for a in self.open:
+            found[a] = self.priority(a)
+        return found
