@@ -11,8 +11,7 @@ ghost use Rattle.roam_embed.specs.FitWith.{IsFitWithTold};
 ghost use Rattle.roam_c.specs.declared.kept.Kept.{Kept};
 ghost use Rattle.roam_c.specs.Handle.{IsNumberOfSome, OnKept, OnOther};
 
-use crate::handle::{Handle, close, hold, on};
-use crate::kept::Kept;
+use crate::handle::{Handle, close, fill, on};
 use roam_embed::{
     Deviation, Fitted, fit_points, open_fitter, refine_points, restore_mesh, tell_border,
     tell_fit_with, tell_fitter_deviation, tell_fitter_indices, tell_fitter_leaves,
@@ -27,10 +26,7 @@ pub extern "C" fn roam_fitter_open(alloc: Global, f: &mut Handle, heights: &[u16
         × IsFitterOpened heights.now now }
     ensures kept { (result ≡ pos 0 → ⊥) → f.new.value ≡ f.old.value }
 {
-    match open_fitter(alloc, heights) {
-        Ok(fitter) => hold(f, Kept::Fitter(fitter), alloc).number(),
-        Err(refusal) => refusal.number(),
-    }
+    fill!(Fitter, f, alloc, open_fitter(alloc, heights))
 }
 
 /// Lets go of the fitter. The handle is empty then.

@@ -97,6 +97,21 @@ pub(crate) fn hold(h: &mut Handle, kept: Kept, alloc: Global) -> Answer
     }
 }
 
+/// The number of what a call answers that makes a value of this kind, which goes into a handle. What was there is let go
+/// of; after a refusal the handle is as before.
+macro_rules! fill {
+    ($kind:ident, $handle:ident, $alloc:ident, $made:expr) => {
+        match $made {
+            Ok(made) => {
+                $crate::handle::hold($handle, $crate::kept::Kept::$kind(made), $alloc).number()
+            }
+            Err(refusal) => refusal.number(),
+        }
+    };
+}
+
+pub(crate) use fill;
+
 /// The number of what a call of `roam_embed` answers, made on the value of a handle where that is of this kind. The
 /// value goes back into the handle. A handle that is empty, or has a value of another kind, is as before.
 macro_rules! on {

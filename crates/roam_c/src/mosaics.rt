@@ -6,8 +6,7 @@ ghost use Rattle.roam_embed.specs.Mosaics.{IsMosaicAnswer, IsMosaicOpened, IsNex
 ghost use Rattle.roam_c.specs.declared.kept.Kept.{Kept};
 ghost use Rattle.roam_c.specs.Handle.{IsNumberOfSome, OnKept, OnOther};
 
-use crate::handle::{Handle, close, hold, on};
-use crate::kept::Kept;
+use crate::handle::{Handle, close, fill, on};
 use roam_embed::{Required, Tile, next_tile, open_mosaic, put_tile, tell_required};
 use std::alloc::Global;
 
@@ -26,10 +25,7 @@ pub extern "C" fn roam_mosaic_open(
         × IsMosaicOpened columns rows side now }
     ensures kept { (result ≡ pos 0 → ⊥) → h.new.value ≡ h.old.value }
 {
-    match open_mosaic(alloc, columns, rows, side) {
-        Ok(mosaic) => hold(h, Kept::Mosaic(mosaic), alloc).number(),
-        Err(refusal) => refusal.number(),
-    }
+    fill!(Mosaic, h, alloc, open_mosaic(alloc, columns, rows, side))
 }
 
 /// Lets go of the mosaic. The handle is empty then.

@@ -11,7 +11,7 @@ ghost use Rattle.roam_c.specs.declared.kept.Kept.{Kept};
 ghost use Rattle.roam_c.specs.Handle.{IsNumberOfSome, OnKept, OnOther};
 ghost use Rattle.roam_c.specs.Worlds.{IsKeptOpened, IsWorldMade};
 
-use crate::handle::{Handle, close, hold, on, put, take};
+use crate::handle::{Handle, close, fill, on, put, take};
 use crate::kept::{Kept, keep, take_page};
 use roam_embed::{
     Answer, Page, PlaneNumbers, WorldFrame, make_page, make_world_frame, move_world_camera,
@@ -27,10 +27,7 @@ pub extern "C" fn roam_page_make(alloc: Global, p: &mut Handle, heights: &[u16])
         × IsGridOf heights.now now }
     ensures kept { (result ≡ pos 0 → ⊥) → p.new.value ≡ p.old.value }
 {
-    match make_page(alloc, heights) {
-        Ok(page) => hold(p, Kept::Page(page), alloc).number(),
-        Err(refusal) => refusal.number(),
-    }
+    fill!(Page, p, alloc, make_page(alloc, heights))
 }
 
 /// Lets go of the page. The handle is empty then.
