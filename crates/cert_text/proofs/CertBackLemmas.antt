@@ -7,7 +7,6 @@ use Rattle.std.specs.Fmt.{signed_decimal}
 use Rattle.std.proofs.lemmas.List.Elements.{All-cons, All-nil}
 use Rattle.std.proofs.lemmas.Grind.{flat_map-append}
 use Rattle.std.proofs.lemmas.Bool.{cond-true, lt-ltb, le-leb}
-use Rattle.std.proofs.Math.Pow.{pow_mono}
 use Rattle.mesh_defs.specs.BoundingBox.{CameraAt}
 use Rattle.mesh_defs.specs.Triangle.{IsAddress, IsSplittable}
 use Rattle.mesh_laws.proofs.SweepLemmas.{splittable-lt}
@@ -25,7 +24,7 @@ use Rattle.cert_text.specs.CertReader.{read_so_far, nothing_read, line_taken, ce
 use Rattle.cert_text.specs.CertText.{kind_text, cert_line_text, ended_line, leaf_text, reason_text, cert_text}
 use Rattle.cert_text.specs.CertText.{cert_lines}
 use Rattle.cert_text.specs.Laws.{IsCertificateOf, lines_read}
-use Rattle.cert_text.proofs.LineLemmas.{IsField, decimal-short, decimal-field, from-decimal, joined-one}
+use Rattle.cert_text.proofs.LineLemmas.{IsField, end-high, decimal-short, decimal-field, from-decimal, joined-one}
 use Rattle.cert_text.proofs.LineLemmas.{joined-says, address-back, line-next, lines-step, entries-back, entries-end}
 use Rattle.cert_text.proofs.LineLemmas.{entries-whole, entries-one, lines-ended}
 
@@ -33,9 +32,6 @@ use Rattle.cert_text.proofs.LineLemmas.{entries-whole, entries-one, lines-ended}
 
 number-fields : (a : ℕ) → a < 2 ^ 32 → All IsField (decimal a ∷ [])
 number-fields a fits = All-cons IsField (decimal a) [] (decimal-field a fits) (All-nil IsField)
-
-small : (n : ℕ) (k : ℕ) → n ≤ 14 → k ≤ 2 → 2 ^ (2 * n + k) ≤ 2 ^ 30
-small n k top few = let h : 2 * n + k ≤ 30 = omega arith in pow_mono h
 
 -- a leaf
 
@@ -49,7 +45,7 @@ leaf_field = record {
 -- the line of a leaf of the grid is read back as it
 leaf-back : (n a : ℕ) → n ≤ 14 → IsAddress n a → read_cert_line n (cert_line_text (LeafLine a)) ≡ Some (LeafLine a)
 leaf-back n a top address =
-    let most = small n 2 top (omega arith) in
+    let most = end-high n 2 top (omega arith) in
     let low = address.low in let high = address.high in
     cert_line_is n _ ∙ joined-says (cert_fields_line n) (codes "leaf") (decimal a ∷ []) leaf_field (number-fields a (omega arith))
     (omega arith)
@@ -57,7 +53,7 @@ leaf-back n a top address =
 
 leaf-one : (n a : ℕ) → n ≤ 14 → IsAddress n a → IsOneLine (cert_line_text (LeafLine a))
 leaf-one n a top address =
-    let most = small n 2 top (omega arith) in
+    let most = end-high n 2 top (omega arith) in
     let high = address.high in
     joined-one (codes "leaf") (decimal a ∷ []) leaf_field (number-fields a (omega arith))
 
@@ -91,7 +87,7 @@ kind-fields n Mate field = refl
 reason-back : (n : ℕ) (r : Reason) → n ≤ 14 → IsSplittable n r.triangle →
     read_cert_line n (cert_line_text (ReasonLine r)) ≡ Some (ReasonLine r)
 reason-back n r top splittable =
-    let most = small n 1 top (omega arith) in
+    let most = end-high n 1 top (omega arith) in
     let low = splittable.low in let high = splittable-lt n r.triangle splittable in
     cert_line_is n _ ∙ joined-says (cert_fields_line n) (kind_text r.kind) (decimal r.triangle ∷ []) (kind_field r.kind)
     (number-fields r.triangle (omega arith)) (omega arith)
@@ -101,7 +97,7 @@ reason-back n r top splittable =
 
 reason-one : (n : ℕ) (r : Reason) → n ≤ 14 → IsSplittable n r.triangle → IsOneLine (cert_line_text (ReasonLine r))
 reason-one n r top splittable =
-    let most = small n 1 top (omega arith) in
+    let most = end-high n 1 top (omega arith) in
     let high = splittable-lt n r.triangle splittable in
     joined-one (kind_text r.kind) (decimal r.triangle ∷ []) (kind_field r.kind) (number-fields r.triangle (omega arith))
 

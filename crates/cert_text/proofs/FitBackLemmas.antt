@@ -16,7 +16,7 @@ use Rattle.cert_text.specs.FitLine.{tolerance_line, off_of, fit_fields_line, rea
 use Rattle.cert_text.specs.FitCertReader.{fit_read_so_far, nothing_fit_read, fit_line_taken, fit_line_in}
 use Rattle.cert_text.specs.FitCertText.{fit_line_text, ended_fit_line, off_text, fit_cert_text, fit_cert_lines}
 use Rattle.cert_text.specs.FitLaws.{IsOffOf, IsFitCertificateOf, fit_lines_read}
-use Rattle.cert_text.proofs.LineLemmas.{IsField, decimal-field, joined-one, joined-says, number-back}
+use Rattle.cert_text.proofs.LineLemmas.{IsField, end-high, decimal-field, joined-one, joined-says, number-back}
 use Rattle.cert_text.proofs.LineLemmas.{address-back, line-next, lines-step, entries-back, entries-end, entries-whole}
 use Rattle.cert_text.proofs.LineLemmas.{entries-one, lines-ended}
 
@@ -71,7 +71,7 @@ module _ (n : ℕ) (top : n ≤ 14) (r : Off) (is : IsOffOf n r) where
 
   off-fields : All IsField fields
   off-fields =
-      let below : 2 ^ (2 * n + 1) ≤ 2 ^ 30 = (let h : 2 * n + 1 ≤ 30 = omega arith in pow_mono h) in
+      let below = end-high n 1 top (omega arith) in
       let side : 2 ^ n ≤ 2 ^ 14 = pow_mono top in
       let high = splittable-lt n r.triangle is.splittable in
       let column = is.column in let row = is.row in
@@ -82,7 +82,7 @@ module _ (n : ℕ) (top : n ≤ 14) (r : Off) (is : IsOffOf n r) where
   -- the line of a reason, of a triangle that may be split and a point of the grid, is read back as it
   off-back : read_fit_line n (fit_line_text (OffLine r)) ≡ Some (OffLine r)
   off-back =
-      let below : 2 ^ (2 * n + 1) ≤ 2 ^ 30 = (let h : 2 * n + 1 ≤ 30 = omega arith in pow_mono h) in
+      let below = end-high n 1 top (omega arith) in
       let side : 2 ^ n ≤ 2 ^ 14 = pow_mono top in
       let low = is.splittable.low in let high = splittable-lt n r.triangle is.splittable in
       let column = is.column in let row = is.row in

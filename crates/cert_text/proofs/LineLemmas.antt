@@ -10,6 +10,7 @@ use Rattle.std.proofs.lemmas.List.Elements.{All-head, All-tail, All-cons, All-ni
 use Rattle.std.proofs.lemmas.Bool.{ne_eqb, cond-false, lt-ltb, le-leb, le-ltb}
 use Rattle.std.proofs.lemmas.Fmt.{decimal_by_steps, decimal_nonempty, length-decimal-le}
 use Rattle.std.proofs.lemmas.Option.{none-some}
+use Rattle.std.proofs.Math.Pow.{pow_mono}
 use Rattle.text_laws.specs.Fields.{without_last_cr, is_gap, fields_of}
 use Rattle.text_laws.proofs.FieldLemmas.{IsOther, fields-gap, fields-run}
 use Rattle.text_laws.proofs.NumberLemmas.{decimal-back}
@@ -155,6 +156,10 @@ joined-says says first fields is all few =
     (le-ltb 200 (length line) short)
     ∙ ap (λ l. says (fields_of l)) (cr-kept line (joined-from first fields is all))
     ∙ ap (λ l. says (fields_of l)) (joined-rest first fields) ∙ ap says (fields-rest first fields is all)
+
+-- the ends of the addresses of a grid are small
+pub end-high : (n k : ℕ) → n ≤ 14 → k ≤ 2 → 2 ^ (2 * n + k) ≤ 2 ^ 30
+end-high n k top few = let h : 2 * n + k ≤ 30 = omega arith in pow_mono h
 
 -- numbers and addresses are read back
 pub number-back : (end k : ℕ) → k < end → end ≤ 2 ^ 32 → number_below end (decimal k) ≡ Some k

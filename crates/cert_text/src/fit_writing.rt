@@ -8,9 +8,9 @@ ghost use Rattle.cert_text.specs.KeptCert.{kept_cert_text};
 ghost use Rattle.cert_text.specs.Page.{Puts, Cuts};
 
 use crate::fit_line::FitLine;
-use crate::page::{Page, put_line, put_lines, put_rest};
+use crate::page::{Page, put_headed, put_lines, put_rest};
 use arrayvec::ArrayVec;
-use certificate_laws::{FitCert, KeptCert, Off};
+use certificate_laws::{FitCert, KeptCert};
 use roam_edge::{Failed, Sink};
 
 /// Writes the text of a certificate: one blank between fields, and one LF after each line.
@@ -49,26 +49,6 @@ fn put_fit<S: Sink>(page: &mut Page, cert: &FitCert, out: &mut S) -> Result<(), 
     ensures faults { HasCause (S.faults out.old) (S.faults out.new) result }
     ensures in_time { IsInTime (S.late out.old) (S.faults out.old) (S.late out.new) }
 {
-    put_parts(page, cert.tolerance(), cert.needed(), cert.beyond(), out)
-}
-
-/// Puts the lines of a certificate of these parts on the page.
-fn put_parts<S: Sink>(
-    page: &mut Page,
-    tolerance: u32,
-    needed: &[Off],
-    beyond: &[Off],
-    out: &mut S,
-) -> Result<(), Failed>
-    ensures ok { OnOk result (Puts (S.contents out.old) (S.contents out.new) page.old.items page.new.items
-        (fit_cert_text (record { tolerance = tolerance; needed = needed.now; beyond = beyond.now }))) }
-    ensures err { OnErr result (Cuts (S.contents out.old) (S.contents out.new) page.old.items
-        (fit_cert_text (record { tolerance = tolerance; needed = needed.now; beyond = beyond.now }))) }
-    ensures faults { HasCause (S.faults out.old) (S.faults out.new) result }
-    ensures in_time { IsInTime (S.late out.old) (S.faults out.old) (S.late out.new) }
-{
-    put_line(page, FitLine::ToleranceLine(tolerance), out)?;
-    put_lines(page, needed, out)?;
-    put_line(page, FitLine::MeshLine, out)?;
-    put_lines(page, beyond, out)
+    put_headed(page, FitLine::ToleranceLine(cert.tolerance()), cert.needed(), out)?;
+    put_headed(page, FitLine::MeshLine, cert.beyond(), out)
 }

@@ -53,8 +53,26 @@ pub(crate) fn put_lines<L: Line, S: Sink>(
     Ok(())
 }
 
+/// Puts a line on the page, and behind it those of these.
+pub(crate) fn put_headed<H: Line, L: Line, S: Sink>(
+    page: &mut Page,
+    head: H,
+    lines: &[L],
+    out: &mut S,
+) -> Result<(), Failed>
+    ensures ok { OnOk result (Puts (S.contents out.old) (S.contents out.new) page.old.items page.new.items
+        (ended (H.text head) ++ flat_map (λ line. ended (L.text line)) lines.now)) }
+    ensures err { OnErr result (Cuts (S.contents out.old) (S.contents out.new) page.old.items
+        (ended (H.text head) ++ flat_map (λ line. ended (L.text line)) lines.now)) }
+    ensures faults { HasCause (S.faults out.old) (S.faults out.new) result }
+    ensures in_time { IsInTime (S.late out.old) (S.faults out.old) (S.late out.new) }
+{
+    put_line(page, head, out)?;
+    put_lines(page, lines, out)
+}
+
 /// Puts a line on the page, which is handed to the sink first where it has no room for a longest line.
-pub(crate) fn put_line<L: Line, S: Sink>(
+fn put_line<L: Line, S: Sink>(
     page: &mut Page,
     line: L,
     out: &mut S,
