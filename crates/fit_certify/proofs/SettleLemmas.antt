@@ -26,7 +26,7 @@ use Rattle.fit_laws.proofs.ErrorLemmas.{error-finest}
 use Rattle.certificate_laws.specs.declared.fit_reason.Off.{Off}
 use Rattle.certificate_laws.specs.FitCertificate.{LeadsTo}
 use Rattle.certificate_laws.proofs.LeadLemmas.{leads-next, leads-grown}
-use Rattle.fit_certify.specs.Settling.{AreKnown, AreReady, AreKept, IsGoingOn, HasSplit}
+use Rattle.fit_certify.specs.Settling.{AreKnown, AreReady, AreKept, IsGoingOn, HasSplit, IsPass}
 
 -- the error is the greatest way off the plane
 pub error-most : (n : ℕ) (heights : List ℕ) (a tolerance : ℕ) → greatest (offs_in n heights a) ≤ tolerance
@@ -74,15 +74,8 @@ known-more n heights lower known next t before here added = record {
 
 -- one split
 
--- nothing happens
-pub going-same : (n : ℕ) (heights : List ℕ) (tolerance : ℕ) (flags : List Bool) (reasons : List Off) →
-    IsClosed n (is_flagged flags) →
-    IsGoingOn n heights tolerance flags reasons flags reasons
-going-same n heights tolerance flags reasons closed =
-    record { closed = closed; kept = λ a is. is; leads = λ has leads. leads }
-
 -- one thing after the other
-pub going-through :
+going-through :
     (n : ℕ) (heights : List ℕ) (tolerance : ℕ) (one two three : List Bool) (first second third : List Off) →
     IsGoingOn n heights tolerance one first two second → IsGoingOn n heights tolerance two second three third
     → IsGoingOn n heights tolerance one first three third
@@ -148,11 +141,21 @@ either-more n old mid new one other next either first same second again did_any 
     (cases_Bool one)
 
 -- so of the two parts together
-pub either-split : (n : ℕ) (old mid new : List Bool) (one other next : Bool) → next ≡ (one || other) →
+either-split : (n : ℕ) (old mid new : List Bool) (one other next : Bool) → next ≡ (one || other) →
     HasSplit n old mid one → HasSplit n mid new other → HasSplit n old new next
 either-split n old mid new one other next either first second = record {
   more = either-more n old mid new one other next either first.more first.same second.more second.same;
   same = λ not. let both = neither one other next either not in second.same both.1 ∙ first.same both.0;
+}
+
+-- one part after the other
+pub pass-through : (n : ℕ) (heights : List ℕ) (tolerance : ℕ) (one two three : List Bool)
+    (first second third : List Off) (did other next : Bool) → next ≡ (did || other) →
+    IsPass n heights tolerance one first two second did → IsPass n heights tolerance two second three third other →
+    IsPass n heights tolerance one first three third next
+pass-through n heights tolerance one two three first second third did other next either p q = record {
+  going = going-through n heights tolerance one two three first second third p.going q.going;
+  split = either-split n one two three did other next either p.split q.split;
 }
 
 -- a part of a pass leaves what the next one begins with

@@ -1,6 +1,6 @@
 -- Reasons that are listed as their triangles are split, and triangles that are known to be within a tolerance. This
 -- project's own words.
--- Words: AreKnown, IsLower, AreReady, AreKept, IsGoingOn, HasSplit.
+-- Words: AreKnown, IsLower, AreReady, AreKept, IsGoingOn, HasSplit, IsPass.
 use Rattle.std.specs.Prelude.{◌≡◌, ℕ, ◌+◌, ◌-◌, ◌*◌, ◌^◌, ◌<◌, ◌≤◌, Bool, true, false, IsTrue, List, length}
 use Rattle.mesh_defs.specs.ClosedSet.{IsClosed, IsSubset, leaves_of}
 use Rattle.mesh_laws.specs.Sweep.{is_flagged}
@@ -45,3 +45,9 @@ pub record IsGoingOn (n : ℕ) (heights : List ℕ) (tolerance : ℕ) (old : Lis
 pub record HasSplit (n : ℕ) (old new : List Bool) (again : Bool) : Type 0 where
   pub more : again ≡ true → length (leaves_of n (is_flagged old)) < length (leaves_of n (is_flagged new))
   pub same : again ≡ false → new ≡ old
+
+-- a pass over some triangles, and whether it split a leaf
+pub record IsPass (n : ℕ) (heights : List ℕ) (tolerance : ℕ) (old : List Bool) (before : List Off) (new : List Bool)
+    (after : List Off) (again : Bool) : Type 0 where
+  pub going : IsGoingOn n heights tolerance old before new after
+  pub split : HasSplit n old new again

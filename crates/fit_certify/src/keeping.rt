@@ -1,7 +1,6 @@
 //! Certificates of fitted meshes that keep points: making one, and the mesh of one.
 
 ghost use Rattle.std.specs.Prelude.{◌≡◌, ℕ, ◌+◌, ◌*◌, ◌^◌, ◌<◌, ◌≤◌, Bool, [], false, List, All, IfOk, IfSome, IfNone, length};
-ghost use Rattle.std.specs.Prelude.{take};
 ghost use Rattle.mesh_defs.specs.declared.point.Point.{Point as PointSeen};
 ghost use Rattle.mesh_defs.specs.Triangle.{level_of};
 ghost use Rattle.mesh_defs.specs.ClosedSet.{IsClosed, IsLeastClosed};
@@ -14,8 +13,8 @@ ghost use Rattle.certificate_laws.specs.Keeping.{is_centred, IsKeptSound};
 
 use crate::points::{list_needs, split_centred};
 use crate::replay::replay;
+use crate::room::{leaves, no_flags};
 use crate::settle::settle;
-use address_flags::{end, list_leaves};
 use bintree_addr::{Point, Tri};
 use certificate_laws::{FitCert, KeptCert};
 use mesh_defs::NoMemory;
@@ -42,33 +41,12 @@ pub fn make_kept(
         IsKeptSound grid.now.n grid.now.heights points.now tolerance c mesh) }
     ensures few { IfOk result (λ c. length c.needs ≤ length points.now) }
 {
-    let mut flags = vec![in alloc; false; end(grid.n()) as usize]?;
-    let mut known = vec![in alloc; false; end(grid.n()) as usize]?;
-    kept_cert_of(alloc, grid, tolerance, points, &mut flags, &mut known)
-}
-
-/// The same with flags of no triangle, and none that is known.
-fn kept_cert_of(
-    alloc: Global,
-    grid: &Grid,
-    tolerance: u32,
-    points: &[Point],
-    flags: &mut [bool],
-    known: &mut [bool],
-) -> Result<KeptCert, NoMemory>
-    requires file_level { grid.now.n ≤ GREATEST_FILE_LEVEL }
-    requires inside { All (IsInSquare (2 ^ grid.now.n)) points.now }
-    requires few { length points.now ≤ MOST_REASONS }
-    requires flags { length flags.old ≡ 2 ^ (2 * grid.now.n + 1) }
-    requires empty { (a : ℕ) → is_flagged flags.old a ≡ false }
-    requires room { length known.old ≡ 2 ^ (2 * grid.now.n + 1) }
-    requires none_known { (a : ℕ) → is_flagged known.old a ≡ false }
-    ensures sound { IfOk result (λ c. (mesh : List ℕ) ×
-        IsKeptSound grid.now.n grid.now.heights points.now tolerance c mesh) }
-    ensures few { IfOk result (λ c. length c.needs ≤ length points.now) }
-{
-    let needs = list_needs(alloc, grid.n(), points, flags)?;
-    let needed = settle(alloc, grid, tolerance, tolerance, flags, known)?;
+    let n = grid.n();
+    let mut flags = no_flags(alloc, n)?;
+    let mut known = no_flags(alloc, n)?;
+    let flags = flags.as_mut_slice();
+    let needs = list_needs(alloc, n, points, flags)?;
+    let needed = settle(alloc, grid, tolerance, tolerance, flags, &mut known)?;
     Ok(KeptCert::new(needs, FitCert::new(tolerance, needed, Vec::new(alloc))))
 }
 
@@ -103,25 +81,9 @@ pub fn mesh_of_kept(alloc: Global, grid: &Grid, cert: &KeptCert) -> Result<Vec<T
     ensures levels { IfOk result (λ v. All (λ a. level_of a ≤ 2 * grid.now.n) v.items) }
     ensures few { IfOk result (λ v. length v.items ≤ 2 ^ (2 * grid.now.n + 1)) }
 {
-    let mut flags = vec![in alloc; false; end(grid.n()) as usize]?;
-    let mut room = vec![in alloc; Tri::LOWER; end(grid.n()) as usize]?;
-    let count = list_kept(grid, cert, &mut flags, &mut room);
-    room.truncate(count);
-    Ok(room)
-}
-
-/// Lists them in given room, with flags of no triangle. Answers how many they are.
-fn list_kept(grid: &Grid, cert: &KeptCert, flags: &mut [bool], room: &mut [Tri]) -> usize
-    requires flags { length flags.old ≡ 2 ^ (2 * grid.now.n + 1) }
-    requires room { length room.old ≡ 2 ^ (2 * grid.now.n + 1) }
-    requires empty { (a : ℕ) → is_flagged flags.old a ≡ false }
-    ensures mesh { (points : List PointSeen) (tolerance : ℕ) (mesh : List ℕ) →
-        All (IsInSquare (2 ^ grid.now.n)) points →
-        IsKeptSound grid.now.n grid.now.heights points tolerance cert.now mesh → take result room.new ≡ mesh }
-    ensures levels { All (λ a. level_of a ≤ 2 * grid.now.n) (take result room.new) }
-    ensures within { result ≤ length room.new }
-    ensures room { length room.new ≡ length room.old }
-{
+    let n = grid.n();
+    let mut flags = no_flags(alloc, n)?;
+    let flags = flags.as_mut_slice();
     let _bad = replay_kept(grid, cert, flags);
-    list_leaves(flags, grid.n(), room)
+    leaves(alloc, n, flags)
 }

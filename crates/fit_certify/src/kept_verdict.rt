@@ -11,8 +11,8 @@ ghost use Rattle.fit_certify.specs.Keeping.{AreMarked};
 
 use crate::keeping::replay_kept;
 use crate::points::{bad_need, keeps, marks_of};
+use crate::room::{leaf_room, no_flags};
 use crate::verdict::{measure, rejected};
-use address_flags::end;
 use bintree_addr::{Point, Tri};
 use certificate_laws::{FitReject, FitVerdict, KeptCert};
 use mesh_defs::NoMemory;
@@ -35,13 +35,20 @@ pub fn check_kept(
     requires inside { All (IsInSquare (2 ^ grid.now.n)) points.now }
     ensures verdict { IfOk result (IsKeptVerdict grid.now.n grid.now.heights points.now tolerance cert.now) }
 {
-    let marks = marks_of(alloc, grid.n(), points)?;
+    let n = grid.n();
+    let marks = marks_of(alloc, n, points)?;
     if let Some(why) = first_fault(&marks, cert, tolerance) {
         return Ok(rejected(why));
     }
-    let mut flags = vec![in alloc; false; end(grid.n()) as usize]?;
-    let mut room = vec![in alloc; Tri::LOWER; end(grid.n()) as usize]?;
-    Ok(replayed_verdict(grid, cert, points, &mut flags, &mut room))
+    let mut flags = no_flags(alloc, n)?;
+    let mut room = leaf_room(alloc, n)?;
+    let flags = flags.as_mut_slice();
+    match replay_kept(grid, cert, flags) {
+        Some(place) => Ok(rejected(FitReject::BadReason {
+            index: cert.needs().len() as u32 + place,
+        })),
+        None => Ok(kept_verdict(grid, cert, points, flags, &mut room)),
+    }
 }
 
 /// What fails of the tolerance and of the points, if anything does.
@@ -61,31 +68,8 @@ fn first_fault(marks: &Grid, cert: &KeptCert, tolerance: u32) -> Option<FitRejec
     }
 }
 
-/// The verdict on a certificate whose points are needed, with flags of no triangle and a list for all finest ones.
-fn replayed_verdict(
-    grid: &Grid,
-    cert: &KeptCert,
-    points: &[Point],
-    flags: &mut [bool],
-    room: &mut [Tri],
-) -> FitVerdict
-    requires inside { All (IsInSquare (2 ^ grid.now.n)) points.now }
-    requires needs { All (IsNeed grid.now.n points.now) cert.now.needs }
-    requires flags { length flags.old ≡ 2 ^ (2 * grid.now.n + 1) }
-    requires room { length room.old ≡ 2 ^ (2 * grid.now.n + 1) }
-    requires empty { (a : ℕ) → is_flagged flags.old a ≡ false }
-    ensures { IsKeptVerdict grid.now.n grid.now.heights points.now cert.now.rest.tolerance cert.now result }
-{
-    let _level = grid.n();
-    match replay_kept(grid, cert, flags) {
-        Some(place) => rejected(FitReject::BadReason {
-            index: cert.needs().len() as u32 + place,
-        }),
-        None => kept_verdict(grid, cert, points, flags, room),
-    }
-}
-
-/// The same, where the flags are those of the mesh.
+/// The verdict on a certificate whose points are needed, where the flags are those of the mesh, in room for a list of
+/// all finest triangles.
 fn kept_verdict(
     grid: &Grid,
     cert: &KeptCert,

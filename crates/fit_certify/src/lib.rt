@@ -15,6 +15,7 @@ mod making;
 mod mesh;
 mod points;
 mod replay;
+mod room;
 mod settle;
 mod verdict;
 

@@ -10,8 +10,8 @@ ghost use Rattle.certificate_laws.specs.declared.limits.TheConstants.{MOST_REASO
 ghost use Rattle.certificate_laws.specs.Making.{IsPossible, IsBestTolerance, IsBelow, HasNoneBehind};
 ghost use Rattle.fit_certify.specs.Settling.{AreKnown, IsLower};
 
+use crate::room::no_flags;
 use crate::settle::settle;
-use address_flags::end;
 use certificate_laws::{FitCert, Off, Target};
 use fit_mesh::Fit;
 use mesh_defs::NoMemory;
@@ -31,31 +31,12 @@ pub fn make(alloc: Global, grid: &Grid, target: Target) -> Result<FitCert, NoMem
     ensures behind { IfOk result (λ c. HasNoneBehind target c.beyond) }
 {
     let tolerance = tolerance_for(alloc, grid, target)?;
-    let mut flags = vec![in alloc; false; end(grid.n()) as usize]?;
-    let mut known = vec![in alloc; false; end(grid.n()) as usize]?;
-    cert_of(alloc, grid, target, tolerance, &mut flags, &mut known)
-}
-
-/// The same for this tolerance, with flags of no triangle, and none that is known.
-fn cert_of(
-    alloc: Global,
-    grid: &Grid,
-    target: Target,
-    tolerance: u32,
-    flags: &mut [bool],
-    known: &mut [bool],
-) -> Result<FitCert, NoMemory>
-    requires file_level { grid.now.n ≤ GREATEST_FILE_LEVEL }
-    requires flags { length flags.old ≡ 2 ^ (2 * grid.now.n + 1) }
-    requires empty { (a : ℕ) → is_flagged flags.old a ≡ false }
-    requires room { length known.old ≡ 2 ^ (2 * grid.now.n + 1) }
-    requires none_known { (a : ℕ) → is_flagged known.old a ≡ false }
-    requires best { IsBestTolerance grid.now.n (error_of grid.now.n grid.now.heights) target tolerance }
-    ensures sound { IfOk result (λ c. (mesh : List ℕ) × IsFitSound grid.now.n grid.now.heights target c mesh) }
-    ensures behind { IfOk result (λ c. HasNoneBehind target c.beyond) }
-{
-    let _level = grid.n();
     let lower = lower_of(target, tolerance);
+    let n = grid.n();
+    let mut flags = no_flags(alloc, n)?;
+    let mut known = no_flags(alloc, n)?;
+    let flags = flags.as_mut_slice();
+    let known = known.as_mut_slice();
     let needed = settle(alloc, grid, tolerance, lower, flags, known)?;
     let beyond = settle_below(alloc, grid, target, lower, flags, known)?;
     Ok(FitCert::new(tolerance, needed, beyond))

@@ -10,7 +10,7 @@ ghost use Rattle.mesh_laws.specs.Sweep.{is_flagged};
 ghost use Rattle.fit_laws.specs.Error.{error_of};
 ghost use Rattle.certificate_laws.specs.FitCertificate.{LeadsTo};
 ghost use Rattle.certificate_laws.specs.declared.limits.TheConstants.{MOST_REASONS};
-ghost use Rattle.fit_certify.specs.Settling.{AreKnown, AreReady, AreKept, IsGoingOn, HasSplit};
+ghost use Rattle.fit_certify.specs.Settling.{AreKnown, AreReady, AreKept, IsPass};
 
 use crate::force::force;
 use crate::known::point_off;
@@ -69,9 +69,8 @@ fn sweep(
 ) -> Result<bool, NoMemory>
     requires ready { AreReady grid.now.n grid.now.heights tolerance lower flags.old known.old }
     ensures kept { AreKept grid.now.n grid.now.heights lower flags.old known.old flags.new known.new }
-    ensures going { OnOk result (IsGoingOn grid.now.n grid.now.heights tolerance
+    ensures pass { IfOk result (IsPass grid.now.n grid.now.heights tolerance
         flags.old reasons.old.items flags.new reasons.new.items) }
-    ensures split { IfOk result (HasSplit grid.now.n flags.old flags.new) }
     ensures none { IfOk result (λ again. again ≡ false → worst_of (error_of grid.now.n grid.now.heights)
         (leaves_of grid.now.n (is_flagged flags.new)) ≤ tolerance) }
 {
@@ -95,9 +94,8 @@ fn sweep_under(
     requires parent { 4 ≤ t → IsTrue (is_flagged flags.old (t / 2)) }
     requires ready { AreReady grid.now.n grid.now.heights tolerance lower flags.old known.old }
     ensures kept { AreKept grid.now.n grid.now.heights lower flags.old known.old flags.new known.new }
-    ensures going { OnOk result (IsGoingOn grid.now.n grid.now.heights tolerance
+    ensures pass { IfOk result (IsPass grid.now.n grid.now.heights tolerance
         flags.old reasons.old.items flags.new reasons.new.items) }
-    ensures split { IfOk result (HasSplit grid.now.n flags.old flags.new) }
     ensures none { IfOk result (λ again. again ≡ false →
         All (λ a. error_of grid.now.n grid.now.heights a ≤ tolerance)
         (leaves_under (2 * grid.now.n - level_of t) (is_flagged flags.new) t)) }
@@ -135,9 +133,8 @@ fn split_leaf(
     requires parent { 4 ≤ t → IsTrue (is_flagged flags.old (t / 2)) }
     requires ready { AreReady grid.now.n grid.now.heights tolerance lower flags.old known.old }
     ensures kept { AreKept grid.now.n grid.now.heights lower flags.old known.old flags.new known.new }
-    ensures going { OnOk result (IsGoingOn grid.now.n grid.now.heights tolerance
+    ensures pass { IfOk result (IsPass grid.now.n grid.now.heights tolerance
         flags.old reasons.old.items flags.new reasons.new.items) }
-    ensures split { IfOk result (HasSplit grid.now.n flags.old flags.new) }
     ensures none { IfOk result (λ is. is ≡ false →
         is_flagged flags.new t ≡ false → error_of grid.now.n grid.now.heights t ≤ tolerance) }
 {

@@ -8,7 +8,8 @@ ghost use Rattle.fit_laws.specs.Error.{error_of};
 ghost use Rattle.certificate_laws.specs.FitCertificate.{LeadsTo, IsFor, IsWithinTarget, IsEnough, IsFitVerdict};
 
 use crate::replay::replay;
-use address_flags::{end, list_leaves};
+use crate::room::{leaf_room, no_flags};
+use address_flags::list_leaves;
 use bintree_addr::Tri;
 use certificate_laws::{FitCert, FitReject, FitVerdict, Target};
 use fit_mesh::worst_error;
@@ -29,36 +30,22 @@ pub fn check(
 ) -> Result<FitVerdict, NoMemory>
     ensures verdict { IfOk result (IsFitVerdict grid.now.n grid.now.heights target cert.now) }
 {
-    let mut flags = vec![in alloc; false; end(grid.n()) as usize]?;
-    let mut room = vec![in alloc; Tri::LOWER; end(grid.n()) as usize]?;
-    Ok(verdict(grid, cert, target, &mut flags, &mut room))
-}
-
-/// The same in given room: flags of no triangle, and a list for all finest ones.
-fn verdict(
-    grid: &Grid,
-    cert: &FitCert,
-    target: Target,
-    flags: &mut [bool],
-    room: &mut [Tri],
-) -> FitVerdict
-    requires flags { length flags.old ≡ 2 ^ (2 * grid.now.n + 1) }
-    requires room { length room.old ≡ 2 ^ (2 * grid.now.n + 1) }
-    requires empty { (a : ℕ) → is_flagged flags.old a ≡ false }
-    ensures { IsFitVerdict grid.now.n grid.now.heights target cert.now result }
-{
-    let _level = grid.n();
     let tolerance = cert.tolerance();
     if !is_for(target, tolerance) {
-        return rejected(FitReject::OtherTolerance);
+        return Ok(rejected(FitReject::OtherTolerance));
     }
+    let n = grid.n();
+    let mut flags = no_flags(alloc, n)?;
+    let mut room = leaf_room(alloc, n)?;
+    let flags = flags.as_mut_slice();
     match replay(grid, tolerance, cert.needed(), flags) {
-        Some(index) => rejected(FitReject::BadReason { index }),
-        None => mesh_verdict(grid, cert, target, flags, room),
+        Some(index) => Ok(rejected(FitReject::BadReason { index })),
+        None => Ok(mesh_verdict(grid, cert, target, flags, &mut room)),
     }
 }
 
-/// The same, where the flags are those of the mesh.
+/// The same in room for a list of all finest triangles, where the tolerance is right and the flags are those of the
+/// mesh.
 fn mesh_verdict(
     grid: &Grid,
     cert: &FitCert,

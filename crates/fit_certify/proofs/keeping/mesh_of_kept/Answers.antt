@@ -1,21 +1,16 @@
--- No flag is set at first.
-use Rattle.std.proofs.Common.{◌≡◌, Bool, false, List, sym, ◌∙◌, subst, arith}
-use Rattle.std.proofs.lemmas.List.{take-take, take-append-le}
+-- The leaves of what the points and the reasons make.
+use Rattle.std.proofs.Common.{◌∙◌, ap}
+use Rattle.std.proofs.lemmas.Result.{IfOk-weaker}
+use Rattle.mesh_defs.specs.ClosedSet.{leaves_of}
 use Rattle.mesh_laws.specs.Sweep.{is_flagged}
-use Rattle.mesh_laws.proofs.FlagLemmas.{flagged-unset}
+use Rattle.fit_certify.proofs.KeepingLemmas.{kept-listed}
 use Rattle.fit_certify.proofs.keeping.mesh_of_kept.Goals as goal
 
-pub list_kept-count-requires-clause-empty : goal.list_kept-count-requires-clause-empty
-list_kept-count-requires-clause-empty c a =
-    subst (λ (l : List Bool). is_flagged l a ≡ false)
-    (sym (c.deref_mut.ensures.value ∙ c.in_ok-flags.ensures.items_if_clones_equal (λ y h. h))) (flagged-unset _ a)
-
 pub returns-clause-mesh : goal.returns-clause-mesh
-returns-clause-mesh c points tolerance mesh inside sound =
-    let is = c.list_kept-count.ensures.mesh points tolerance mesh inside sound in
-    let count = c.list_kept-count.result in
-    let listed = c.list_kept-count.new.room in
-    c.truncate.ensures.items
-    ∙ take-take count c.in_ok-room.room.len _
-    (omega (arith, c.list_kept-count.ensures.within, c.list_kept-count.ensures.room, c.deref_mut-2.ensures.len))
-    ∙ take-append-le count listed _ c.list_kept-count.ensures.within ∙ is
+returns-clause-mesh c = IfOk-weaker c.leaves.result _ _
+    (λ v listed points tolerance mesh inside sound.
+    listed ∙ ap (λ k. leaves_of k (is_flagged c.replay_kept-bad.new.flags)) c.n-n.ensures.value
+    ∙ kept-listed c.args.grid.now.n c.args.grid.now.heights points tolerance c.args.cert.now mesh
+    (is_flagged c.replay_kept-bad.new.flags) c.replay_kept-bad.result inside sound
+    c.replay_kept-bad.ensures.all c.replay_kept-bad.ensures.bad)
+    c.leaves.ensures.listed

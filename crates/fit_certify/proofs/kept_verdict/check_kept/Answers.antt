@@ -1,10 +1,9 @@
--- The marks are those of the points on the grid, and no flag is set at first.
-use Rattle.std.proofs.Common.{◌≡◌, ℕ, Bool, false, List, All, sym, ◌∙◌, subst}
+-- The marks are those of the points on the grid, and the first reason that is none stands behind the points.
+use Rattle.std.proofs.Common.{◌≡◌, ℕ, ◌+◌, List, All, inl, inr, length, sym, ◌∙◌, ap, subst}
 use Rattle.mesh_defs.specs.declared.point.Point.{Point}
-use Rattle.mesh_laws.specs.Sweep.{is_flagged}
-use Rattle.mesh_laws.proofs.FlagLemmas.{flagged-unset}
 use Rattle.certificate_laws.specs.declared.fit_reason.FitVerdict.{FitVerdict}
 use Rattle.certificate_laws.specs.Keeping.{IsNeed, IsKeptRejected, IsKeptVerdict}
+use Rattle.fit_certify.proofs.KeepingLemmas.{needs-inside}
 use Rattle.fit_certify.proofs.kept_verdict.check_kept.Goals as goal
 
 pub returns-in-Some : goal.returns-in-Some
@@ -16,17 +15,39 @@ returns-in-Some c =
       verdict = subst (λ (v : FitVerdict). IsKeptVerdict c.args.grid.now.n heights points c.args.tolerance cert v)
           (sym c.rejected.ensures)
           (subst (λ (k : ℕ). IsKeptRejected k heights points c.args.tolerance cert c.in-Some.why)
-          (c.in_ok-marks.ensures.n ∙ c.n.ensures.value)
+          (c.in_ok-marks.ensures.n ∙ c.n-n.ensures.value)
           (c.in-Some.ensures.some points heights c.in_ok-marks.ensures.marked));
     }
 
-pub replayed_verdict-requires-clause-needs : goal.replayed_verdict-requires-clause-needs
-replayed_verdict-requires-clause-needs c =
-    subst (λ (k : ℕ). All (IsNeed k c.args.points.now) c.args.cert.now.needs)
-    (c.in_ok-marks.ensures.n ∙ c.n.ensures.value)
-    (c.in_default.ensures.needs c.args.points.now c.in_ok-marks.ensures.marked)
+pub kept_verdict-requires-clause-leads : goal.kept_verdict-requires-clause-leads
+kept_verdict-requires-clause-leads c =
+    let points : List Point = c.args.points.now in
+    let needs = subst (λ (k : ℕ). All (IsNeed k points) c.args.cert.now.needs)
+    (c.in_ok-marks.ensures.n ∙ c.n-n.ensures.value) (c.in_default.ensures.needs points c.in_ok-marks.ensures.marked) in
+    let all = c.in-None.ensures.all (needs-inside c.args.grid.now.n points c.args.cert.now.needs c.requires.inside needs) in
+    record { needs = needs; start = all.0; begun = all.1; needed = all.2 }
 
-pub replayed_verdict-requires-clause-empty : goal.replayed_verdict-requires-clause-empty
-replayed_verdict-requires-clause-empty c a =
-    subst (λ (l : List Bool). is_flagged l a ≡ false)
-    (sym (c.deref_mut.ensures.value ∙ c.in_ok-flags.ensures.items_if_clones_equal (λ y h. h))) (flagged-unset _ a)
+pub returns-in-Some-replay_kept : goal.returns-in-Some-replay_kept
+returns-in-Some-replay_kept c =
+    let n : ℕ = c.args.grid.now.n in
+    let heights : List ℕ = c.args.grid.now.heights in
+    let points : List Point = c.args.points.now in
+    let cert = c.args.cert.now in
+    let needs = subst (λ (k : ℕ). All (IsNeed k points) cert.needs)
+    (c.in_ok-marks.ensures.n ∙ c.n-n.ensures.value) (c.in_default.ensures.needs points c.in_ok-marks.ensures.marked) in
+    let place : ℕ = c.in-Some-replay_kept.place in
+    let bad = c.in-Some-replay_kept.ensures.bad (needs-inside n points cert.needs c.requires.inside needs) in
+    record {
+      verdict = subst (λ (v : FitVerdict). IsKeptVerdict n heights points c.args.tolerance cert v)
+          (sym c.rejected-in-Some-replay_kept.ensures) (
+            c.in_default.ensures.own,
+            inr (inl (
+              bad.0,
+              needs,
+              bad.1,
+              place,
+              bad.2,
+              ap (λ (l : List Point). length l + place) c.needs.ensures.value,
+            )),
+          );
+    }

@@ -1,21 +1,20 @@
--- No flag is set at first.
-use Rattle.std.proofs.Common.{◌≡◌, Bool, false, List, sym, ◌∙◌, subst, arith}
-use Rattle.std.proofs.lemmas.List.{take-take, take-append-le}
+-- The leaves of what the reasons make.
+use Rattle.std.proofs.Common.{◌≡◌, Bool, false, List, sym, ◌∙◌, ap, subst}
+use Rattle.std.proofs.lemmas.Result.{IfOk-weaker}
+use Rattle.mesh_defs.specs.ClosedSet.{leaves_of}
 use Rattle.mesh_laws.specs.Sweep.{is_flagged}
-use Rattle.mesh_laws.proofs.FlagLemmas.{flagged-unset}
+use Rattle.fit_certify.proofs.MeshLemmas.{mesh-listed}
 use Rattle.fit_certify.proofs.mesh.mesh_of.Goals as goal
 
-pub list_mesh-count-requires-clause-empty : goal.list_mesh-count-requires-clause-empty
-list_mesh-count-requires-clause-empty c a =
-    subst (λ (l : List Bool). is_flagged l a ≡ false)
-    (sym (c.deref_mut.ensures.value ∙ c.in_ok-flags.ensures.items_if_clones_equal (λ y h. h))) (flagged-unset _ a)
-
 pub returns-clause-mesh : goal.returns-clause-mesh
-returns-clause-mesh c target mesh sound =
-    let is = c.list_mesh-count.ensures.mesh target mesh sound in
-    let count = c.list_mesh-count.result in
-    let listed = c.list_mesh-count.new.room in
-    c.truncate.ensures.items
-    ∙ take-take count c.in_ok-room.room.len _
-    (omega (arith, c.list_mesh-count.ensures.within, c.list_mesh-count.ensures.room, c.deref_mut-2.ensures.len))
-    ∙ take-append-le count listed _ c.list_mesh-count.ensures.within ∙ is
+returns-clause-mesh c = IfOk-weaker c.leaves.result _ _
+    (λ v listed target mesh sound.
+    listed ∙ ap (λ k. leaves_of k (is_flagged c.replay-bad.new.flags)) c.n-n.ensures.value
+    ∙ mesh-listed c.args.grid.now.n c.args.grid.now.heights target c.args.cert.now mesh
+    c.tolerance.result c.needed.result.now
+    (is_flagged c.as_mut_slice-flags.result.now) (is_flagged c.replay-bad.new.flags) c.replay-bad.result sound
+    c.tolerance.ensures c.needed.ensures.value
+    (subst (λ (l : List Bool). (a : _) → is_flagged l a ≡ false) (sym c.as_mut_slice-flags.ensures.value)
+    c.in_ok-flags.ensures.empty)
+    c.replay-bad.ensures.all c.replay-bad.ensures.bad)
+    c.leaves.ensures.listed

@@ -4,7 +4,7 @@ use Rattle.mesh_defs.specs.Triangle.{level_of}
 use Rattle.mesh_defs.specs.ClosedSet.{leaves_under}
 use Rattle.mesh_laws.specs.Sweep.{is_flagged}
 use Rattle.fit_laws.specs.Error.{error_of}
-use Rattle.fit_certify.proofs.SettleLemmas.{going-through, neither, either-split, ready-on, half-ready}
+use Rattle.fit_certify.proofs.SettleLemmas.{pass-through, neither, ready-on, half-ready}
 use Rattle.fit_certify.proofs.SettleLemmas.{under-both, under-whole, under-finest, finest-none}
 use Rattle.fit_certify.proofs.settle.+sweep_under.Goals as goal
 
@@ -46,7 +46,7 @@ sweep_under-requires m c =
           half.1,
           ready-on n c.args.grid.now.heights c.args.tolerance c.args.lower c.args.flags.now
               c.args.known.now c.split_leaf.new.flags c.split_leaf.new.known c.requires.ready c.split_leaf.ensures.kept
-              c.in_ok-is_off.ensures.going.closed,
+              c.in_ok-is_off.ensures.pass.going.closed,
         ),
       ),
     )
@@ -63,10 +63,10 @@ sweep_under-requires-2 m c =
     let falls = c.decreases in
     let member : is_flagged c.split_leaf.new.flags c.args.t ≡ true = sym c.is_set.ensures.value ∙ c.if-not-is_set.false in
     let half = half-ready n c.sweep_under.new.flags c.args.t c.right.result c.requires.address.low coarse (omega arith)
-    c.right.ensures.level (c.in_ok-left.ensures.going.kept c.args.t member) in
+    c.right.ensures.level (c.in_ok-left.ensures.pass.going.kept c.args.t member) in
     let ready = ready-on n heights c.args.tolerance c.args.lower c.args.flags.now c.args.known.now
     c.split_leaf.new.flags c.split_leaf.new.known c.requires.ready c.split_leaf.ensures.kept
-    c.in_ok-is_off.ensures.going.closed in (
+    c.in_ok-is_off.ensures.pass.going.closed in (
       omega arith,
       (
         half.0,
@@ -74,30 +74,22 @@ sweep_under-requires-2 m c =
           half.1,
           ready-on n heights c.args.tolerance c.args.lower c.split_leaf.new.flags
               c.split_leaf.new.known c.sweep_under.new.flags c.sweep_under.new.known ready c.sweep_under.ensures.kept
-              c.in_ok-left.ensures.going.closed,
+              c.in_ok-left.ensures.pass.going.closed,
         ),
       ),
     )
 
-pub returns-clause-going : goal.returns-clause-going
-returns-clause-going m c =
+pub returns-clause-pass : goal.returns-clause-pass
+returns-clause-pass m c =
     let n : ℕ = c.args.grid.now.n in
     let heights : List ℕ = c.args.grid.now.heights in
-    going-through n heights c.args.tolerance c.args.flags.now c.split_leaf.new.flags c.sweep_under-2.new.flags
+    pass-through n heights c.args.tolerance c.args.flags.now c.split_leaf.new.flags c.sweep_under-2.new.flags
     c.args.reasons.now.items c.split_leaf.new.reasons.items c.sweep_under-2.new.reasons.items
-    c.in_ok-is_off.ensures.going
-    (going-through n heights c.args.tolerance c.split_leaf.new.flags c.sweep_under.new.flags
+    c.in_ok-is_off.is_off c.either.result c.either-2.result c.either-2.ensures c.in_ok-is_off.ensures.pass
+    (pass-through n heights c.args.tolerance c.split_leaf.new.flags c.sweep_under.new.flags
     c.sweep_under-2.new.flags c.split_leaf.new.reasons.items c.sweep_under.new.reasons.items
-    c.sweep_under-2.new.reasons.items c.in_ok-left.ensures.going c.in_ok-right.ensures.going)
-
-pub returns-clause-split : goal.returns-clause-split
-returns-clause-split m c =
-    let n : ℕ = c.args.grid.now.n in
-    either-split n c.args.flags.now c.split_leaf.new.flags c.sweep_under-2.new.flags
-    c.in_ok-is_off.is_off c.either.result c.either-2.result c.either-2.ensures c.in_ok-is_off.ensures.split
-    (either-split n c.split_leaf.new.flags c.sweep_under.new.flags c.sweep_under-2.new.flags
-    c.in_ok-left.left c.in_ok-right.right c.either.result c.either.ensures
-    c.in_ok-left.ensures.split c.in_ok-right.ensures.split)
+    c.sweep_under-2.new.reasons.items c.in_ok-left.left c.in_ok-right.right c.either.result c.either.ensures
+    c.in_ok-left.ensures.pass c.in_ok-right.ensures.pass)
 
 pub returns-clause-none : goal.returns-clause-none
 returns-clause-none m c not =
@@ -110,12 +102,12 @@ returns-clause-none m c not =
     let coarse : level_of t < 2 * n = (let above = c.if-level-n.false in omega arith) in
     let member : is_flagged c.split_leaf.new.flags t ≡ true = sym c.is_set.ensures.value ∙ c.if-not-is_set.false in
     let last : is_flagged c.sweep_under-2.new.flags t ≡ true =
-    c.in_ok-right.ensures.going.kept t (c.in_ok-left.ensures.going.kept t member) in
+    c.in_ok-right.ensures.pass.going.kept t (c.in_ok-left.ensures.pass.going.kept t member) in
     let all = neither c.in_ok-is_off.is_off c.either.result c.either-2.result c.either-2.ensures not in
     let both = neither c.in_ok-left.left c.in_ok-right.right c.either.result c.either.ensures all.1 in
     under-both n (is_flagged c.sweep_under-2.new.flags) P t c.requires.address.low coarse last
     (subst (λ (l : List Bool). All P (leaves_under (2 * n - level_of (2 * t)) (is_flagged l) (2 * t)))
-    (sym (c.in_ok-right.ensures.split.same both.1))
+    (sym (c.in_ok-right.ensures.pass.split.same both.1))
     (subst (λ z. All P (leaves_under (2 * n - level_of z) (is_flagged c.sweep_under.new.flags) z))
     c.left.ensures.value (c.in_ok-left.ensures.none both.0)))
     (subst (λ z. All P (leaves_under (2 * n - level_of z) (is_flagged c.sweep_under-2.new.flags) z))

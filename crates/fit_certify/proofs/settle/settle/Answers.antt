@@ -7,7 +7,7 @@ use Rattle.fit_certify.proofs.settle.settle.Goals as goal
 pub loop-again-smaller : goal.loop-again-smaller
 loop-again-smaller c =
     settle-falls c.args.grid.now.n c.loop-again.flags c.sweep.new.flags c.loop-again.again c.in_ok-again.again
-    c.loop-again-test.true c.in_ok-again.ensures.split.more c.in_ok-again.ensures.split.same
+    c.loop-again-test.true c.in_ok-again.ensures.pass.split.more c.in_ok-again.ensures.pass.split.same
 
 pub returns-clause-few : goal.returns-clause-few
 returns-clause-few c =

@@ -5,7 +5,7 @@ use Rattle.mesh_defs.specs.ClosedSet.{leaves_under}
 use Rattle.mesh_laws.specs.Sweep.{is_flagged}
 use Rattle.mesh_laws.proofs.DescentLemmas.{IsAddress-down, IsDown-2, IsDown-3}
 use Rattle.fit_laws.specs.Error.{error_of}
-use Rattle.fit_certify.proofs.SettleLemmas.{going-through, neither, either-split, ready-on, halves-worst}
+use Rattle.fit_certify.proofs.SettleLemmas.{pass-through, neither, ready-on, halves-worst}
 use Rattle.fit_certify.proofs.settle.sweep.Goals as goal
 
 pub sweep_under-requires-clause-address : goal.sweep_under-requires-clause-address
@@ -18,20 +18,15 @@ pub sweep_under-requires-2-clause-ready : goal.sweep_under-requires-2-clause-rea
 sweep_under-requires-2-clause-ready c =
     ready-on c.args.grid.now.n c.args.grid.now.heights c.args.tolerance c.args.lower c.args.flags.now c.args.known.now
     c.sweep_under.new.flags c.sweep_under.new.known c.requires.ready c.sweep_under.ensures.kept
-    c.in_ok-below.ensures.going.closed
+    c.in_ok-below.ensures.pass.going.closed
 
-pub returns-clause-going : goal.returns-clause-going
-returns-clause-going c =
-    going-through c.args.grid.now.n c.args.grid.now.heights c.args.tolerance
+pub returns-clause-pass : goal.returns-clause-pass
+returns-clause-pass c =
+    pass-through c.args.grid.now.n c.args.grid.now.heights c.args.tolerance
     c.args.flags.now c.sweep_under.new.flags c.sweep_under-2.new.flags
     c.args.reasons.now.items c.sweep_under.new.reasons.items c.sweep_under-2.new.reasons.items
-    c.in_ok-below.ensures.going c.in_ok-above.ensures.going
-
-pub returns-clause-split : goal.returns-clause-split
-returns-clause-split c =
-    either-split c.args.grid.now.n c.args.flags.now c.sweep_under.new.flags c.sweep_under-2.new.flags
     c.in_ok-below.below c.in_ok-above.above c.either.result c.either.ensures
-    c.in_ok-below.ensures.split c.in_ok-above.ensures.split
+    c.in_ok-below.ensures.pass c.in_ok-above.ensures.pass
 
 pub returns-clause-none : goal.returns-clause-none
 returns-clause-none c not =
@@ -40,5 +35,5 @@ returns-clause-none c not =
     let both = neither c.in_ok-below.below c.in_ok-above.above c.either.result c.either.ensures not in
     halves-worst n e c.args.tolerance (is_flagged c.sweep_under-2.new.flags)
     (subst (λ (l : List Bool). All (λ a. e a ≤ c.args.tolerance) (leaves_under (2 * n - level_of 2) (is_flagged l) 2))
-    (sym (c.in_ok-above.ensures.split.same both.1)) (c.in_ok-below.ensures.none both.0))
+    (sym (c.in_ok-above.ensures.pass.split.same both.1)) (c.in_ok-below.ensures.none both.0))
     (c.in_ok-above.ensures.none both.1)
