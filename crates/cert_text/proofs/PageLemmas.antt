@@ -1,7 +1,6 @@
 -- Text that goes to a sink through a page.
 use Rattle.std.proofs.Common.{◌≡◌, ℕ, List, [], ◌∷◌, ◌++◌, Option, Some, Result, Ok, Err, sym, ap, ◌∙◌, subst}
 use Rattle.std.proofs.Common.{append_assoc, ◌+◌, ◌<◌, length, take, drop, get_or}
-use Rattle.std.specs.Prelude.{OnOk, OnErr}
 use Rattle.std.specs.List.{flat_map}
 use Rattle.std.proofs.lemmas.List.{append-nil, take_more, take-append-drop}
 use Rattle.std.proofs.lemmas.Grind.{flat_map-append}
@@ -96,15 +95,6 @@ pub puts-appends : {T E : Type 0} (old mid new : Option (List ℕ)) (page last t
     Appends old new text answer
 puts-appends old mid new page last text answer empty puts rest =
     rest old text (puts old [] (put-nothing old page empty))
-
--- what holds where the last call did not fail, or did
-pub on-ok : {T E : Type 0} {P Q : Type 0} (answer : Result T E) → (P → Q) → OnOk answer P → OnOk answer Q
-on-ok (Ok x) f p = f p
-on-ok (Err e) f p = tt
-
-pub on-err : {T E : Type 0} {P Q : Type 0} (answer : Result T E) → (P → Q) → OnErr answer P → OnErr answer Q
-on-err (Ok x) f p = tt
-on-err (Err e) f p = f p
 
 -- texts of the entries of a list, one after the other
 

@@ -19,7 +19,12 @@ pub fn write_cert<S: Sink>(cert: &Cert, out: &mut S) -> Result<(), Failed>
     ensures in_time { IsInTime (S.late out.old) (S.faults out.old) (S.late out.new) }
 {
     let mut page = ArrayVec::new();
-    put_headed(&mut page, CertLine::CameraLine(cert.camera()), cert.leaves(), out)?;
+    put_headed(
+        &mut page,
+        CertLine::CameraLine(cert.camera()),
+        cert.leaves(),
+        out,
+    )?;
     put_lines(&mut page, cert.reasons(), out)?;
     put_rest(&page, out)
 }

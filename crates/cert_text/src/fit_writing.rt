@@ -49,6 +49,11 @@ fn put_fit<S: Sink>(page: &mut Page, cert: &FitCert, out: &mut S) -> Result<(), 
     ensures faults { HasCause (S.faults out.old) (S.faults out.new) result }
     ensures in_time { IsInTime (S.late out.old) (S.faults out.old) (S.late out.new) }
 {
-    put_headed(page, FitLine::ToleranceLine(cert.tolerance()), cert.needed(), out)?;
+    put_headed(
+        page,
+        FitLine::ToleranceLine(cert.tolerance()),
+        cert.needed(),
+        out,
+    )?;
     put_headed(page, FitLine::MeshLine, cert.beyond(), out)
 }

@@ -72,11 +72,7 @@ pub(crate) fn put_headed<H: Line, L: Line, S: Sink>(
 }
 
 /// Puts a line on the page, which is handed to the sink first where it has no room for a longest line.
-fn put_line<L: Line, S: Sink>(
-    page: &mut Page,
-    line: L,
-    out: &mut S,
-) -> Result<(), Failed>
+fn put_line<L: Line, S: Sink>(page: &mut Page, line: L, out: &mut S) -> Result<(), Failed>
     ensures ok { OnOk result (Puts (S.contents out.old) (S.contents out.new) page.old.items page.new.items
         (ended (L.text line))) }
     ensures err { OnErr result ((before : Option (List ℕ)) (text : List ℕ) →

@@ -2,13 +2,13 @@
 use Rattle.std.proofs.Common.{◌≡◌, ℕ, List, ◌++◌, append_assoc, refl, sym, ap, ◌∙◌, subst}
 use Rattle.std.specs.Prelude.{OnOk, OnErr}
 use Rattle.std.specs.List.{flat_map}
-use Rattle.std.proofs.lemmas.Result.{err_from_is_err_and}
+use Rattle.std.proofs.lemmas.Result.{err_from_is_err_and, on_ok_weaker, on_err_weaker}
 use Rattle.certificate_laws.specs.declared.fit_reason.Off.{Off}
 use Rattle.certificate_laws.specs.FitCertificate.{FitCertificate}
 use Rattle.cert_text.specs.declared.fit_line.FitLine.TheVariants.{ToleranceLine, MeshLine}
 use Rattle.cert_text.specs.FitCertText.{ended_fit_line, off_text, fit_cert_text}
 use Rattle.cert_text.specs.Page.{Puts, Cuts}
-use Rattle.cert_text.proofs.PageLemmas.{puts-then, cuts-then, cuts-longer, on-ok, on-err}
+use Rattle.cert_text.proofs.PageLemmas.{puts-then, cuts-then, cuts-longer}
 use Rattle.cert_text.proofs.fit_writing.put_fit.Goals as goal
 
 -- the text of the parts of a certificate
@@ -37,11 +37,13 @@ returns-clause-ok g c =
     subst (λ l. OnOk c.put_headed-2.result (Puts (g.S.Sink.contents c.args.out.now)
     (g.S.Sink.contents c.put_headed-2.new.out) c.args.page.now.items c.put_headed-2.new.page.items l))
     (same_parts c.args.cert.now _ _ _ c.tolerance.ensures c.needed.ensures.value c.beyond.ensures.value)
-    (on-ok c.put_headed-2.result (puts-then _ _ _ _ _ _ _ _ c.in_ok-put_headed.ensures.ok) c.put_headed-2.ensures.ok)
+    (on_ok_weaker c.put_headed-2.result (puts-then _ _ _ _ _ _ _ _ c.in_ok-put_headed.ensures.ok)
+    c.put_headed-2.ensures.ok)
 
 pub returns-clause-err : goal.returns-clause-err
 returns-clause-err g c =
     subst (λ l. OnErr c.put_headed-2.result (Cuts (g.S.Sink.contents c.args.out.now)
     (g.S.Sink.contents c.put_headed-2.new.out) c.args.page.now.items l))
     (same_parts c.args.cert.now _ _ _ c.tolerance.ensures c.needed.ensures.value c.beyond.ensures.value)
-    (on-err c.put_headed-2.result (cuts-then _ _ _ _ _ _ _ c.in_ok-put_headed.ensures.ok) c.put_headed-2.ensures.err)
+    (on_err_weaker c.put_headed-2.result (cuts-then _ _ _ _ _ _ _ c.in_ok-put_headed.ensures.ok)
+    c.put_headed-2.ensures.err)
