@@ -50,23 +50,9 @@ fn is_reason(n: u32, flags: &[bool], scene: &Scene<'_>, worst: u64, kind: Kind, 
     ensures value { IsTrue result ↔
         IsReason n (priority_seen scene.now) worst (is_flagged flags.now) (record { kind = kind; triangle = t }) }
 {
-    if t.level() < 2 * n {
-        has_cause(n, flags, scene, worst, kind, t)
-    } else {
-        false
+    if t.level() >= 2 * n {
+        return false;
     }
-}
-
-/// The same, for a triangle that may be split.
-fn has_cause(n: u32, flags: &[bool], scene: &Scene<'_>, worst: u64, kind: Kind, t: Tri) -> bool
-    requires in_grid { (1 ≤ n) × (n ≤ GREATEST_LEVEL) }
-    requires room { length flags.now ≡ 2 ^ (2 * n + 1) }
-    requires grid { scene.now.grid.n ≡ n }
-    requires addresses { (a : ℕ) → IsTrue (is_flagged flags.now a) → IsSplittable n a }
-    requires splittable { IsSplittable n t }
-    ensures value { IsTrue result ↔
-        IsReason n (priority_seen scene.now) worst (is_flagged flags.now) (record { kind = kind; triangle = t }) }
-{
     if is_set(flags, t) {
         return false;
     }

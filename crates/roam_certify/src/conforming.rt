@@ -24,12 +24,24 @@ pub fn is_conforming(n: u32, flags: &mut [bool], seen: &mut [bool], triangles: &
     requires addresses { All (IsAddress n) triangles.now }
     ensures value { IsTrue result ↔ IsConforming n triangles.now }
 {
-    flag_parents(flags, n, triangles);
-    climb(flags, n);
+    flag_ancestors(flags, n, triangles);
     match count_splits(flags, n) {
         None => false,
         Some(count) => are_leaves(flags, seen, triangles) && triangles.len() == count as usize + 2,
     }
+}
+
+/// Flags the ancestors of the entries.
+fn flag_ancestors(flags: &mut [bool], n: u32, triangles: &[Tri])
+    requires in_grid { (1 ≤ n) × (n ≤ GREATEST_LEVEL) }
+    requires room { length flags.old ≡ 2 ^ (2 * n + 1) }
+    requires empty { (a : ℕ) → is_flagged flags.old a ≡ false }
+    requires addresses { All (IsAddress n) triangles.now }
+    ensures room { length flags.new ≡ length flags.old }
+    ensures value { (a : ℕ) → is_flagged flags.new a ≡ ancestors_of triangles.now a }
+{
+    flag_parents(flags, n, triangles);
+    climb(flags, n);
 }
 
 /// Flags the parent of each entry.
