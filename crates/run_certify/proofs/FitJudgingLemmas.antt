@@ -44,11 +44,6 @@ verdict-judged grid triangles mesh made files spacing count deviation holds byte
       (certified_fit_line grid.n count deviation) end) made compared,
 )
 
--- what holds of an answer, from what else does
-pub if-ok : {A E : Type 0} (P Q : A → Type 0) → ((a : A) → P a → Q a) → (r : Result A E) → IfOk r P → IfOk r Q
-if-ok P Q goes (Ok a) is = goes a is
-if-ok P Q goes (Err stop) is = tt
-
 -- the file has the text of the mesh
 pub same-judged : (files n count deviation : ℕ) (mesh bytes : List ℕ) → mesh ≡ bytes
     → IsCompared (files + 1) bytes mesh (certified_fit_line n count deviation)

@@ -4,12 +4,12 @@ ghost use Rattle.std.specs.Prelude.{◌≡◌, ◌+◌, ◌≤◌, ◌++◌};
 ghost use Rattle.arrayvec.specs.ArrayVec.{array_vec_len};
 ghost use Rattle.mesh_defs.specs.declared.level.TheConstants.{GREATEST_LEVEL};
 ghost use Rattle.run_files.specs.declared.text.TheConstants.{TEXT_ROOM};
-ghost use Rattle.run_laws.specs.ReportText.{certified_fit_line, fit_reject_text, fit_rejection, rejection};
-ghost use Rattle.certificate_laws.specs.declared.reason.Reject.TheVariants as view;
+ghost use Rattle.run_laws.specs.ReportText.{certified_fit_line, fit_reject_text, fit_rejection};
 ghost use Rattle.run_certify.specs.FitJudging.{fit_judged_text, fit_judged_status};
 
+use crate::verdict_report;
 use arrayvec::ArrayVec;
-use certificate_laws::FitReject;
+use certificate_laws::{FitReject, Reject};
 use roam_num::{push_bytes, push_decimal};
 use run_files::{Text, push_placed};
 use run_laws::Status;
@@ -55,8 +55,12 @@ pub(crate) fn judgement_report(n: u32, judgement: &Judgement) -> Text
             deviation,
         } => certified_report(n, *triangles, *deviation),
         Judgement::Rejected(why) => rejected_report(*why),
-        Judgement::BadLine(line) => line_report(u64::from(*line)),
-        Judgement::MeshDiffers(at) => place_report(*at),
+        Judgement::BadLine(line) => verdict_report::rejected_report(Reject::BadLine {
+            line: *line,
+        }),
+        Judgement::MeshDiffers(at) => verdict_report::rejected_report(Reject::MeshDiffers {
+            at: *at,
+        }),
     }
 }
 
@@ -99,26 +103,4 @@ fn push_reject(text: &mut Text, why: FitReject)
         FitReject::OverBudget => push_bytes(text, b"over budget"),
         FitReject::TooFewReasons => push_bytes(text, b"too few reasons"),
     }
-}
-
-/// The line of a certificate with a line that may not stand where it does.
-fn line_report(line: u64) -> Text
-    ensures { result.items ≡ rejection (view.BadLine line) }
-{
-    let mut text = ArrayVec::new();
-    push_bytes(&mut text, b"rejected: ");
-    push_placed(&mut text, b"bad line ", line);
-    push_bytes(&mut text, b"\n");
-    text
-}
-
-/// The line of a mesh that differs from that of its certificate.
-fn place_report(at: u64) -> Text
-    ensures { result.items ≡ rejection (view.MeshDiffers at) }
-{
-    let mut text = ArrayVec::new();
-    push_bytes(&mut text, b"rejected: ");
-    push_placed(&mut text, b"mesh differs at ", at);
-    push_bytes(&mut text, b"\n");
-    text
 }

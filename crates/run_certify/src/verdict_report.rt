@@ -94,7 +94,7 @@ fn push_coordinate(text: &mut Text, value: i64)
 }
 
 /// The line of a certificate or a mesh that is rejected.
-fn rejected_report(why: Reject) -> Text
+pub(crate) fn rejected_report(why: Reject) -> Text
     ensures { result.items ≡ rejection why }
 {
     let mut text = ArrayVec::new();

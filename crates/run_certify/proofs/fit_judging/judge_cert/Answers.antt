@@ -1,6 +1,7 @@
 use Rattle.std.proofs.Common.{ℕ, ◌≤◌, length, ◌∙◌, ap, arith}
+use Rattle.std.proofs.lemmas.Result.{IfOk-weaker}
 use Rattle.mesh_laws.proofs.FlagLemmas.{end-high}
-use Rattle.run_certify.proofs.FitJudgingLemmas.{verdict-judged, if-ok}
+use Rattle.run_certify.proofs.FitJudgingLemmas.{verdict-judged}
 use Rattle.run_certify.proofs.fit_judging.judge_cert.Goals as goal
 
 pub judge_mesh-requires-clause-few : goal.judge_mesh-requires-clause-few
@@ -13,9 +14,9 @@ pub returns-in-Ok-clause-ok : goal.returns-in-Ok-clause-ok
 returns-in-Ok-clause-ok g c =
     let v = rw c.in-Ok-Certified.field-0-is at c.in-Ok-Certified.ensures in
     let sound = g.met.F.FitCheck.sound c.args.check.now c.args.grid.now c.args.cert.now _ _ v.0 v.1 in
-    if-ok _ _
+    IfOk-weaker c.judge_mesh.result _ _
     (λ judgement is files told count.
     verdict-judged c.args.grid.now c.deref.result.now v.0 (c.deref.ensures.value ∙ c.in-Ok.ensures.mesh v.0 sound) count
     c.args.spacing _ _ (g.F.FitCheck.IsVerdict c.args.check.now c.args.grid.now c.args.cert.now) _ _ v.1
     (is files told count))
-    c.judge_mesh.result c.judge_mesh.ensures.ok
+    c.judge_mesh.ensures.ok
