@@ -73,7 +73,7 @@ def read_line(line, terrain, ranges, frames):
     return fields[0], values
 
 
-def carry_out(terrain, command, values):
+def apply_line(terrain, command, values):
     if command == b"camera":
         terrain.camera = tuple(values)
     elif command == b"set":
@@ -106,7 +106,7 @@ def frames_of(terrain, text):
             frames += 1
             yield frames
         else:
-            carry_out(terrain, command, values)
+            apply_line(terrain, command, values)
 
 
 def point_of(line, m):

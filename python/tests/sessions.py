@@ -9,7 +9,7 @@ from fractions import Fraction
 import calfrewin
 import certifying
 from frames import View, forced, frame_of, least_split, leaves_of, run_of_steps, vertices_of
-from scripts import carry_out
+from scripts import apply_line
 from strips import deviation, strip_of
 from terrain import Terrain
 
@@ -81,9 +81,9 @@ class Session:
             planes = [[draw.randint(-3, 3) for _ in range(3)] + [draw.randint(-self.reach, self.reach)]
                       for _ in range(draw.randrange(7))]
             self.engine.look(planes)
-            carry_out(self.terrain, b"noplanes", [])
+            apply_line(self.terrain, b"noplanes", [])
             for plane in planes:
-                carry_out(self.terrain, b"plane", plane)
+                apply_line(self.terrain, b"plane", plane)
             return
         elif kind == b"threshold":
             self.terrain.threshold = 0
@@ -97,7 +97,7 @@ class Session:
         else:
             kind, values = b"noplanes", []
             self.engine.clear_planes()
-        carry_out(self.terrain, kind, values)
+        apply_line(self.terrain, kind, values)
 
     def places(self, triangles):
         return [(self.side - 1 - y) * self.side + x for a in triangles for x, y in self.terrain.corners[a]]

@@ -8,14 +8,14 @@ use Rattle.std.proofs.lemmas.Grind.{flat_map-append}
 use Rattle.std.proofs.lemmas.Bool.{cond-true, lt-ltb}
 use Rattle.std.proofs.Math.Pow.{pow_mono}
 use Rattle.mesh_laws.proofs.SweepLemmas.{splittable-lt}
-use Rattle.certificate_laws.specs.declared.fit_reason.Off.{Off}
+use Rattle.certificate_laws.specs.declared.fit_reason.Witness.{Witness}
 use Rattle.certificate_laws.specs.FitCertificate.{FitCertificate}
 use Rattle.cert_text.specs.declared.fit_line.FitLine.TheVariants.{ToleranceLine, OffLine, MeshLine}
 use Rattle.cert_text.specs.Lines.{IsOneLine, number_below}
 use Rattle.cert_text.specs.FitLine.{tolerance_line, off_of, fit_fields_line, read_fit_line, fit_line_is}
 use Rattle.cert_text.specs.FitCertReader.{fit_read_so_far, nothing_fit_read, fit_line_taken, fit_line_in}
 use Rattle.cert_text.specs.FitCertText.{fit_line_text, ended_fit_line, off_text, fit_cert_text, fit_cert_lines}
-use Rattle.cert_text.specs.FitLaws.{IsOffOf, IsFitCertificateOf, fit_lines_read}
+use Rattle.cert_text.specs.FitLaws.{IsWitnessOf, IsFitCertificateOf, fit_lines_read}
 use Rattle.cert_text.proofs.LineLemmas.{IsField, end-high, decimal-field, joined-one, joined-says, number-back}
 use Rattle.cert_text.proofs.LineLemmas.{address-back, line-next, lines-step, entries-back, entries-end, entries-whole}
 use Rattle.cert_text.proofs.LineLemmas.{entries-one, lines-ended}
@@ -65,7 +65,7 @@ off_field : IsField (codes "off")
 off_field =
     record { some = omega arith; short = omega arith; big = (omega arith, (omega arith, (omega arith, tt))) }
 
-module _ (n : ℕ) (top : n ≤ 14) (r : Off) (is : IsOffOf n r) where
+module _ (n : ℕ) (top : n ≤ 14) (r : Witness) (is : IsWitnessOf n r) where
   abbrev fields : List (List ℕ)
   fields = decimal r.triangle ∷ (decimal r.x ∷ (decimal r.y ∷ []))
 
@@ -98,7 +98,7 @@ module _ (n : ℕ) (top : n ≤ 14) (r : Off) (is : IsOffOf n r) where
 
 -- lines one after the other
 
-needed-next : (n own : ℕ) → n ≤ 14 → (done : List Off) (r : Off) → IsOffOf n r → length done < 8388608 →
+needed-next : (n own : ℕ) → n ≤ 14 → (done : List Witness) (r : Witness) → IsWitnessOf n r → length done < 8388608 →
     fit_line_in n (fit_read_so_far (Some own) false done []) (fit_line_text (OffLine r))
     ≡ Some (fit_read_so_far (Some own) false (done ++ r ∷ []) [])
 needed-next n own top done r is few =
@@ -106,7 +106,7 @@ needed-next n own top done r is few =
     (cond-true (nat_lt (length done) 8388608) (Some (fit_read_so_far (Some own) false (done ++ r ∷ []) [])) None
     (lt-ltb (length done) 8388608 few))
 
-beyond-next : (n own : ℕ) (needed : List Off) → n ≤ 14 → (done : List Off) (r : Off) → IsOffOf n r →
+beyond-next : (n own : ℕ) (needed : List Witness) → n ≤ 14 → (done : List Witness) (r : Witness) → IsWitnessOf n r →
     length done < 8388608 →
     fit_line_in n (fit_read_so_far (Some own) true needed done) (fit_line_text (OffLine r))
     ≡ Some (fit_read_so_far (Some own) true needed (done ++ r ∷ []))
@@ -121,18 +121,19 @@ pub lines-back : (n : ℕ) (cert : FitCertificate) → IsFitCertificateOf n cert
     ≡ Some (fit_read_so_far (Some cert.tolerance) true cert.needed cert.beyond)
 lines-back n cert is =
     let own : ℕ = cert.tolerance in
-    let text : Off → List ℕ = λ r. fit_line_text (OffLine r) in
+    let text : Witness → List ℕ = λ r. fit_line_text (OffLine r) in
     let top = is.few.in_grid.1 in
     lines-step (fit_line_in n) nothing_fit_read (fit_read_so_far (Some own) false [] [])
     (fit_line_text (ToleranceLine own)) _
     (line-next (fit_line_taken nothing_fit_read) _ (ToleranceLine own) _ (tolerance-back n own is.tolerance) refl)
-    ∙ entries-back (fit_line_in n) (λ done. fit_read_so_far (Some own) false done []) text (IsOffOf n) 8388608
+    ∙ entries-back (fit_line_in n) (λ done. fit_read_so_far (Some own) false done []) text (IsWitnessOf n) 8388608
     (needed-next n own top) [] cert.needed (fit_line_text MeshLine ∷ map text cert.beyond) is.needed
     (let few = is.few.few_needed in omega arith)
     ∙ lines-step (fit_line_in n) (fit_read_so_far (Some own) false cert.needed [])
     (fit_read_so_far (Some own) true cert.needed []) (fit_line_text MeshLine) (map text cert.beyond)
     (line-next (fit_line_taken (fit_read_so_far (Some own) false cert.needed [])) _ MeshLine _ (mesh-back n) refl)
-    ∙ entries-end (fit_line_in n) (λ done. fit_read_so_far (Some own) true cert.needed done) text (IsOffOf n) 8388608
+    ∙ entries-end (fit_line_in n) (λ done. fit_read_so_far (Some own) true cert.needed done) text
+    (IsWitnessOf n) 8388608
     (beyond-next n own cert.needed top) cert.beyond is.beyond (let few = is.few.few_beyond in omega arith)
 
 -- the text of a certificate is its lines, each with an LF (10) behind it
@@ -153,11 +154,11 @@ text-ended cert =
 pub lines-whole : (n : ℕ) (cert : FitCertificate) → IsFitCertificateOf n cert → All IsOneLine (fit_cert_lines cert)
 lines-whole n cert is =
     let top = is.few.in_grid.1 in
-    let text : Off → List ℕ = λ r. fit_line_text (OffLine r) in
+    let text : Witness → List ℕ = λ r. fit_line_text (OffLine r) in
     All-cons IsOneLine (fit_line_text (ToleranceLine cert.tolerance)) _
     (joined-one (codes "tolerance") (decimal cert.tolerance ∷ []) tolerance_field
     (tolerance-fields cert.tolerance is.tolerance))
-    (entries-whole text (IsOffOf n) (off-one n top) cert.needed (fit_line_text MeshLine ∷ map text cert.beyond) is.needed
+    (entries-whole text (IsWitnessOf n) (off-one n top) cert.needed (fit_line_text MeshLine ∷ map text cert.beyond) is.needed
     (All-cons IsOneLine (fit_line_text MeshLine) (map text cert.beyond)
     (joined-one (codes "mesh") [] mesh_field (All-nil IsField))
-    (entries-one text (IsOffOf n) (off-one n top) cert.beyond is.beyond)))
+    (entries-one text (IsWitnessOf n) (off-one n top) cert.beyond is.beyond)))

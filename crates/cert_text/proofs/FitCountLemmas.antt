@@ -2,7 +2,7 @@
 use Rattle.std.proofs.Common.{◌≡◌, ℕ, ◌+◌, Bool, true, false, List, [], ◌∷◌, ◌++◌, Option, Some, None, arith}
 use Rattle.std.proofs.Common.{length-append}
 use Rattle.std.proofs.lemmas.Option.{none-some}
-use Rattle.certificate_laws.specs.declared.fit_reason.Off.{Off}
+use Rattle.certificate_laws.specs.declared.fit_reason.Witness.{Witness}
 use Rattle.cert_text.specs.FitLine.{read_fit_line}
 use Rattle.cert_text.specs.FitCertReader.{FitReadSoFar, fit_read_so_far, fit_line_taken, fit_line_in}
 use Rattle.cert_text.specs.declared.fit_line.FitLine.{FitLine}
@@ -10,14 +10,14 @@ use Rattle.cert_text.specs.declared.fit_line.FitLine.TheVariants.{ToleranceLine,
 use Rattle.cert_text.specs.FitLaws.{fit_line_count}
 use Rattle.cert_text.proofs.LineLemmas.{counted-some, counted-if, counted-line}
 
-tolerance-count : (own : ℕ) (tolerance : Option ℕ) (mesh : Bool) (needed beyond : List Off) (next : FitReadSoFar)
+tolerance-count : (own : ℕ) (tolerance : Option ℕ) (mesh : Bool) (needed beyond : List Witness) (next : FitReadSoFar)
     → fit_line_taken (fit_read_so_far tolerance mesh needed beyond) (ToleranceLine own) ≡ Some next
     → fit_line_count next ≡ fit_line_count (fit_read_so_far tolerance mesh needed beyond) + 1
 tolerance-count own None mesh needed beyond next e =
     counted-some fit_line_count (fit_read_so_far (Some own) mesh needed beyond) next _ (omega arith) e
 tolerance-count own (Some there) mesh needed beyond next e = absurd (none-some next e)
 
-mesh-count : (tolerance : Option ℕ) (mesh : Bool) (needed beyond : List Off) (next : FitReadSoFar)
+mesh-count : (tolerance : Option ℕ) (mesh : Bool) (needed beyond : List Witness) (next : FitReadSoFar)
     → fit_line_taken (fit_read_so_far tolerance mesh needed beyond) MeshLine ≡ Some next
     → fit_line_count next ≡ fit_line_count (fit_read_so_far tolerance mesh needed beyond) + 1
 mesh-count None mesh needed beyond next e = absurd (none-some next e)
@@ -25,7 +25,7 @@ mesh-count (Some own) true needed beyond next e = absurd (none-some next e)
 mesh-count (Some own) false needed beyond next e =
     counted-some fit_line_count (fit_read_so_far (Some own) true needed beyond) next _ (omega arith) e
 
-off-count : (r : Off) (tolerance : Option ℕ) (mesh : Bool) (needed beyond : List Off) (next : FitReadSoFar)
+off-count : (r : Witness) (tolerance : Option ℕ) (mesh : Bool) (needed beyond : List Witness) (next : FitReadSoFar)
     → fit_line_taken (fit_read_so_far tolerance mesh needed beyond) (OffLine r) ≡ Some next
     → fit_line_count next ≡ fit_line_count (fit_read_so_far tolerance mesh needed beyond) + 1
 off-count r None mesh needed beyond next e = absurd (none-some next e)

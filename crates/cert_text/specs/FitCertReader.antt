@@ -4,7 +4,7 @@
 use Rattle.std.specs.Prelude.{ℕ, ◌≤◌, Bool, true, false, not, ◌&&◌, nat_lt, if◌then◌else◌, List, [], ◌∷◌, ◌++◌, length}
 use Rattle.std.specs.Prelude.{Option, Some, None, is_some, Result, Ok, Err}
 use Rattle.mesh_defs.specs.declared.level.TheConstants.{GREATEST_LEVEL}
-use Rattle.certificate_laws.specs.declared.fit_reason.Off.{Off}
+use Rattle.certificate_laws.specs.declared.fit_reason.Witness.{Witness}
 use Rattle.certificate_laws.specs.declared.limits.TheConstants.{MOST_REASONS}
 use Rattle.certificate_laws.specs.FitCertificate.{FitCertificate}
 use Rattle.cert_text.specs.declared.fit_line.FitLine.{FitLine}
@@ -18,10 +18,10 @@ use Rattle.cert_text.specs.FitLine.{read_fit_line}
 pub record FitReadSoFar : Type 0 where
   pub tolerance : Option ℕ
   pub mesh : Bool
-  pub needed : List Off
-  pub beyond : List Off
+  pub needed : List Witness
+  pub beyond : List Witness
 
-abbrev pub fit_read_so_far : Option ℕ → Bool → List Off → List Off → FitReadSoFar
+abbrev pub fit_read_so_far : Option ℕ → Bool → List Witness → List Witness → FitReadSoFar
 fit_read_so_far own made before behind = record { tolerance = own; mesh = made; needed = before; beyond = behind }
 
 -- before the first line
@@ -29,7 +29,7 @@ abbrev pub nothing_fit_read : FitReadSoFar
 nothing_fit_read = fit_read_so_far None false [] []
 
 -- no more reasons than a certificate may have
-pub record AreFewFitReasons (n : ℕ) (needed beyond : List Off) : Type 0 where
+pub record AreFewFitReasons (n : ℕ) (needed beyond : List Witness) : Type 0 where
   pub in_grid : (1 ≤ n) × (n ≤ GREATEST_LEVEL)
   pub few_needed : length needed ≤ MOST_REASONS
   pub few_beyond : length beyond ≤ MOST_REASONS

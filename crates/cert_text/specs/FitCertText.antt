@@ -3,7 +3,7 @@
 -- Words: fit_line_text, ended_fit_line, off_text, fit_cert_text, fit_cert_lines.
 use Rattle.std.specs.Prelude.{List, ◌∷◌, ◌++◌, map, codes, ℕ}
 use Rattle.std.specs.List.{flat_map}
-use Rattle.certificate_laws.specs.declared.fit_reason.Off.{Off}
+use Rattle.certificate_laws.specs.declared.fit_reason.Witness.{Witness}
 use Rattle.certificate_laws.specs.FitCertificate.{FitCertificate}
 use Rattle.cert_text.specs.Lines.{ended, field_text}
 use Rattle.cert_text.specs.declared.fit_line.FitLine.{FitLine}
@@ -20,7 +20,7 @@ abbrev pub ended_fit_line : FitLine → List ℕ
 ended_fit_line line = ended (fit_line_text line)
 
 -- the line of a reason
-abbrev pub off_text : Off → List ℕ
+abbrev pub off_text : Witness → List ℕ
 off_text r = ended_fit_line (OffLine r)
 
 -- The text of a certificate: the tolerance, each reason before the mesh, the mesh, and each reason behind it.

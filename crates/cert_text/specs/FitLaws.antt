@@ -1,19 +1,19 @@
 -- What is written of a certificate of a fitted mesh is read back; and each line says one thing.
--- Words: IsOffOf, IsFitCertificateOf, fit_lines_read, WrittenFitLinesAreRead, WrittenFitLinesAreEnded,
+-- Words: IsWitnessOf, IsFitCertificateOf, fit_lines_read, WrittenFitLinesAreRead, WrittenFitLinesAreEnded,
 -- WrittenFitLinesAreLines, once, fit_line_count, FitLinesAreCounted.
 use Rattle.std.specs.Prelude.{◌≡◌, ℕ, ◌+◌, ◌^◌, ◌<◌, ◌≤◌, All, Bool, true, false, length, List, [], ◌∷◌, ◌++◌, Option}
 use Rattle.std.specs.Prelude.{Some, None}
 use Rattle.std.specs.List.{flat_map}
 use Rattle.mesh_defs.specs.Triangle.{IsSplittable}
 use Rattle.cert_text.specs.Lines.{IsOneLine, lines_from}
-use Rattle.certificate_laws.specs.declared.fit_reason.Off.{Off}
+use Rattle.certificate_laws.specs.declared.fit_reason.Witness.{Witness}
 use Rattle.certificate_laws.specs.FitCertificate.{FitCertificate}
 use Rattle.cert_text.specs.FitCertReader.{FitReadSoFar, fit_read_so_far, nothing_fit_read, fit_line_in}
 use Rattle.cert_text.specs.FitCertReader.{AreFewFitReasons}
 use Rattle.cert_text.specs.FitCertText.{fit_cert_text, fit_cert_lines}
 
 -- a reason of a triangle that may be split and a point of the grid with this n
-pub record IsOffOf (n : ℕ) (r : Off) : Type 0 where
+pub record IsWitnessOf (n : ℕ) (r : Witness) : Type 0 where
   pub splittable : IsSplittable n r.triangle
   pub column : r.x ≤ 2 ^ n
   pub row : r.y ≤ 2 ^ n
@@ -22,8 +22,8 @@ pub record IsOffOf (n : ℕ) (r : Off) : Type 0 where
 pub record IsFitCertificateOf (n : ℕ) (cert : FitCertificate) : Type 0 where
   pub few : AreFewFitReasons n cert.needed cert.beyond
   pub tolerance : cert.tolerance < 2 ^ 32
-  pub needed : All (IsOffOf n) cert.needed
-  pub beyond : All (IsOffOf n) cert.beyond
+  pub needed : All (IsWitnessOf n) cert.needed
+  pub beyond : All (IsWitnessOf n) cert.beyond
 
 -- behind these lines, where each may stand at its place
 abbrev pub fit_lines_read : ℕ → FitReadSoFar → List (List ℕ) → Option FitReadSoFar

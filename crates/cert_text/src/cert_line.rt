@@ -12,7 +12,7 @@ ghost use Rattle.cert_text.specs.declared.cert_line.CertLine.{CertLine};
 ghost use Rattle.cert_text.specs.declared.cert_line.CertLine.TheVariants.{LeafLine, ReasonLine};
 ghost use Rattle.cert_text.specs.declared.page.TheConstants.{PAGE_ROOM, LONGEST_LINE};
 
-use crate::page::{Line, Page};
+use crate::page::{Page, PageLine};
 use crate::reading::{FromFields, read_address, split_end};
 use bintree_addr::Tri;
 use certificate_laws::{Kind, Reason};
@@ -64,7 +64,7 @@ impl FromFields for CertLine {
     }
 }
 
-impl Line for CertLine {
+impl PageLine for CertLine {
     ghost text = { cert_line_text };
 
     fn push(self, page: &mut Page) {
@@ -78,7 +78,7 @@ impl Line for CertLine {
     }
 }
 
-impl Line for Tri {
+impl PageLine for Tri {
     ghost text = { λ leaf. cert_line_text (LeafLine leaf) };
 
     fn push(self, page: &mut Page) {
@@ -86,7 +86,7 @@ impl Line for Tri {
     }
 }
 
-impl Line for Reason {
+impl PageLine for Reason {
     ghost text = { λ reason. cert_line_text (ReasonLine reason) };
 
     fn push(self, page: &mut Page) {

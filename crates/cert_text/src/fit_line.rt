@@ -11,10 +11,10 @@ ghost use Rattle.cert_text.specs.FitCertText.{fit_line_text};
 ghost use Rattle.cert_text.specs.declared.fit_line.FitLine.TheVariants.{OffLine};
 ghost use Rattle.cert_text.specs.declared.page.TheConstants.{PAGE_ROOM, LONGEST_LINE};
 
-use crate::page::{Line, Page, push_field};
+use crate::page::{Page, PageLine, push_field};
 use crate::reading::{FromFields, read_address, read_below, side, split_end};
 use bintree_addr::Tri;
-use certificate_laws::Off;
+use certificate_laws::Witness;
 use roam_num::push_bytes;
 use roam_script::first_field;
 
@@ -24,7 +24,7 @@ pub(crate) enum FitLine {
     /// `tolerance D`: no triangle of the mesh is off by more, in units of height, times 2^n.
     ToleranceLine(u32),
     /// `off A X Y`: a triangle that has to be split, and a point where it is off.
-    OffLine(Off),
+    OffLine(Witness),
     /// `mesh`: the reasons so far make the mesh.
     MeshLine,
 }
@@ -62,7 +62,7 @@ impl FromFields for FitLine {
     }
 }
 
-impl Line for FitLine {
+impl PageLine for FitLine {
     ghost text = { fit_line_text };
 
     fn push(self, page: &mut Page) {
@@ -74,7 +74,7 @@ impl Line for FitLine {
     }
 }
 
-impl Line for Off {
+impl PageLine for Witness {
     ghost text = { λ off. fit_line_text (OffLine off) };
 
     fn push(self, page: &mut Page) {
@@ -159,7 +159,7 @@ fn off_of(triangle: Option<Tri>, x: Option<u32>, y: Option<u32>) -> Option<FitLi
     let (Some(triangle), Some(x), Some(y)) = (triangle, x, y) else {
         return None;
     };
-    Some(FitLine::OffLine(Off { triangle, x, y }))
+    Some(FitLine::OffLine(Witness { triangle, x, y }))
 }
 
 /// Appends the word of a tolerance and its number.

@@ -11,7 +11,7 @@ ghost use Rattle.certificate_laws.specs.declared.limits.TheConstants.{MOST_REASO
 use crate::fault::{CertFault, push};
 use crate::fit_line::FitLine;
 use crate::reading::next_line;
-use certificate_laws::{FitCert, MOST_REASONS, Off};
+use certificate_laws::{FitCert, MOST_REASONS, Witness};
 use std::alloc::Global;
 use std::marker::Model;
 
@@ -21,8 +21,8 @@ pub struct FitCertReader {
     n: u32,
     tolerance: Option<u32>,
     mesh: bool,
-    needed: Vec<Off>,
-    beyond: Vec<Off>,
+    needed: Vec<Witness>,
+    beyond: Vec<Witness>,
     refusal: Option<CertFault>,
 }
 
@@ -157,8 +157,8 @@ impl FitCertReader {
 fn take(
     tolerance: &mut Option<u32>,
     mesh: &mut bool,
-    needed: &mut Vec<Off>,
-    beyond: &mut Vec<Off>,
+    needed: &mut Vec<Witness>,
+    beyond: &mut Vec<Witness>,
     line: FitLine,
 ) -> Result<(), CertFault>
     ensures ok { OnOk result (fit_line_taken

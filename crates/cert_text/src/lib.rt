@@ -30,7 +30,7 @@ mod reading;
 pub use cert::Cert;
 pub use cert_reader::CertReader;
 pub use cert_writing::write_cert;
-pub use certificate_laws::{FitCert, KeptCert, Kind, Off, Reason};
+pub use certificate_laws::{FitCert, KeptCert, Kind, Reason, Witness};
 pub use fault::CertFault;
 pub use fit_reader::FitCertReader;
 pub use fit_writing::{write_fit_cert, write_kept_cert};

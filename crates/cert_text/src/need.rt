@@ -3,7 +3,7 @@
 ghost use Rattle.std.specs.Prelude.{◌≡◌};
 ghost use Rattle.cert_text.specs.NeedLine.{need_text, need_of, need_fields, need_in, need_is};
 
-use crate::page::{Line, Page, push_field};
+use crate::page::{Page, PageLine, push_field};
 use crate::reading::{FromFields, read_below, side};
 use bintree_addr::Point;
 use roam_num::push_bytes;
@@ -36,7 +36,7 @@ impl FromFields for Point {
     }
 }
 
-impl Line for Point {
+impl PageLine for Point {
     ghost text = { need_text };
 
     fn push(self, page: &mut Page) {

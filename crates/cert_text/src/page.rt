@@ -23,7 +23,7 @@ pub(crate) const LONGEST_LINE: usize = 80;
 pub(crate) type Page = ArrayVec<u8, PAGE_ROOM>;
 
 /// What has a line of its own in a text.
-pub(crate) trait Line: Copy {
+pub(crate) trait PageLine: Copy {
     // The line, without its LF.
     ghost text: { Self → List ℕ };
 
@@ -35,7 +35,7 @@ pub(crate) trait Line: Copy {
 }
 
 /// Puts the lines of these on the page.
-pub(crate) fn put_lines<L: Line, S: Sink>(
+pub(crate) fn put_lines<L: PageLine, S: Sink>(
     page: &mut Page,
     lines: &[L],
     out: &mut S,
@@ -54,7 +54,7 @@ pub(crate) fn put_lines<L: Line, S: Sink>(
 }
 
 /// Puts a line on the page, and behind it those of these.
-pub(crate) fn put_headed<H: Line, L: Line, S: Sink>(
+pub(crate) fn put_headed<H: PageLine, L: PageLine, S: Sink>(
     page: &mut Page,
     head: H,
     lines: &[L],
@@ -72,7 +72,7 @@ pub(crate) fn put_headed<H: Line, L: Line, S: Sink>(
 }
 
 /// Puts a line on the page, which is handed to the sink first where it has no room for a longest line.
-fn put_line<L: Line, S: Sink>(page: &mut Page, line: L, out: &mut S) -> Result<(), Failed>
+fn put_line<L: PageLine, S: Sink>(page: &mut Page, line: L, out: &mut S) -> Result<(), Failed>
     ensures ok { OnOk result (Puts (S.contents out.old) (S.contents out.new) page.old.items page.new.items
         (ended (L.text line))) }
     ensures err { OnErr result ((before : Option (List ℕ)) (text : List ℕ) →

@@ -11,7 +11,7 @@ use Rattle.mesh_laws.proofs.SweepLemmas.{splittable-lt, lt-splittable}
 use Rattle.mesh_laws.proofs.ClosureLemmas.{leaves_of-same, IsLeastClosed-unique, closure_of, nothing_closed}
 use Rattle.fit_laws.specs.PlaneHeight.{off_plane, deviation_of}
 use Rattle.fit_laws.specs.Error.{error_of}
-use Rattle.certificate_laws.specs.declared.fit_reason.Off.{Off}
+use Rattle.certificate_laws.specs.declared.fit_reason.Witness.{Witness}
 use Rattle.certificate_laws.specs.declared.fit_reason.Target.{Target}
 use Rattle.certificate_laws.specs.declared.fit_reason.Target.TheVariants.{Error, Budget}
 use Rattle.certificate_laws.specs.declared.fit_reason.FitReject.{FitReject}
@@ -29,7 +29,7 @@ use Rattle.certificate_laws.proofs.FitVerdictLemmas.{sound-certified}
 -- one reason
 
 -- whether its point is off is decided
-off_or_not : (n : ℕ) (heights : List ℕ) (tolerance : ℕ) (r : Off) →
+off_or_not : (n : ℕ) (heights : List ℕ) (tolerance : ℕ) (r : Witness) →
     IsOff n heights tolerance r ⊎ (IsOff n heights tolerance r → ⊥)
 off_or_not n heights tolerance r = ⊎_elim
     (λ (over : 2 ^ n < r.x). inr (λ (o : IsOff n heights tolerance r). let h = o.column in absurd (omega arith)))
@@ -47,7 +47,7 @@ off_or_not n heights tolerance r = ⊎_elim
     (cases_lt (2 ^ n) r.x)
 
 -- whether it is one is decided
-reason_or_not : (n : ℕ) (heights : List ℕ) (tolerance : ℕ) (has : ℕ → Bool) (r : Off) →
+reason_or_not : (n : ℕ) (heights : List ℕ) (tolerance : ℕ) (has : ℕ → Bool) (r : Witness) →
     IsFitReason n heights tolerance has r ⊎ (IsFitReason n heights tolerance has r → ⊥)
 reason_or_not n heights tolerance has r = ⊎_elim
     (λ small. inr (λ (is : IsFitReason n heights tolerance has r). let low = is.splittable.low in absurd (omega arith)))
@@ -74,7 +74,7 @@ reason_or_not n heights tolerance has r = ⊎_elim
 
 -- a bad reason behind a good one
 bad-behind : (n : ℕ) (heights : List ℕ) (tolerance : ℕ) (has next : ℕ →
-    Bool) (r : Off) (reasons : List Off) (index : ℕ) →
+    Bool) (r : Witness) (reasons : List Witness) (index : ℕ) →
     IsFitReason n heights tolerance has r → IsLeastClosed n (with_triangle has r.triangle) next →
     IsFirstBadFit n heights tolerance next reasons index →
     IsFirstBadFit n heights tolerance has (r ∷ reasons) (index + 1)
@@ -83,14 +83,15 @@ bad-behind n heights tolerance has next r reasons index is least b = record {
   bad = b.bad;
   rest = b.rest;
   after = b.after;
-  parts = ap (λ (l : List Off). r ∷ l) b.parts;
+  parts = ap (λ (l : List Witness). r ∷ l) b.parts;
   place = (let place = b.place in omega arith);
   leads = (next, is, least, b.leads);
   fails = b.fails;
 }
 
 -- they lead to some set, or one is the first that is none
-pub leads_or_bad : (n : ℕ) (heights : List ℕ) (tolerance : ℕ) (has : ℕ → Bool) (reasons : List Off) → IsClosed n has →
+pub leads_or_bad : (n : ℕ) (heights : List ℕ) (tolerance : ℕ) (has : ℕ → Bool) (reasons : List Witness)
+    → IsClosed n has →
     ((after : ℕ → Bool) × LeadsTo n heights tolerance has reasons after)
     ⊎ ((index : ℕ) × IsFirstBadFit n heights tolerance has reasons index)
 leads_or_bad n heights tolerance has [] closed = inl (has, λ a. refl)
@@ -120,38 +121,38 @@ leads_or_bad n heights tolerance has (r ∷ reasons) closed = ⊎_elim
     (reason_or_not n heights tolerance has r)
 
 -- lists that are the same begin with the same entry
-same_first : (x y : Off) (xs ys : List Off) → x ∷ xs ≡ y ∷ ys → x ≡ y
+same_first : (x y : Witness) (xs ys : List Witness) → x ∷ xs ≡ y ∷ ys → x ≡ y
 same_first x y xs ys e = cc
 
-same_rest : (x y : Off) (xs ys : List Off) → x ∷ xs ≡ y ∷ ys → xs ≡ ys
+same_rest : (x y : Witness) (xs ys : List Witness) → x ∷ xs ≡ y ∷ ys → xs ≡ ys
 same_rest x y xs ys e = cc
 
 -- of sets that agree the first bad one is the same
-bad-place : (n : ℕ) (heights : List ℕ) (tolerance : ℕ) (has other : ℕ → Bool) (good fine : List Off)
-    (bad worse : Off) (rest more : List Off)
+bad-place : (n : ℕ) (heights : List ℕ) (tolerance : ℕ) (has other : ℕ → Bool) (good fine : List Witness)
+    (bad worse : Witness) (rest more : List Witness)
     (mid late : ℕ → Bool) → ((a : ℕ) → has a ≡ other a) → good ++ bad ∷ rest ≡ fine ++ worse ∷ more →
     LeadsTo n heights tolerance has good mid → LeadsTo n heights tolerance other fine late →
     (IsFitReason n heights tolerance mid bad → ⊥) → (IsFitReason n heights tolerance late worse → ⊥) →
     length good ≡ length fine
 bad-place n heights tolerance has other [] [] bad worse rest more mid late same parts p q fails falls = refl
 bad-place n heights tolerance has other [] (s ∷ fine) bad worse rest more mid late same parts p q fails falls =
-    absurd (fails (subst (λ (z : Off). IsFitReason n heights tolerance mid z)
+    absurd (fails (subst (λ (z : Witness). IsFitReason n heights tolerance mid z)
     (sym (same_first bad s rest (fine ++ worse ∷ more) parts))
     (reason-same n heights tolerance other mid s (λ a. sym (same a) ∙ p a) q.1)))
 bad-place n heights tolerance has other (r ∷ good) [] bad worse rest more mid late same parts p q fails falls =
-    absurd (falls (subst (λ (z : Off). IsFitReason n heights tolerance late z)
+    absurd (falls (subst (λ (z : Witness). IsFitReason n heights tolerance late z)
     (same_first r worse (good ++ bad ∷ rest) more parts)
     (reason-same n heights tolerance has late r (λ a. same a ∙ q a) p.1)))
 bad-place n heights tolerance has other (r ∷ good) (s ∷ fine) bad worse rest more mid late same parts p q fails falls =
     let first : r ≡ s = same_first r s (good ++ bad ∷ rest) (fine ++ worse ∷ more) parts in
     let least : IsLeastClosed n (with_triangle has r.triangle) q.0 =
-    subst (λ (z : Off). IsLeastClosed n (with_triangle has z.triangle) q.0) (sym first)
+    subst (λ (z : Witness). IsLeastClosed n (with_triangle has z.triangle) q.0) (sym first)
     (closure-same n other has q.0 s.triangle (λ a. sym (same a)) q.2) in
     ap (λ k. suc k) (bad-place n heights tolerance p.0 q.0 good fine bad worse rest more mid late
     (IsLeastClosed-unique n (with_triangle has r.triangle) p.0 q.0 p.2 least)
     (same_rest r s (good ++ bad ∷ rest) (fine ++ worse ∷ more) parts) p.3 q.3 fails falls)
 
-pub bad-one : (n : ℕ) (heights : List ℕ) (tolerance : ℕ) (has other : ℕ → Bool) (reasons : List Off) (i j : ℕ) →
+pub bad-one : (n : ℕ) (heights : List ℕ) (tolerance : ℕ) (has other : ℕ → Bool) (reasons : List Witness) (i j : ℕ) →
     ((a : ℕ) → has a ≡ other a) → IsFirstBadFit n heights tolerance has reasons i →
     IsFirstBadFit n heights tolerance other reasons j → i ≡ j
 bad-one n heights tolerance has other reasons i j same b d =
@@ -161,19 +162,19 @@ bad-one n heights tolerance has other reasons i j same b d =
 
 -- the tests of numbers are decided
 
-for_or_not : (goal : Target) (own : ℕ) → IsFor goal own ⊎ (IsFor goal own → ⊥)
+for_or_not : (target : Target) (own : ℕ) → IsFor target own ⊎ (IsFor target own → ⊥)
 for_or_not (Error tolerance) own = ⊎_elim
     (λ less. inr (λ e. absurd (omega arith)))
     (λ high. ⊎_elim (λ more. inr (λ e. absurd (omega arith))) (λ low. inl (omega arith)) (cases_lt tolerance own))
     (cases_lt own tolerance)
 for_or_not (Budget triangles) own = inl tt
 
-within_or_not : (goal : Target) (count : ℕ) → IsWithinTarget goal count ⊎ (IsWithinTarget goal count → ⊥)
+within_or_not : (target : Target) (count : ℕ) → IsWithinTarget target count ⊎ (IsWithinTarget target count → ⊥)
 within_or_not (Error tolerance) count = inl tt
 within_or_not (Budget triangles) count =
     ⊎_elim (λ over. inr (λ few. absurd (omega arith))) (λ few. inl few) (cases_lt triangles count)
 
-enough_or_not : (goal : Target) (own over : ℕ) → IsEnough goal own over ⊎ (IsEnough goal own over → ⊥)
+enough_or_not : (target : Target) (own over : ℕ) → IsEnough target own over ⊎ (IsEnough target own over → ⊥)
 enough_or_not (Error tolerance) own over = inl tt
 enough_or_not (Budget triangles) own over = ⊎_elim
     (λ many. inl (inr many))
@@ -186,22 +187,22 @@ enough_or_not (Budget triangles) own over = ⊎_elim
 
 -- a verdict
 
-module _ (n : ℕ) (heights : List ℕ) (goal : Target) (cert : FitCertificate) where
+module _ (n : ℕ) (heights : List ℕ) (target : Target) (cert : FitCertificate) where
   abbrev error : ℕ → ℕ
   error = error_of n heights
 
   abbrev HasVerdict : Type 0
-  HasVerdict = (verdict : FitVerdict) × (mesh : List ℕ) × IsVerdictOf n heights goal cert verdict mesh
+  HasVerdict = (verdict : FitVerdict) × (mesh : List ℕ) × IsVerdictOf n heights target cert verdict mesh
 
-  abbrev rejected : (why : FitReject) → IsFitRejected n heights goal cert why → HasVerdict
+  abbrev rejected : (why : FitReject) → IsFitRejected n heights target cert why → HasVerdict
   rejected why is = (Rejected why, [], is)
 
   -- of a mesh within its tolerance and the budget
-  within-verdict : (has : ℕ → Bool) → IsFor goal cert.tolerance → LeadsToFit n heights cert has →
-      IsWithinTarget goal (length (leaves_of n has)) → HasVerdict
+  within-verdict : (has : ℕ → Bool) → IsFor target cert.tolerance → LeadsToFit n heights cert has →
+      IsWithinTarget target (length (leaves_of n has)) → HasVerdict
   within-verdict has own fitted few = ⊎_elim
       (λ (over : (after : ℕ → Bool) × LeadsTo n heights (cert.tolerance - 1) has cert.beyond after). ⊎_elim
-      (λ (enough : IsEnough goal cert.tolerance (length (leaves_of n over.0))).
+      (λ (enough : IsEnough target cert.tolerance (length (leaves_of n over.0))).
       let mesh : List ℕ = leaves_of n has in (
         Certified (length mesh) (deviation_of n heights mesh),
         mesh,
@@ -220,37 +221,37 @@ module _ (n : ℕ) (heights : List ℕ) (goal : Target) (cert : FitCertificate) 
           refl,
         ),
       ))
-      (λ (short : IsEnough goal cert.tolerance (length (leaves_of n over.0)) → ⊥).
+      (λ (short : IsEnough target cert.tolerance (length (leaves_of n over.0)) → ⊥).
       rejected TooFewReasons (own, has, fitted, few, over.0, over.1, short))
-      (enough_or_not goal cert.tolerance (length (leaves_of n over.0))))
+      (enough_or_not target cert.tolerance (length (leaves_of n over.0))))
       (λ (b : (index : ℕ) × IsFirstBadFit n heights (cert.tolerance - 1) has cert.beyond index).
       rejected (BadReason (length cert.needed + b.0)) (own, inr (has, fitted, few, b.0, b.1, refl)))
       (leads_or_bad n heights (cert.tolerance - 1) has cert.beyond (fitted-closed n heights cert has fitted))
 
   -- of a mesh
-  mesh-verdict : (has : ℕ → Bool) → IsFor goal cert.tolerance →
+  mesh-verdict : (has : ℕ → Bool) → IsFor target cert.tolerance →
       LeadsTo n heights cert.tolerance (λ a. false) cert.needed has → HasVerdict
   mesh-verdict has own needed = ⊎_elim
       (λ over. rejected OverTolerance (own, has, needed, over))
       (λ within.
       let fitted : LeadsToFit n heights cert has = record { needed = needed; within = within } in
       ⊎_elim
-      (λ (few : IsWithinTarget goal (length (leaves_of n has))). within-verdict has own fitted few)
-      (λ (many : IsWithinTarget goal (length (leaves_of n has)) → ⊥). rejected OverBudget (own, has, fitted, many))
-      (within_or_not goal (length (leaves_of n has))))
+      (λ (few : IsWithinTarget target (length (leaves_of n has))). within-verdict has own fitted few)
+      (λ (many : IsWithinTarget target (length (leaves_of n has)) → ⊥). rejected OverBudget (own, has, fitted, many))
+      (within_or_not target (length (leaves_of n has))))
       (cases_lt cert.tolerance (worst_of error (leaves_of n has)))
 
   -- there is one
   pub verdict_found : HasVerdict
   verdict_found = ⊎_elim
-      (λ (own : IsFor goal cert.tolerance). ⊎_elim
+      (λ (own : IsFor target cert.tolerance). ⊎_elim
       (λ (has : (after : ℕ → Bool) × LeadsTo n heights cert.tolerance (λ a. false) cert.needed after).
       mesh-verdict has.0 own has.1)
       (λ (b : (index : ℕ) × IsFirstBadFit n heights cert.tolerance (λ a. false) cert.needed index).
       rejected (BadReason b.0) (own, inl b.1))
       (leads_or_bad n heights cert.tolerance (λ a. false) cert.needed (nothing_closed n)))
-      (λ (other : IsFor goal cert.tolerance → ⊥). rejected OtherTolerance other)
-      (for_or_not goal cert.tolerance)
+      (λ (other : IsFor target cert.tolerance → ⊥). rejected OtherTolerance other)
+      (for_or_not target cert.tolerance)
 
   -- there is one alone
 
@@ -262,14 +263,14 @@ module _ (n : ℕ) (heights : List ℕ) (goal : Target) (cert : FitCertificate) 
   Fits = (has : ℕ → Bool) × LeadsToFit n heights cert has
 
   abbrev FitsWithin : Type 0
-  FitsWithin = (has : ℕ → Bool) × LeadsToFit n heights cert has × IsWithinTarget goal (length (leaves_of n has))
+  FitsWithin = (has : ℕ → Bool) × LeadsToFit n heights cert has × IsWithinTarget target (length (leaves_of n has))
 
   -- the two ways to a bad reason
   abbrev BadBefore : ℕ → Type 0
   BadBefore index = IsFirstBadFit n heights cert.tolerance (λ a. false) cert.needed index
 
   abbrev BadBehind : ℕ → Type 0
-  BadBehind index = (has : ℕ → Bool) × LeadsToFit n heights cert has × IsWithinTarget goal (length (leaves_of n has))
+  BadBehind index = (has : ℕ → Bool) × LeadsToFit n heights cert has × IsWithinTarget target (length (leaves_of n has))
       × (place : ℕ) × IsFirstBadFit n heights (cert.tolerance - 1) has cert.beyond place
       × (index ≡ length cert.needed + place)
 
@@ -294,9 +295,9 @@ module _ (n : ℕ) (heights : List ℕ) (goal : Target) (cert : FitCertificate) 
       let within = f.1.within in absurd (omega arith)
 
   not-many : (has : ℕ → Bool) → LeadsToFit n heights cert has →
-      (IsWithinTarget goal (length (leaves_of n has)) → ⊥) → FitsWithin → ⊥
+      (IsWithinTarget target (length (leaves_of n has)) → ⊥) → FitsWithin → ⊥
   not-many has fitted many f =
-      many (subst (λ (l : List ℕ). IsWithinTarget goal (length l)) (leaves-one f.0 has f.1.needed fitted.needed) f.2)
+      many (subst (λ (l : List ℕ). IsWithinTarget target (length l)) (leaves-one f.0 has f.1.needed fitted.needed) f.2)
 
   not-behind : (index : ℕ) → BadBehind index → (has : ℕ → Bool) → LeadsToFit n heights cert has → (over : ℕ → Bool) →
       LeadsTo n heights (cert.tolerance - 1) has cert.beyond over → ⊥
@@ -322,7 +323,7 @@ module _ (n : ℕ) (heights : List ℕ) (goal : Target) (cert : FitCertificate) 
   bad-over i (inr b) has leads over = not-over has leads over (b.0, b.1)
 
   bad-many : (i : ℕ) → (BadBefore i ⊎ BadBehind i) → (has : ℕ → Bool) → LeadsToFit n heights cert has →
-      (IsWithinTarget goal (length (leaves_of n has)) → ⊥) → ⊥
+      (IsWithinTarget target (length (leaves_of n has)) → ⊥) → ⊥
   bad-many i (inl b) has fitted many = not-before i b (has, fitted.needed)
   bad-many i (inr b) has fitted many = not-many has fitted many (b.0, b.1, b.2)
 
@@ -332,8 +333,8 @@ module _ (n : ℕ) (heights : List ℕ) (goal : Target) (cert : FitCertificate) 
   bad-few i (inl b) has fitted over leads = not-before i b (has, fitted.needed)
   bad-few i (inr b) has fitted over leads = not-behind i b has fitted over leads
 
-  rejected-one : (why other : FitReject) → IsFitRejected n heights goal cert why →
-      IsFitRejected n heights goal cert other → why ≡ other
+  rejected-one : (why other : FitReject) → IsFitRejected n heights target cert why →
+      IsFitRejected n heights target cert other → why ≡ other
   rejected-one OtherTolerance OtherTolerance p q = refl
   rejected-one OtherTolerance (BadReason j) p q = absurd (p q.0)
   rejected-one OtherTolerance OverTolerance p q = absurd (p q.0)
@@ -361,21 +362,21 @@ module _ (n : ℕ) (heights : List ℕ) (goal : Target) (cert : FitCertificate) 
   rejected-one TooFewReasons TooFewReasons p q = refl
 
   -- a verdict on a mesh is one
-  pub verdict-is : (verdict : FitVerdict) (mesh : List ℕ) → IsVerdictOf n heights goal cert verdict mesh →
-      IsFitVerdict n heights goal cert verdict
+  pub verdict-is : (verdict : FitVerdict) (mesh : List ℕ) → IsVerdictOf n heights target cert verdict mesh →
+      IsFitVerdict n heights target cert verdict
   verdict-is (Certified triangles deviation) mesh v = (mesh, v.0, v.1, v.2)
   verdict-is (Rejected why) mesh v = v
 
   -- two verdicts are the same
-  pub verdict_one : (verdict other : FitVerdict) → IsFitVerdict n heights goal cert verdict →
-      IsFitVerdict n heights goal cert other → verdict ≡ other
+  pub verdict_one : (verdict other : FitVerdict) → IsFitVerdict n heights target cert verdict →
+      IsFitVerdict n heights target cert other → verdict ≡ other
   verdict_one (Certified triangles deviation) other v w =
-      ap₂ (λ i j. Certified i j) v.2 v.3 ∙ sym (sound-certified n heights goal cert v.0 v.1 other w)
+      ap₂ (λ i j. Certified i j) v.2 v.3 ∙ sym (sound-certified n heights target cert v.0 v.1 other w)
   verdict_one (Rejected why) (Certified triangles deviation) v w =
-      sound-certified n heights goal cert w.0 w.1 (Rejected why) v ∙ sym (ap₂ (λ i j. Certified i j) w.2 w.3)
+      sound-certified n heights target cert w.0 w.1 (Rejected why) v ∙ sym (ap₂ (λ i j. Certified i j) w.2 w.3)
   verdict_one (Rejected why) (Rejected other) v w = ap Rejected (rejected-one why other v w)
 
   -- and so are two meshes of a sound certificate
-  pub mesh_one : (mesh other : List ℕ) → IsFitSound n heights goal cert mesh →
-      IsFitSound n heights goal cert other → mesh ≡ other
+  pub mesh_one : (mesh other : List ℕ) → IsFitSound n heights target cert mesh →
+      IsFitSound n heights target cert other → mesh ≡ other
   mesh_one mesh other p q = p.leaves ∙ leaves-one p.has q.has p.fitted.needed q.fitted.needed ∙ sym q.leaves

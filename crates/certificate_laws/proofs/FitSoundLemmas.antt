@@ -18,7 +18,7 @@ use Rattle.fit_laws.proofs.SettledLemmas.{nothing_needed, needed-lower}
 use Rattle.fit_laws.proofs.FitLemmas.{fit_mesh, fit_tight}
 use Rattle.fit_laws.proofs.BudgetLemmas.{budget_end, budget_exact}
 use Rattle.fit_laws.proofs.OrderLemmas.{leaves-order}
-use Rattle.certificate_laws.specs.declared.fit_reason.Off.{Off}
+use Rattle.certificate_laws.specs.declared.fit_reason.Witness.{Witness}
 use Rattle.certificate_laws.specs.declared.fit_reason.Target.{Target}
 use Rattle.certificate_laws.specs.declared.fit_reason.Target.TheVariants.{Error, Budget}
 use Rattle.certificate_laws.specs.FitCertificate.{FitCertificate, IsFitReason, LeadsTo, LeadsToFit, IsFitSound}
@@ -111,7 +111,8 @@ sound-few n heights target cert mesh sound =
     omega arith
 
 -- no way off a plane is above the greatest height, so neither is the tolerance of a reason
-reason-low : (n : ℕ) (heights : List ℕ) (tolerance top : ℕ) (has : ℕ → Bool) (r : Off) → All (λ h. h ≤ top) heights →
+reason-low : (n : ℕ) (heights : List ℕ) (tolerance top : ℕ) (has : ℕ → Bool) (r : Witness)
+    → All (λ h. h ≤ top) heights →
     IsFitReason n heights tolerance has r → tolerance < 2 ^ n * top
 reason-low n heights tolerance top has r bounded reason =
     let most = off_plane-most n heights top r.triangle (point r.x r.y)
@@ -119,7 +120,8 @@ reason-low n heights tolerance top has r bounded reason =
     let above = reason.off.above in omega arith
 
 -- nor that of reasons that split anything
-leads-low : (n : ℕ) (heights : List ℕ) (tolerance top : ℕ) (has : ℕ → Bool) (reasons : List Off) (after : ℕ → Bool) →
+leads-low : (n : ℕ) (heights : List ℕ) (tolerance top : ℕ) (has : ℕ → Bool) (reasons : List Witness)
+    (after : ℕ → Bool) →
     All (λ h. h ≤ top) heights → LeadsTo n heights tolerance has reasons after →
     length (leaves_of n has) < length (leaves_of n after) → tolerance < 2 ^ n * top
 leads-low n heights tolerance top has [] after bounded leads more =

@@ -16,8 +16,8 @@ use Rattle.certificate_laws.specs.FitCertificate.{FitCertificate, LeadsTo, Leads
 use Rattle.certificate_laws.specs.FitCertificate.{IsFitSound, IsFirstBadFit, IsFitRejected, IsFitVerdict}
 use Rattle.certificate_laws.proofs.LeadLemmas.{leads-unique, leads-no_bad}
 
-module _ (n : ℕ) (heights : List ℕ) (goal : Target) (cert : FitCertificate) (mesh : List ℕ)
-    (sound : IsFitSound n heights goal cert mesh) where
+module _ (n : ℕ) (heights : List ℕ) (target : Target) (cert : FitCertificate) (mesh : List ℕ)
+    (sound : IsFitSound n heights target cert mesh) where
   -- the set of the mesh is the one that the reasons before it lead to
   one-set : (has : ℕ → Bool) → LeadsTo n heights cert.tolerance (λ a. false) cert.needed has →
       (a : ℕ) → has a ≡ sound.has a
@@ -29,13 +29,13 @@ module _ (n : ℕ) (heights : List ℕ) (goal : Target) (cert : FitCertificate) 
   one-leaves has leads = leaves_of-same n has sound.has (one-set has leads)
 
   -- so no test fails
-  sound-accepted : (why : FitReject) → IsFitRejected n heights goal cert why → ⊥
+  sound-accepted : (why : FitReject) → IsFitRejected n heights target cert why → ⊥
   sound-accepted OtherTolerance r = r sound.own
   sound-accepted (BadReason index) r = ⊎_elim
       (λ (b : IsFirstBadFit n heights cert.tolerance (λ a. false) cert.needed index).
       leads-no_bad n heights cert.tolerance (λ a. false) (λ a. false) cert.needed index sound.has
       (λ a. refl) b sound.fitted.needed)
-      (λ (b : (has : ℕ → Bool) × LeadsToFit n heights cert has × IsWithinTarget goal (length (leaves_of n has))
+      (λ (b : (has : ℕ → Bool) × LeadsToFit n heights cert has × IsWithinTarget target (length (leaves_of n has))
       × (place : ℕ) × IsFirstBadFit n heights (cert.tolerance - 1) has cert.beyond place
       × (index ≡ length cert.needed + place)).
       leads-no_bad n heights (cert.tolerance - 1) b.0 sound.has cert.beyond b.3 sound.over
@@ -46,15 +46,15 @@ module _ (n : ℕ) (heights : List ℕ) (goal : Target) (cert : FitCertificate) 
       subst (λ (l : List ℕ). cert.tolerance < worst_of (error_of n heights) l) (one-leaves r.1 r.2) r.3 in
       let within = sound.fitted.within in absurd (omega arith)
   sound-accepted OverBudget r =
-      r.3 (subst (λ (l : List ℕ). IsWithinTarget goal (length l)) (sym (one-leaves r.1 r.2.needed)) sound.few)
+      r.3 (subst (λ (l : List ℕ). IsWithinTarget target (length l)) (sym (one-leaves r.1 r.2.needed)) sound.few)
   sound-accepted TooFewReasons r =
       let same : leaves_of n r.4 ≡ leaves_of n sound.over = leaves_of-same n r.4 sound.over
       (leads-unique n heights (cert.tolerance - 1) r.1 sound.has cert.beyond r.4 sound.over
       (one-set r.1 r.2.needed) r.5 sound.beyond) in
-      r.6 (subst (λ (l : List ℕ). IsEnough goal cert.tolerance (length l)) (sym same) sound.enough)
+      r.6 (subst (λ (l : List ℕ). IsEnough target cert.tolerance (length l)) (sym same) sound.enough)
 
   -- and the numbers are those of the mesh
-  pub sound-certified : (verdict : FitVerdict) → IsFitVerdict n heights goal cert verdict
+  pub sound-certified : (verdict : FitVerdict) → IsFitVerdict n heights target cert verdict
       → verdict ≡ Certified (length mesh) (deviation_of n heights mesh)
   sound-certified (Certified triangles deviation) v =
       let same : v.0 ≡ mesh = v.1.leaves ∙ one-leaves v.1.has v.1.fitted.needed ∙ sym sound.leaves in

@@ -20,7 +20,7 @@ use Rattle.fit_laws.proofs.SettledLemmas.{outer-leaf}
 use Rattle.fit_laws.proofs.ErrorLemmas.{error-finest}
 use Rattle.fit_laws.proofs.FitLemmas.{worst-over, splittable-error, step-grown}
 use Rattle.fit_laws.proofs.BudgetLemmas.{budget_found}
-use Rattle.certificate_laws.specs.declared.fit_reason.Off.{Off}
+use Rattle.certificate_laws.specs.declared.fit_reason.Witness.{Witness}
 use Rattle.certificate_laws.specs.declared.fit_reason.Target.{Target}
 use Rattle.certificate_laws.specs.declared.fit_reason.Target.TheVariants.{Error, Budget}
 use Rattle.certificate_laws.specs.FitCertificate.{FitCertificate, IsOff, IsFitReason, LeadsTo, IsFitSound}
@@ -83,7 +83,7 @@ points-within n r h = rows-in (side_of n) 0 (side_of n) r h
 
 -- a triangle with an error above the tolerance has a point that is off
 pub error-point : (n : ℕ) (heights : List ℕ) (tolerance a : ℕ) → tolerance < error_of n heights a →
-    (r : Off) × (r.triangle ≡ a) × IsOff n heights tolerance r
+    (r : Witness) × (r.triangle ≡ a) × IsOff n heights tolerance r
 unfolding error_of
 error-point n heights tolerance a over =
     let found = greatest-over (off_plane n heights a) (holds_point n a) tolerance (points_of n) over in
@@ -99,7 +99,7 @@ error-point n heights tolerance a over =
 -- from a set they lead to one without an error above the tolerance
 abbrev pub Settles : ℕ → List ℕ → ℕ → (ℕ → Bool) → Type 0
 Settles n heights tolerance has =
-    (reasons : List Off) × (after : ℕ → Bool) × LeadsTo n heights tolerance has reasons after
+    (reasons : List Witness) × (after : ℕ → Bool) × LeadsTo n heights tolerance has reasons after
     × (worst_of (error_of n heights) (leaves_of n after) ≤ tolerance)
 
 settles_from : (n : ℕ) (heights : List ℕ) (tolerance fuel : ℕ) (has : ℕ → Bool) → IsClosed n has →
@@ -137,8 +137,8 @@ settles n heights tolerance has closed = settles_from n heights tolerance (2 * 4
 -- a certificate
 
 -- the tolerance
-tolerance_found : (n : ℕ) (heights : List ℕ) (goal : Target) → IsPossible goal →
-    (own : ℕ) × IsBestTolerance n (error_of n heights) goal own
+tolerance_found : (n : ℕ) (heights : List ℕ) (target : Target) → IsPossible target →
+    (own : ℕ) × IsBestTolerance n (error_of n heights) target own
 tolerance_found n heights (Error tolerance) possible = (tolerance, refl)
 tolerance_found n heights (Budget triangles) possible =
     let found = budget_found n triangles (error_of n heights) (error-finest n heights) possible in
@@ -147,28 +147,28 @@ tolerance_found n heights (Budget triangles) possible =
 
 -- the reasons behind a mesh: for a budget until nothing is above the next lower tolerance, and for an error none
 abbrev Behind : ℕ → List ℕ → Target → ℕ → (ℕ → Bool) → Type 0
-Behind n heights goal lower has =
-    (reasons : List Off) × (after : ℕ → Bool) × LeadsTo n heights lower has reasons after
-    × IsBelow goal (error_of n heights) lower (leaves_of n after) × HasNoneBehind goal reasons
+Behind n heights target lower has =
+    (reasons : List Witness) × (after : ℕ → Bool) × LeadsTo n heights lower has reasons after
+    × IsBelow target (error_of n heights) lower (leaves_of n after) × HasNoneBehind target reasons
 
-behind_found : (n : ℕ) (heights : List ℕ) (goal : Target) (lower : ℕ) (has : ℕ → Bool) → IsClosed n has →
-    Behind n heights goal lower has
+behind_found : (n : ℕ) (heights : List ℕ) (target : Target) (lower : ℕ) (has : ℕ → Bool) → IsClosed n has →
+    Behind n heights target lower has
 behind_found n heights (Error tolerance) lower has closed = ([], has, (λ a. refl), tt, refl)
 behind_found n heights (Budget triangles) lower has closed =
     let found = settles n heights lower has closed in (found.0, found.1, found.2, found.3, tt)
 
 -- each possible target has a sound certificate, for an error without reasons behind the mesh
-pub sound_found : (n : ℕ) (heights : List ℕ) (goal : Target) → IsPossible goal →
-    (cert : FitCertificate) × (mesh : List ℕ) × IsFitSound n heights goal cert mesh × HasNoneBehind goal cert.beyond
-sound_found n heights goal possible =
-    let own = tolerance_found n heights goal possible in
+pub sound_found : (n : ℕ) (heights : List ℕ) (target : Target) → IsPossible target →
+    (cert : FitCertificate) × (mesh : List ℕ) × IsFitSound n heights target cert mesh × HasNoneBehind target cert.beyond
+sound_found n heights target possible =
+    let own = tolerance_found n heights target possible in
     let before = settles n heights own.0 (λ a. false) (nothing_closed n) in
-    let behind = behind_found n heights goal (own.0 - 1) before.1
+    let behind = behind_found n heights target (own.0 - 1) before.1
     (leads-closed n heights own.0 (λ a. false) before.0 before.1 (nothing_closed n) before.2) in
     let cert : FitCertificate = record { tolerance = own.0; needed = before.0; beyond = behind.0 } in (
       cert,
       leaves_of n before.1,
-      made-sound n heights cert before.1 behind.1 record { needed = before.2; within = before.3 } behind.2 goal own.1
+      made-sound n heights cert before.1 behind.1 record { needed = before.2; within = before.3 } behind.2 target own.1
           behind.3,
       behind.4,
     )

@@ -28,7 +28,7 @@ use Rattle.fit_laws.proofs.SettledLemmas.{outer-leaf, settled-outer}
 use Rattle.fit_laws.proofs.OrderLemmas.{leaves-order}
 use Rattle.fit_laws.specs.Required.{IsLeastSettledWith, IsLeastMeshWith}
 use Rattle.fit_laws.proofs.RequiredLemmas.{with-mesh}
-use Rattle.certificate_laws.specs.declared.fit_reason.Off.{Off}
+use Rattle.certificate_laws.specs.declared.fit_reason.Witness.{Witness}
 use Rattle.certificate_laws.specs.declared.fit_reason.FitReject.{FitReject}
 use Rattle.certificate_laws.specs.declared.fit_reason.FitReject.TheVariants.{OtherTolerance, BadReason, OverTolerance}
 use Rattle.certificate_laws.specs.declared.fit_reason.FitReject.TheVariants.{OverBudget, TooFewReasons}
@@ -48,7 +48,7 @@ use Rattle.certificate_laws.proofs.CentreLemmas.{listed_or_not}
 -- what is needed
 
 -- a settled set that has all from which reasons go on has all that they lead to
-pub leads-within : (n : ℕ) (heights : List ℕ) (tolerance : ℕ) (has : ℕ → Bool) (reasons : List Off)
+pub leads-within : (n : ℕ) (heights : List ℕ) (tolerance : ℕ) (has : ℕ → Bool) (reasons : List Witness)
     (after other : ℕ → Bool) → IsClosed n has → IsFineEnough n tolerance (error_of n heights) other →
     IsSubset has other → LeadsTo n heights tolerance has reasons after → IsSubset after other
 leads-within n heights tolerance has [] after other closed fine within leads = λ a is. within a (leads a ∙ is)
@@ -288,7 +288,7 @@ keeps_or_not n points has = ⊎_elim
     not-both false e is = false≢true is
 
 -- a list is empty or it is not
-empty_or_not : (reasons : List Off) → (reasons ≡ []) ⊎ (reasons ≡ [] → ⊥)
+empty_or_not : (reasons : List Witness) → (reasons ≡ []) ⊎ (reasons ≡ [] → ⊥)
 empty_or_not [] = inl refl
 empty_or_not (r ∷ reasons) = inr (λ e. cc)
 
@@ -533,7 +533,8 @@ inner_points n points (q ∷ list) within =
     (inner_points n points list (λ p listed. within p (tail-in q list p listed)))
 
 -- what reasons lead to has all that they go on from
-pub leads-more : (n : ℕ) (heights : List ℕ) (tolerance : ℕ) (has : ℕ → Bool) (reasons : List Off) (after : ℕ → Bool) →
+pub leads-more : (n : ℕ) (heights : List ℕ) (tolerance : ℕ) (has : ℕ → Bool) (reasons : List Witness)
+    (after : ℕ → Bool) →
     LeadsTo n heights tolerance has reasons after → IsSubset has after
 leads-more n heights tolerance has [] after leads a is = sym (leads a) ∙ is
 leads-more n heights tolerance has (r ∷ reasons) after leads a is =

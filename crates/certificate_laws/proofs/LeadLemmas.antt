@@ -12,11 +12,11 @@ use Rattle.fit_laws.specs.Error.{error_of}
 use Rattle.fit_laws.specs.Settled.{IsNeeded}
 use Rattle.fit_laws.proofs.SettledLemmas.{outer-leaf, needed-step}
 use Rattle.fit_laws.proofs.FitLemmas.{closed-same, step-grown}
-use Rattle.certificate_laws.specs.declared.fit_reason.Off.{Off}
+use Rattle.certificate_laws.specs.declared.fit_reason.Witness.{Witness}
 use Rattle.certificate_laws.specs.FitCertificate.{IsOff, IsFitReason, LeadsTo, IsFirstBadFit}
 
 -- a held point that is off by more than the tolerance shows that the triangle's error is above it
-pub off-error : (n : ℕ) (heights : List ℕ) (tolerance : ℕ) (r : Off) → IsOff n heights tolerance r
+pub off-error : (n : ℕ) (heights : List ℕ) (tolerance : ℕ) (r : Witness) → IsOff n heights tolerance r
     → tolerance < error_of n heights r.triangle
 unfolding error_of
 off-error n heights tolerance r off =
@@ -28,7 +28,7 @@ off-error n heights tolerance r off =
 -- sets that agree
 
 -- have the same reasons
-pub reason-same : (n : ℕ) (heights : List ℕ) (tolerance : ℕ) (has other : ℕ → Bool) (r : Off) →
+pub reason-same : (n : ℕ) (heights : List ℕ) (tolerance : ℕ) (has other : ℕ → Bool) (r : Witness) →
     ((a : ℕ) → has a ≡ other a) →
     IsFitReason n heights tolerance has r → IsFitReason n heights tolerance other r
 reason-same n heights tolerance has other r same is = record {
@@ -50,7 +50,7 @@ closure-same n has other next t same least = record {
 -- one reason more
 
 pub leads-next : (n : ℕ) (heights : List ℕ) (tolerance : ℕ) (has : ℕ →
-    Bool) (reasons : List Off) (mid next : ℕ → Bool) (r : Off) →
+    Bool) (reasons : List Witness) (mid next : ℕ → Bool) (r : Witness) →
     LeadsTo n heights tolerance has reasons mid → IsFitReason n heights tolerance mid r →
     IsLeastClosed n (with_triangle mid r.triangle) next →
     LeadsTo n heights tolerance has (reasons ++ r ∷ []) next
@@ -66,7 +66,8 @@ leads-next n heights tolerance has (s ∷ reasons) mid next r leads is least =
 -- where they lead to
 
 -- a closed set leads to a closed one
-pub leads-closed : (n : ℕ) (heights : List ℕ) (tolerance : ℕ) (has : ℕ → Bool) (reasons : List Off) (after : ℕ → Bool) →
+pub leads-closed : (n : ℕ) (heights : List ℕ) (tolerance : ℕ) (has : ℕ → Bool) (reasons : List Witness)
+    (after : ℕ → Bool) →
     IsClosed n has →
     LeadsTo n heights tolerance has reasons after → IsClosed n after
 leads-closed n heights tolerance has [] after closed leads = closed-same n has after leads closed
@@ -74,7 +75,8 @@ leads-closed n heights tolerance has (r ∷ reasons) after closed leads =
     leads-closed n heights tolerance leads.0 reasons after leads.2.closed leads.3
 
 -- and one that every mesh within the tolerance needs, to another
-pub leads-needed : (n : ℕ) (heights : List ℕ) (tolerance : ℕ) (has : ℕ → Bool) (reasons : List Off) (after : ℕ → Bool) →
+pub leads-needed : (n : ℕ) (heights : List ℕ) (tolerance : ℕ) (has : ℕ → Bool) (reasons : List Witness)
+    (after : ℕ → Bool) →
     IsClosed n has →
     IsNeeded n tolerance (error_of n heights) has → LeadsTo n heights tolerance has reasons after
     → IsNeeded n tolerance (error_of n heights) after
@@ -87,7 +89,8 @@ leads-needed n heights tolerance has (r ∷ reasons) after closed needed leads =
     (off-error n heights tolerance r leads.1.off) leads.2) leads.3
 
 -- each splits one triangle at least, so the leaves grow by as many
-pub leads-grown : (n : ℕ) (heights : List ℕ) (tolerance : ℕ) (has : ℕ → Bool) (reasons : List Off) (after : ℕ → Bool) →
+pub leads-grown : (n : ℕ) (heights : List ℕ) (tolerance : ℕ) (has : ℕ → Bool) (reasons : List Witness)
+    (after : ℕ → Bool) →
     IsClosed n has →
     LeadsTo n heights tolerance has reasons after →
     length reasons + length (leaves_of n has) ≤ length (leaves_of n after)
@@ -103,7 +106,7 @@ leads-grown n heights tolerance has (r ∷ reasons) after closed leads =
 
 -- to the same one
 pub leads-same : (n : ℕ) (heights : List ℕ) (tolerance : ℕ) (has other : ℕ →
-    Bool) (reasons : List Off) (after : ℕ → Bool) →
+    Bool) (reasons : List Witness) (after : ℕ → Bool) →
     ((a : ℕ) → has a ≡ other a) → LeadsTo n heights tolerance has reasons after →
     LeadsTo n heights tolerance other reasons after
 leads-same n heights tolerance has other [] after same leads = λ a. sym (same a) ∙ leads a
@@ -115,7 +118,7 @@ leads-same n heights tolerance has other (r ∷ reasons) after same leads = (
 )
 
 -- so the first that is none is the first from the other
-pub bad-same : (n : ℕ) (heights : List ℕ) (tolerance : ℕ) (has other : ℕ → Bool) (reasons : List Off) (index : ℕ) →
+pub bad-same : (n : ℕ) (heights : List ℕ) (tolerance : ℕ) (has other : ℕ → Bool) (reasons : List Witness) (index : ℕ) →
     ((a : ℕ) → has a ≡ other a) → IsFirstBadFit n heights tolerance has reasons index →
     IsFirstBadFit n heights tolerance other reasons index
 bad-same n heights tolerance has other reasons index same bad = record {
@@ -131,7 +134,7 @@ bad-same n heights tolerance has other reasons index same bad = record {
 
 -- and to no other one
 pub leads-unique : (n : ℕ) (heights : List ℕ) (tolerance : ℕ) (has other : ℕ →
-    Bool) (reasons : List Off) (one two : ℕ → Bool) →
+    Bool) (reasons : List Witness) (one two : ℕ → Bool) →
     ((a : ℕ) → has a ≡ other a) → LeadsTo n heights tolerance has reasons one
     → LeadsTo n heights tolerance other reasons two → (a : ℕ) → one a ≡ two a
 leads-unique n heights tolerance has other [] one two same p q = λ a. sym (p a) ∙ same a ∙ q a
@@ -141,8 +144,8 @@ leads-unique n heights tolerance has other (r ∷ reasons) one two same p q =
     (closure-same n other has q.0 r.triangle (λ a. sym (same a)) q.2)) p.3 q.3
 
 -- where all are reasons, none is the first that is none
-leads-good : (n : ℕ) (heights : List ℕ) (tolerance : ℕ) (has other : ℕ → Bool) (good : List Off) (bad : Off)
-    (rest : List Off) (mid after : ℕ → Bool) →
+leads-good : (n : ℕ) (heights : List ℕ) (tolerance : ℕ) (has other : ℕ → Bool) (good : List Witness) (bad : Witness)
+    (rest : List Witness) (mid after : ℕ → Bool) →
     ((a : ℕ) → has a ≡ other a) → LeadsTo n heights tolerance has good mid →
     LeadsTo n heights tolerance other (good ++ bad ∷ rest) after →
     IsFitReason n heights tolerance mid bad
@@ -154,9 +157,9 @@ leads-good n heights tolerance has other (r ∷ good) bad rest mid after same p 
     (closure-same n other has q.0 r.triangle (λ a. sym (same a)) q.2)) p.3 q.3
 
 pub leads-no_bad : (n : ℕ) (heights : List ℕ) (tolerance : ℕ) (has other : ℕ →
-    Bool) (reasons : List Off) (index : ℕ) (after : ℕ → Bool) →
+    Bool) (reasons : List Witness) (index : ℕ) (after : ℕ → Bool) →
     ((a : ℕ) → has a ≡ other a) → IsFirstBadFit n heights tolerance has reasons index →
     LeadsTo n heights tolerance other reasons after → ⊥
 leads-no_bad n heights tolerance has other reasons index after same bad leads =
     bad.fails (leads-good n heights tolerance has other bad.good bad.bad bad.rest bad.after after same bad.leads
-    (subst (λ (l : List Off). LeadsTo n heights tolerance other l after) bad.parts leads))
+    (subst (λ (l : List Witness). LeadsTo n heights tolerance other l after) bad.parts leads))

@@ -4,7 +4,7 @@ use Rattle.std.specs.Prelude.{◌≡◌, ℕ, ◌<◌, ◌≤◌, List, [], leng
 use Rattle.mesh_defs.specs.Priority.{worst_of}
 use Rattle.mesh_laws.specs.Least.{IsLeastMesh}
 use Rattle.fit_laws.specs.Budget.{IsBudgetMesh}
-use Rattle.certificate_laws.specs.declared.fit_reason.Off.{Off}
+use Rattle.certificate_laws.specs.declared.fit_reason.Witness.{Witness}
 use Rattle.certificate_laws.specs.declared.fit_reason.Target.{Target}
 use Rattle.certificate_laws.specs.declared.fit_reason.Target.TheVariants.{Error, Budget}
 
@@ -26,6 +26,6 @@ IsBelow (Error tolerance) error lower leaves = Unit {0}
 IsBelow (Budget triangles) error lower leaves = worst_of error leaves ≤ lower
 
 -- for an error there are no reasons behind the mesh, since nothing behind it matters
-abbrev pub HasNoneBehind : Target → List Off → Type 0
+abbrev pub HasNoneBehind : Target → List Witness → Type 0
 HasNoneBehind (Error tolerance) beyond = beyond ≡ []
 HasNoneBehind (Budget triangles) beyond = Unit {0}

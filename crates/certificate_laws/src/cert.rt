@@ -3,7 +3,7 @@
 ghost use Rattle.std.specs.Prelude.{◌≡◌, ◌≤◌, length};
 ghost use Rattle.certificate_laws.specs.declared.limits.TheConstants.{MOST_REASONS};
 
-use crate::fit_reason::Off;
+use crate::fit_reason::Witness;
 use std::marker::Model;
 
 /// A certificate of a fitted mesh: its tolerance, the reasons that make the mesh, and reasons why no mesh of a budget
@@ -13,8 +13,8 @@ use std::marker::Model;
 #[derive(Drop)]
 pub struct FitCert {
     tolerance: u32,
-    needed: Vec<Off>,
-    beyond: Vec<Off>,
+    needed: Vec<Witness>,
+    beyond: Vec<Witness>,
 }
 
 impl Model for FitCert {
@@ -32,7 +32,7 @@ impl Model for FitCert {
 impl FitCert {
     /// The certificate with these reasons before the mesh and behind it. The tolerance is in units of height, times
     /// 2^n.
-    pub fn new(tolerance: u32, needed: Vec<Off>, beyond: Vec<Off>) -> FitCert
+    pub fn new(tolerance: u32, needed: Vec<Witness>, beyond: Vec<Witness>) -> FitCert
         requires few_needed { length needed.items ≤ MOST_REASONS }
         requires few_beyond { length beyond.items ≤ MOST_REASONS }
         ensures { result ≡ record { tolerance = tolerance; needed = needed.items; beyond = beyond.items } }
@@ -52,7 +52,7 @@ impl FitCert {
     }
 
     /// The reasons that make the mesh, in order.
-    pub fn needed(&self) -> &[Off]
+    pub fn needed(&self) -> &[Witness]
         ensures value { result.now ≡ self.now.needed }
         ensures few { length self.now.needed ≤ MOST_REASONS }
     {
@@ -60,7 +60,7 @@ impl FitCert {
     }
 
     /// The reasons behind it, in order.
-    pub fn beyond(&self) -> &[Off]
+    pub fn beyond(&self) -> &[Witness]
         ensures value { result.now ≡ self.now.beyond }
         ensures few { length self.now.beyond ≤ MOST_REASONS }
     {

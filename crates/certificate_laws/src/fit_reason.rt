@@ -4,7 +4,7 @@ use bintree_addr::Tri;
 
 /// A triangle that has to be split, and a grid point where the surface is too far from its plane.
 #[derive(Clone, Copy, Debug, PartialEq, Eq)]
-pub struct Off {
+pub struct Witness {
     /// The triangle.
     pub triangle: Tri,
     /// The column of the point, from the left.

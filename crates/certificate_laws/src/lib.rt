@@ -18,7 +18,7 @@ mod reason;
 
 pub use cert::FitCert;
 pub use fit_certificates::{fit_certificate_laws, limit_laws};
-pub use fit_reason::{FitReject, FitVerdict, Off, Target};
+pub use fit_reason::{FitReject, FitVerdict, Target, Witness};
 pub use kept::KeptCert;
 pub use kept_laws::kept_certificate_laws;
 pub use laws::{certificate_laws, cut_laws, reason_laws, verdict_laws};

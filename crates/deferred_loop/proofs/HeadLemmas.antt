@@ -29,13 +29,14 @@ use Rattle.deferred_loop.proofs.KeyLemmas.{present, present_is, best_key-upper, 
 use Rattle.deferred_loop.proofs.KeyLemmas.{best_key-above, no_later_by, can_merge_with}
 
 -- the grid of a frame's gauge
-pub told_grid : (w : DeferredFrame) (told : Priorities) → told ≡ frame_priorities w → told.n ≡ w.n
-told_grid w told same = ap (λ (z : Priorities). z.n) same
+pub priorities_grid : (w : DeferredFrame) (priorities : Priorities) → priorities ≡ frame_priorities w
+    → priorities.n ≡ w.n
+priorities_grid w priorities same = ap (λ (z : Priorities). z.n) same
 
 -- an address may be asked
-pub asked_level : (w : DeferredFrame) (told : Priorities) (a : ℕ) → told ≡ frame_priorities w →
-    IsAddress w.n a → level_of a ≤ 2 * told.n
-asked_level w told a same address = omega (arith, level-le w.n a address, told_grid w told same)
+pub asked_level : (w : DeferredFrame) (priorities : Priorities) (a : ℕ) → priorities ≡ frame_priorities w →
+    IsAddress w.n a → level_of a ≤ 2 * priorities.n
+asked_level w priorities a same address = omega (arith, level-le w.n a address, priorities_grid w priorities same)
 
 -- a head with no triangle to ask is decided
 pub last_decided : (s : SeenMesh) (h : Last) → IsLastHead s h → h.unasked ≡ None → IsDecided s h.rank.tri
@@ -93,9 +94,10 @@ module _ (w : DeferredFrame) (is : IsDeferredFrame w) (s : SeenMesh) (settled : 
     head_entry = leaf head.leaf
 
     -- and may be asked
-    pub head_level : (told : Priorities) → told ≡ frame_priorities w → level_of h.rank.tri ≤ 2 * told.n
-    head_level told same =
-        asked_level w told h.rank.tri same (IsAddress-entry w.n s.set.members h.rank.tri set (leaf head_leaf))
+    pub head_level : (priorities : Priorities) → priorities ≡ frame_priorities w
+        → level_of h.rank.tri ≤ 2 * priorities.n
+    head_level priorities same =
+        asked_level w priorities h.rank.tri same (IsAddress-entry w.n s.set.members h.rank.tri set (leaf head_leaf))
 
     -- a head of key 0
     pub head_zero : h.rank.p ≡ 0 → All (λ a. w.priority a ≡ 0) (leaves_of w.n (among s.set.members))
@@ -210,9 +212,9 @@ module _ (w : DeferredFrame) (is : IsDeferredFrame w) (s : SeenMesh) (settled : 
         last.mergeable inside)
 
     -- and may be asked
-    pub last_level : (told : Priorities) (t : ℕ) → told ≡ frame_priorities w →
-        IsInDiamond s.set.n h.rank.tri t → level_of t ≤ 2 * told.n
-    last_level told t same inside = asked_level w told t same
+    pub last_level : (priorities : Priorities) (t : ℕ) → priorities ≡ frame_priorities w →
+        IsInDiamond s.set.n h.rank.tri t → level_of t ≤ 2 * priorities.n
+    last_level priorities t same inside = asked_level w priorities t same
         (IsAddress-entry w.n s.set.members t set
         (member (last_key t (subst (λ z. IsInDiamond z h.rank.tri t) settled.grid inside)).mergeable))
 

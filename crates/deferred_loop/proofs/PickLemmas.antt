@@ -40,73 +40,78 @@ aim_is n budget priority low =
 
 -- the frame that begins
 abbrev pub frame_now : Priorities → Readings → ℕ → SeenMesh → ℕ → DeferredFrame
-frame_now told r odometer s budget =
-    frame_of told r odometer s budget (ranking_of s.set.n told.of) (aim_of s.set.n budget told.of).0
-    (aim_of s.set.n budget told.of).1
+frame_now priorities r odometer s budget =
+    frame_of priorities r odometer s budget (ranking_of s.set.n priorities.of) (aim_of s.set.n budget priorities.of).0
+    (aim_of s.set.n budget priorities.of).1
 
-module _ (told : Priorities) (r : Readings) (odometer : ℕ) (s : SeenMesh) (budget : ℕ) (grid : told.n ≡ s.set.n) where
+module _ (priorities : Priorities) (r : Readings) (odometer : ℕ) (s : SeenMesh) (budget : ℕ)
+    (grid : priorities.n ≡ s.set.n) where
   -- it is what the gauge tells
-  pub picked_told : told ≡ frame_priorities (frame_now told r odometer s budget)
-  picked_told = ap (λ z. record { n = z; of = told.of }) grid
+  pub picked_priorities : priorities ≡ frame_priorities (frame_now priorities r odometer s budget)
+  picked_priorities = ap (λ z. record { n = z; of = priorities.of }) grid
 
   -- it is that of the mesh
-  pub picked_of : IsFrameOf (frame_now told r odometer s budget) r odometer s
+  pub picked_of : IsFrameOf (frame_now priorities r odometer s budget) r odometer s
   picked_of = record {
     grid = refl;
     start = refl;
     stamps = record { due = λ a. refl; upper = λ a. refl; lower = λ a. refl };
   }
 
-  module _ (low : 2 ≤ budget) (falls : IsFalling told.n told.of) (valid : IsGridSet s.set.n s.set.members) where
-    pub falling_here : IsFalling s.set.n told.of
-    falling_here = subst (λ z. IsFalling z told.of) grid falls
+  module _ (low : 2 ≤ budget) (falls : IsFalling priorities.n priorities.of)
+      (valid : IsGridSet s.set.n s.set.members) where
+    pub falling_here : IsFalling s.set.n priorities.of
+    falling_here = subst (λ z. IsFalling z priorities.of) grid falls
 
     -- each priority lies between its bounds
-    pub picked_frame : StampsHold told.of odometer s.stamps → ReadingsHold s.set.n told.of odometer r →
-        IsDeferredFrame (frame_now told r odometer s budget)
-    picked_frame hold now = stamped_frame (frame_now told r odometer s budget) r odometer s.stamps
-        (IsRanking-of s.set.n told.of) falling_here
-        (aim_is s.set.n budget told.of low) low valid (picked_of).stamps hold now
+    pub picked_frame : StampsHold priorities.of odometer s.stamps → ReadingsHold s.set.n priorities.of odometer r →
+        IsDeferredFrame (frame_now priorities r odometer s budget)
+    picked_frame hold now = stamped_frame (frame_now priorities r odometer s budget) r odometer s.stamps
+        (IsRanking-of s.set.n priorities.of) falling_here
+        (aim_is s.set.n budget priorities.of low) low valid (picked_of).stamps hold now
 
     -- the needed change is no more than it must be
     pub end_sparing : (last : List ℕ) (added removed : ℕ) →
-        IsFrameRun s.set.n budget told.of s.set.members last added removed →
-        IsSparing s.set.n budget told.of s.set.members last added removed
+        IsFrameRun s.set.n budget priorities.of s.set.members last added removed →
+        IsSparing s.set.n budget priorities.of s.set.members last added removed
     end_sparing last added removed frame = record {
-      size = frame_size s.set.n budget told.of s.set.members last added removed valid frame;
-      no_merge = frame_no_merge s.set.n budget told.of s.set.members last added removed valid frame falling_here;
-      no_split = frame_no_split s.set.n budget told.of s.set.members last added removed valid frame falling_here;
-      bound = λ ranking chosen loose ranked closure o. frame_bound s.set.n budget told.of s.set.members last added
+      size = frame_size s.set.n budget priorities.of s.set.members last added removed valid frame;
+      no_merge = frame_no_merge s.set.n budget priorities.of s.set.members last added removed valid frame falling_here;
+      no_split = frame_no_split s.set.n budget priorities.of s.set.members last added removed valid frame falling_here;
+      bound = λ ranking chosen loose ranked closure o. frame_bound s.set.n budget priorities.of s.set.members last added
           removed valid frame ranking chosen loose ranked falling_here closure o;
     }
 
     -- what is open goes by the ranking, of which there is one
     open_same : (ranking other : List ℕ) (chosen more : ℕ) (best has : ℕ → Bool) (a : ℕ) →
         ranking ≡ other → chosen ≡ more →
-        IsOpen (frame_of told r odometer s budget ranking chosen best) a →
-        IsOpen (frame_of told r odometer s budget other more has) a
+        IsOpen (frame_of priorities r odometer s budget ranking chosen best) a →
+        IsOpen (frame_of priorities r odometer s budget other more has) a
     open_same ranking other chosen more best has a one two (due_entry entry due) = due_entry entry due
     open_same ranking other chosen more best has a one two (open_leaf leaf undue straddles) = open_leaf leaf undue
-        (subst (λ z. LeafStraddles told.of other z (frame_of told r odometer s budget ranking chosen best).upper a) two
-        (subst (λ z. LeafStraddles told.of z chosen
-        (frame_of told r odometer s budget ranking chosen best).upper a) one straddles))
+        (subst (λ z. LeafStraddles priorities.of other z (frame_of priorities r odometer s budget ranking chosen
+        best).upper a) two
+        (subst (λ z. LeafStraddles priorities.of z chosen
+        (frame_of priorities r odometer s budget ranking chosen best).upper a) one straddles))
     open_same ranking other chosen more best has a one two (open_member can undue straddles) =
         open_member can undue straddles
 
     -- the evaluations, for each ranking
     pub end_at_most : (steps count more : ℕ) →
-        ((all_open : List ℕ) → ((a : ℕ) → IsOpen (frame_now told r odometer s budget) a → IsTrue (among all_open a)) →
+        ((all_open : List ℕ) → ((a : ℕ) → IsOpen (frame_now priorities r odometer s budget) a
+        → IsTrue (among all_open a)) →
         more ≤ count + 2 * length all_open + 6 * steps) →
-        IsAtMost told r odometer s budget steps count more
+        IsAtMost priorities r odometer s budget steps count more
     end_at_most steps count more most ranking chosen best all_open ranked closure all =
-        let same : ranking_of s.set.n told.of ≡ ranking = IsRanking-unique s.set.n told.of
-        (ranking_of s.set.n told.of) ranking (IsRanking-of s.set.n told.of) ranked in
+        let same : ranking_of s.set.n priorities.of ≡ ranking = IsRanking-unique s.set.n priorities.of
+        (ranking_of s.set.n priorities.of) ranking (IsRanking-of s.set.n priorities.of) ranked in
         let here = subst (λ z. IsRankClosure s.set.n budget z chosen best) (sym same) closure in
         let few =
-        IsRankClosure-unique s.set.n budget (ranking_of s.set.n told.of) (aim_of s.set.n budget told.of).0 chosen
-        (aim_of s.set.n budget told.of).1 best (aim_is s.set.n budget told.of low) here in
-        most all_open (λ a o. all a (open_same (ranking_of s.set.n told.of) ranking
-        (aim_of s.set.n budget told.of).0 chosen (aim_of s.set.n budget told.of).1 best a same few.0 o))
+        IsRankClosure-unique s.set.n budget (ranking_of s.set.n priorities.of)
+        (aim_of s.set.n budget priorities.of).0 chosen
+        (aim_of s.set.n budget priorities.of).1 best (aim_is s.set.n budget priorities.of low) here in
+        most all_open (λ a o. all a (open_same (ranking_of s.set.n priorities.of) ranking
+        (aim_of s.set.n budget priorities.of).0 chosen (aim_of s.set.n budget priorities.of).1 best a same few.0 o))
 
 -- each stamp that changed was counted
 pub end_at_least : (r : Readings) (odometer : ℕ) (before after : SeenMesh) (count more : ℕ) → more < 2 ^ 64 - 1 →

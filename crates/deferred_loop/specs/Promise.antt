@@ -11,10 +11,10 @@ use Rattle.deferred_loop.specs.Seen.{SeenMesh}
 
 -- the frame that begins at a mesh: what is due counts with a stamp that is taken now
 abbrev pub frame_of : Priorities → Readings → ℕ → SeenMesh → ℕ → List ℕ → ℕ → (ℕ → Bool) → DeferredFrame
-frame_of told readings odometer s budget ranking chosen best = record {
+frame_of priorities readings odometer s budget ranking chosen best = record {
   n = s.set.n;
   budget = budget;
-  priority = told.of;
+  priority = priorities.of;
   ranking = ranking;
   chosen = chosen;
   best = best;
@@ -27,10 +27,11 @@ frame_of told readings odometer s budget ranking chosen best = record {
 -- The evaluations rise by at most two for each entry of the old set that is due or straddles, each once, and six for
 -- each triangle that is split or merged.
 abbrev pub IsAtMost : Priorities → Readings → ℕ → SeenMesh → ℕ → ℕ → ℕ → ℕ → Type 0
-IsAtMost told readings odometer s budget steps count more =
+IsAtMost priorities readings odometer s budget steps count more =
     (ranking : List ℕ) (chosen : ℕ) (best : ℕ → Bool) (all_open : List ℕ) →
-    IsRanking s.set.n told.of ranking → IsRankClosure s.set.n budget ranking chosen best →
-    ((a : ℕ) → IsOpen (frame_of told readings odometer s budget ranking chosen best) a → IsTrue (among all_open a)) →
+    IsRanking s.set.n priorities.of ranking → IsRankClosure s.set.n budget ranking chosen best →
+    ((a : ℕ) → IsOpen (frame_of priorities readings odometer s budget ranking chosen best) a
+    → IsTrue (among all_open a)) →
     more ≤ count + 2 * length all_open + 6 * steps
 
 -- and by at least one for each entry of the new set whose stamp is not the one from before

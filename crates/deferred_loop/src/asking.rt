@@ -15,16 +15,16 @@ use crate::queued::{Head, Last, Located, QueuedMesh};
 
 /// Asks the priority of a triangle, and tells it to the mesh.
 fn ask<M: QueuedMesh, G: Gauge>(mesh: &mut M, gauge: &mut G, t: Located)
-    requires level { level_of t.tri ≤ 2 * (G.told gauge.old).n }
+    requires level { level_of t.tri ≤ 2 * (G.priorities gauge.old).n }
     requires at { M.tri_at mesh.old t.slot.0 ≡ t.tri }
     requires settled { (M.seen mesh.old).fresh ≡ [] }
     requires entry { IsEntry (M.seen mesh.old).set.n (among (M.seen mesh.old).set.members) t.tri }
     requires unknown { (M.seen mesh.old).known t.tri ≡ false }
-    ensures told { G.told gauge.new ≡ G.told gauge.old }
+    ensures priorities { G.priorities gauge.new ≡ G.priorities gauge.old }
     ensures readings { G.readings gauge.new ≡ G.readings gauge.old }
     ensures log { M.log mesh.new ≡ M.log mesh.old }
     ensures known { IsRated (M.seen mesh.old) (M.seen mesh.new)
-        (record { p = (G.told gauge.old).of t.tri; tri = t.tri }) }
+        (record { p = (G.priorities gauge.old).of t.tri; tri = t.tri }) }
     ensures rises { G.count gauge.old ≤ G.count gauge.new }
     ensures most { G.count gauge.new ≤ G.count gauge.old + 1 }
 {
@@ -38,10 +38,10 @@ fn ask<M: QueuedMesh, G: Gauge>(mesh: &mut M, gauge: &mut G, t: Located)
 pub fn settle_first<M: QueuedMesh, G: Gauge>(mesh: &mut M, gauge: &mut G) -> Option<Head>
     ghost w: { DeferredFrame }
     requires frame { IsDeferredFrame w }
-    requires told { G.told gauge.old ≡ frame_priorities w }
+    requires priorities { G.priorities gauge.old ≡ frame_priorities w }
     requires settled { IsSettled w (M.seen mesh.old) }
     requires within { leaf_count w.n (M.seen mesh.old).set.members ≤ w.budget }
-    ensures told { G.told gauge.new ≡ G.told gauge.old }
+    ensures priorities { G.priorities gauge.new ≡ G.priorities gauge.old }
     ensures readings { G.readings gauge.new ≡ G.readings gauge.old }
     ensures log { M.log mesh.new ≡ M.log mesh.old }
     ensures asked { IsAskedOnly w (M.seen mesh.old) (M.seen mesh.new) (G.count gauge.old) (G.count gauge.new) }
@@ -73,10 +73,10 @@ pub fn settle_last<M: QueuedMesh, G: Gauge>(
 ) -> Option<Last>
     ghost w: { DeferredFrame }
     requires frame { IsDeferredFrame w }
-    requires told { G.told gauge.old ≡ frame_priorities w }
+    requires priorities { G.priorities gauge.old ≡ frame_priorities w }
     requires settled { IsSettled w (M.seen mesh.old) }
     requires allowed { IsAllowed w (M.seen mesh.old).set.members limit.now }
-    ensures told { G.told gauge.new ≡ G.told gauge.old }
+    ensures priorities { G.priorities gauge.new ≡ G.priorities gauge.old }
     ensures readings { G.readings gauge.new ≡ G.readings gauge.old }
     ensures log { M.log mesh.new ≡ M.log mesh.old }
     ensures asked { IsAskedOnly w (M.seen mesh.old) (M.seen mesh.new) (G.count gauge.old) (G.count gauge.new) }

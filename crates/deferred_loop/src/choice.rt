@@ -19,10 +19,10 @@ use bintree_addr::Blocked;
 fn choose_over<M: QueuedMesh, G: Gauge>(mesh: &mut M, gauge: &mut G) -> Next
     ghost w: { DeferredFrame }
     requires frame { IsDeferredFrame w }
-    requires told { G.told gauge.old ≡ frame_priorities w }
+    requires priorities { G.priorities gauge.old ≡ frame_priorities w }
     requires settled { IsSettled w (M.seen mesh.old) }
     requires over { w.budget < leaf_count w.n (M.seen mesh.old).set.members }
-    ensures told { G.told gauge.new ≡ G.told gauge.old }
+    ensures priorities { G.priorities gauge.new ≡ G.priorities gauge.old }
     ensures readings { G.readings gauge.new ≡ G.readings gauge.old }
     ensures log { M.log mesh.new ≡ M.log mesh.old }
     ensures asked { IsAskedOnly w (M.seen mesh.old) (M.seen mesh.new) (G.count gauge.old) (G.count gauge.new) }
@@ -47,13 +47,13 @@ fn choose_with<M: QueuedMesh, G: Gauge>(
 ) -> Next
     ghost w: { DeferredFrame }
     requires frame { IsDeferredFrame w }
-    requires told { G.told gauge.old ≡ frame_priorities w }
+    requires priorities { G.priorities gauge.old ≡ frame_priorities w }
     requires settled { IsSettled w (M.seen mesh.old) }
     requires budget { budget ≡ w.budget }
     requires within { leaf_count w.n (M.seen mesh.old).set.members ≤ w.budget }
     requires first { IsFirstRank w.n w.priority (M.seen mesh.old).set.members first.now.rank }
     requires at { M.tri_at mesh.old first.now.slot.0 ≡ first.now.rank.tri }
-    ensures told { G.told gauge.new ≡ G.told gauge.old }
+    ensures priorities { G.priorities gauge.new ≡ G.priorities gauge.old }
     ensures readings { G.readings gauge.new ≡ G.readings gauge.old }
     ensures log { M.log mesh.new ≡ M.log mesh.old }
     ensures asked { IsAskedOnly w (M.seen mesh.old) (M.seen mesh.new) (G.count gauge.old) (G.count gauge.new) }
@@ -81,11 +81,11 @@ fn choose_with<M: QueuedMesh, G: Gauge>(
 fn choose_without<M: QueuedMesh, G: Gauge>(mesh: &mut M, gauge: &mut G) -> Next
     ghost w: { DeferredFrame }
     requires frame { IsDeferredFrame w }
-    requires told { G.told gauge.old ≡ frame_priorities w }
+    requires priorities { G.priorities gauge.old ≡ frame_priorities w }
     requires settled { IsSettled w (M.seen mesh.old) }
     requires within { leaf_count w.n (M.seen mesh.old).set.members ≤ w.budget }
     requires none { All (λ a. w.priority a ≡ 0) (leaves_of w.n (among (M.seen mesh.old).set.members)) }
-    ensures told { G.told gauge.new ≡ G.told gauge.old }
+    ensures priorities { G.priorities gauge.new ≡ G.priorities gauge.old }
     ensures readings { G.readings gauge.new ≡ G.readings gauge.old }
     ensures log { M.log mesh.new ≡ M.log mesh.old }
     ensures asked { IsAskedOnly w (M.seen mesh.old) (M.seen mesh.new) (G.count gauge.old) (G.count gauge.new) }
@@ -105,10 +105,10 @@ fn choose_without<M: QueuedMesh, G: Gauge>(mesh: &mut M, gauge: &mut G) -> Next
 pub fn choose<M: QueuedMesh, G: Gauge>(mesh: &mut M, gauge: &mut G, budget: u32) -> Next
     ghost w: { DeferredFrame }
     requires frame { IsDeferredFrame w }
-    requires told { G.told gauge.old ≡ frame_priorities w }
+    requires priorities { G.priorities gauge.old ≡ frame_priorities w }
     requires settled { IsSettled w (M.seen mesh.old) }
     requires budget { budget ≡ w.budget }
-    ensures told { G.told gauge.new ≡ G.told gauge.old }
+    ensures priorities { G.priorities gauge.new ≡ G.priorities gauge.old }
     ensures readings { G.readings gauge.new ≡ G.readings gauge.old }
     ensures log { M.log mesh.new ≡ M.log mesh.old }
     ensures asked { IsAskedOnly w (M.seen mesh.old) (M.seen mesh.new) (G.count gauge.old) (G.count gauge.new) }

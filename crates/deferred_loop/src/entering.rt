@@ -17,13 +17,13 @@ use crate::queued::QueuedMesh;
 /// Takes a stamp of each fresh entry, and puts it in its place. No priority is asked.
 pub fn enter_fresh<M: QueuedMesh, G: Gauge>(mesh: &mut M, gauge: &mut G, odometer: u64)
     ghost w: { DeferredFrame }
-    requires told { G.told gauge.old ≡ frame_priorities w }
+    requires priorities { G.priorities gauge.old ≡ frame_priorities w }
     requires hold { ReadingsHold w.n w.priority odometer (G.readings gauge.old) }
     requires sound { HasTrueKeys w (M.seen mesh.old) }
     requires unknown { (a : ℕ) → IsTrue (among (M.seen mesh.old).fresh a) → (M.seen mesh.old).known a ≡ false }
     requires addresses { (a : ℕ) → IsTrue (among (M.seen mesh.old).fresh a) → IsAddress w.n a }
     requires far { odometer ≤ LONGEST_WAY }
-    ensures told { G.told gauge.new ≡ G.told gauge.old }
+    ensures priorities { G.priorities gauge.new ≡ G.priorities gauge.old }
     ensures readings { G.readings gauge.new ≡ G.readings gauge.old }
     ensures log { M.log mesh.new ≡ M.log mesh.old }
     ensures entered { IsCaughtUp w (G.readings gauge.old) odometer (M.seen mesh.old) (M.seen mesh.new) }
@@ -44,12 +44,12 @@ pub fn enter_fresh<M: QueuedMesh, G: Gauge>(mesh: &mut M, gauge: &mut G, odomete
 pub fn begin_frame<M: QueuedMesh, G: Gauge>(mesh: &mut M, gauge: &mut G, odometer: u64)
     ghost w: { DeferredFrame }
     requires frame { IsDeferredFrame w }
-    requires told { G.told gauge.old ≡ frame_priorities w }
+    requires priorities { G.priorities gauge.old ≡ frame_priorities w }
     requires of { IsFrameOf w (G.readings gauge.old) odometer (M.seen mesh.old) }
     requires hold { ReadingsHold w.n w.priority odometer (G.readings gauge.old) }
     requires quiet { IsQuiet (M.seen mesh.old) }
     requires far { odometer ≤ LONGEST_WAY }
-    ensures told { G.told gauge.new ≡ G.told gauge.old }
+    ensures priorities { G.priorities gauge.new ≡ G.priorities gauge.old }
     ensures readings { G.readings gauge.new ≡ G.readings gauge.old }
     ensures log { M.log mesh.new ≡ emptied (M.log mesh.old) }
     ensures set { (M.seen mesh.new).set ≡ (M.seen mesh.old).set }

@@ -45,7 +45,7 @@ fn advance_over<M: QueuedMesh, G: Gauge>(
 ) -> Steps
     ghost w: { DeferredFrame }
     requires frame { IsDeferredFrame w }
-    requires told { G.told gauge.old ≡ frame_priorities w }
+    requires priorities { G.priorities gauge.old ≡ frame_priorities w }
     requires of { IsFrameOf w (G.readings gauge.old) odometer (M.seen mesh.old) }
     requires hold { ReadingsHold w.n w.priority odometer (G.readings gauge.old) }
     requires quiet { IsQuiet (M.seen mesh.old) }
@@ -55,7 +55,7 @@ fn advance_over<M: QueuedMesh, G: Gauge>(
     requires room { HasRoom w.n (M.seen mesh.old).set.most w.budget }
     requires counters { ((M.seen mesh.old).set.splits < CHANGES_AT_FRAME)
         × ((M.seen mesh.old).set.merges < CHANGES_AT_FRAME) }
-    ensures told { G.told gauge.new ≡ G.told gauge.old }
+    ensures priorities { G.priorities gauge.new ≡ G.priorities gauge.old }
     ensures readings { G.readings gauge.new ≡ G.readings gauge.old }
     ensures log { IsLogged (M.seen mesh.old).set (M.seen mesh.new).set (emptied (M.log mesh.old)) (M.log mesh.new) }
     ensures grid { (M.seen mesh.new).set.n ≡ w.n }
@@ -100,32 +100,32 @@ pub fn advance<M: QueuedMesh, G: Gauge>(
     budget: u32,
     odometer: u64,
 ) -> Steps
-    requires grid { (G.told gauge.old).n ≡ (M.seen mesh.old).set.n }
+    requires grid { (G.priorities gauge.old).n ≡ (M.seen mesh.old).set.n }
     requires budget { 2 ≤ budget }
     requires far { odometer ≤ LONGEST_WAY }
     requires counted { G.count gauge.old < CHANGES_AT_FRAME }
     requires room { HasRoom (M.seen mesh.old).set.n (M.seen mesh.old).set.most budget }
     requires counters { ((M.seen mesh.old).set.splits < CHANGES_AT_FRAME)
         × ((M.seen mesh.old).set.merges < CHANGES_AT_FRAME) }
-    requires falls { IsFalling (G.told gauge.old).n (G.told gauge.old).of }
-    requires readings { ReadingsHold (G.told gauge.old).n (G.told gauge.old).of
+    requires falls { IsFalling (G.priorities gauge.old).n (G.priorities gauge.old).of }
+    requires readings { ReadingsHold (G.priorities gauge.old).n (G.priorities gauge.old).of
         odometer (G.readings gauge.old) }
-    requires stamps { StampsHold (G.told gauge.old).of odometer (M.seen mesh.old).stamps }
+    requires stamps { StampsHold (G.priorities gauge.old).of odometer (M.seen mesh.old).stamps }
     requires valid { IsGridSet (M.seen mesh.old).set.n (M.seen mesh.old).set.members }
     requires quiet { IsQuiet (M.seen mesh.old) }
-    ensures told { G.told gauge.new ≡ G.told gauge.old }
+    ensures priorities { G.priorities gauge.new ≡ G.priorities gauge.old }
     ensures readings { G.readings gauge.new ≡ G.readings gauge.old }
     ensures grid { (M.seen mesh.new).set.n ≡ (M.seen mesh.old).set.n }
     ensures quiet { IsQuiet (M.seen mesh.new) }
     ensures counted { G.count gauge.new < 2 ^ 64 - 1 }
     ensures counters { IsCountedBy (M.seen mesh.old).set (M.seen mesh.new).set result.splits result.merges }
-    ensures run { IsFrameRun (M.seen mesh.old).set.n budget (G.told gauge.old).of
+    ensures run { IsFrameRun (M.seen mesh.old).set.n budget (G.priorities gauge.old).of
         (M.seen mesh.old).set.members (M.seen mesh.new).set.members result.splits result.merges }
-    ensures frame { IsFrame (M.seen mesh.old).set.n budget (G.told gauge.old).of
+    ensures frame { IsFrame (M.seen mesh.old).set.n budget (G.priorities gauge.old).of
         (among (M.seen mesh.new).set.members) result.worst result.blocked }
-    ensures sparing { IsSparing (M.seen mesh.old).set.n budget (G.told gauge.old).of
+    ensures sparing { IsSparing (M.seen mesh.old).set.n budget (G.priorities gauge.old).of
         (M.seen mesh.old).set.members (M.seen mesh.new).set.members result.splits result.merges }
-    ensures most { IsAtMost (G.told gauge.old) (G.readings gauge.old) odometer (M.seen mesh.old) budget
+    ensures most { IsAtMost (G.priorities gauge.old) (G.readings gauge.old) odometer (M.seen mesh.old) budget
         (result.splits + result.merges) (G.count gauge.old) (G.count gauge.new) }
     ensures least { IsAtLeast (M.seen mesh.old) (M.seen mesh.new) (G.count gauge.old) (G.count gauge.new) }
     ensures stamps { AreStampsGood (G.readings gauge.old) odometer (M.seen mesh.old) (M.seen mesh.new) }

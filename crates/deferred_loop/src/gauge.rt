@@ -23,7 +23,7 @@ pub struct Reading {
 /// What it tells stays the same. That priorities fall from parent to child and lie between their bounds is asked
 /// where a frame begins.
 pub trait Gauge {
-    ghost told: { Self → Priorities };
+    ghost priorities: { Self → Priorities };
 
     ghost readings: { Self → Readings };
 
@@ -31,10 +31,10 @@ pub trait Gauge {
 
     /// The triangle with its priority.
     fn rank(&mut self, t: Tri) -> Rank
-        requires level { level_of t ≤ 2 * (told self.old).n }
+        requires level { level_of t ≤ 2 * (priorities self.old).n }
         ensures tri { result.tri ≡ t }
-        ensures value { result.p ≡ (told self.old).of t }
-        ensures told { told self.new ≡ told self.old }
+        ensures value { result.p ≡ (priorities self.old).of t }
+        ensures priorities { priorities self.new ≡ priorities self.old }
         ensures readings { readings self.new ≡ readings self.old }
         ensures rises { count self.old ≤ count self.new }
         ensures most { count self.new ≤ count self.old + 1 }
@@ -42,14 +42,14 @@ pub trait Gauge {
 
     /// Bounds on its rank from here on.
     fn reading(&mut self, t: Tri) -> Reading
-        requires level { level_of t ≤ 2 * (told self.old).n }
+        requires level { level_of t ≤ 2 * (priorities self.old).n }
         ensures slack { result.slack ≡ (readings self.old).slack t }
         ensures small { result.slack ≤ 2 ^ 32 }
         ensures hi_tri { result.hi.tri ≡ t }
         ensures hi { result.hi.p ≡ (readings self.old).upper t }
         ensures lo_tri { result.lo.tri ≡ t }
         ensures lo { result.lo.p ≡ (readings self.old).lower t }
-        ensures told { told self.new ≡ told self.old }
+        ensures priorities { priorities self.new ≡ priorities self.old }
         ensures readings { readings self.new ≡ readings self.old }
         ensures rises { count self.old ≤ count self.new }
         ensures most { count self.new ≤ count self.old + 1 }

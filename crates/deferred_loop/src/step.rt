@@ -24,7 +24,7 @@ pub fn split_at<M: QueuedMesh, G: Gauge>(
 )
     ghost w: { DeferredFrame }
     requires frame { IsDeferredFrame w }
-    requires told { G.told gauge.old ≡ frame_priorities w }
+    requires priorities { G.priorities gauge.old ≡ frame_priorities w }
     requires settled { IsSettled w (M.seen mesh.old) }
     requires next { IsNextSplit w.n w.budget w.priority (M.seen mesh.old).set.members t.tri }
     requires hold { ReadingsHold w.n w.priority odometer (G.readings gauge.old) }
@@ -33,7 +33,7 @@ pub fn split_at<M: QueuedMesh, G: Gauge>(
     requires counter { (M.seen mesh.old).set.splits + (4 * (M.seen mesh.old).set.n + 4) < MOST_CHANGES }
     requires room { HasRoom w.n (M.seen mesh.old).set.most w.budget }
     requires at { M.tri_at mesh.old t.slot.0 ≡ t.tri }
-    ensures told { G.told gauge.new ≡ G.told gauge.old }
+    ensures priorities { G.priorities gauge.new ≡ G.priorities gauge.old }
     ensures readings { G.readings gauge.new ≡ G.readings gauge.old }
     ensures log { IsLogged (M.seen mesh.old).set (M.seen mesh.new).set (M.log mesh.old) (M.log mesh.new) }
     ensures settled { IsSettled w (M.seen mesh.new) }
@@ -63,7 +63,7 @@ pub fn merge_at<M: QueuedMesh, G: Gauge>(
 )
     ghost w: { DeferredFrame }
     requires frame { IsDeferredFrame w }
-    requires told { G.told gauge.old ≡ frame_priorities w }
+    requires priorities { G.priorities gauge.old ≡ frame_priorities w }
     requires settled { IsSettled w (M.seen mesh.old) }
     requires next { IsNextMerge w.n w.budget w.priority (M.seen mesh.old).set.members t.tri }
     requires hold { ReadingsHold w.n w.priority odometer (G.readings gauge.old) }
@@ -71,7 +71,7 @@ pub fn merge_at<M: QueuedMesh, G: Gauge>(
     requires small { merges.old ≤ 2 ^ 30 }
     requires counter { (M.seen mesh.old).set.merges < MOST_CHANGES }
     requires at { M.tri_at mesh.old t.slot.0 ≡ t.tri }
-    ensures told { G.told gauge.new ≡ G.told gauge.old }
+    ensures priorities { G.priorities gauge.new ≡ G.priorities gauge.old }
     ensures readings { G.readings gauge.new ≡ G.readings gauge.old }
     ensures log { IsLogged (M.seen mesh.old).set (M.seen mesh.new).set (M.log mesh.old) (M.log mesh.new) }
     ensures settled { IsSettled w (M.seen mesh.new) }

@@ -28,7 +28,7 @@ struct ListGauge<'a> {
 }
 
 impl Gauge for ListGauge<'_> {
-    ghost told = { λ g. record { n = g.n; of = λ a. get_or g.priorities.now a 0 } };
+    ghost priorities = { λ g. record { n = g.n; of = λ a. get_or g.priorities.now a 0 } };
 
     ghost readings = { λ g. record {
       slack = λ a. g.slack;

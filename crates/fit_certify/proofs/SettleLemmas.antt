@@ -23,7 +23,7 @@ use Rattle.fit_laws.specs.Error.{error_of}
 use Rattle.fit_laws.proofs.SettledLemmas.{outer-leaf}
 use Rattle.fit_laws.proofs.FitLemmas.{step-grown}
 use Rattle.fit_laws.proofs.ErrorLemmas.{error-finest}
-use Rattle.certificate_laws.specs.declared.fit_reason.Off.{Off}
+use Rattle.certificate_laws.specs.declared.fit_reason.Witness.{Witness}
 use Rattle.certificate_laws.specs.FitCertificate.{LeadsTo}
 use Rattle.certificate_laws.proofs.LeadLemmas.{leads-next, leads-grown}
 use Rattle.fit_certify.specs.Settling.{AreKnown, AreReady, AreKept, IsGoingOn, HasSplit, IsPass}
@@ -76,7 +76,7 @@ known-more n heights lower known next t before here added = record {
 
 -- one thing after the other
 going-through :
-    (n : ℕ) (heights : List ℕ) (tolerance : ℕ) (one two three : List Bool) (first second third : List Off) →
+    (n : ℕ) (heights : List ℕ) (tolerance : ℕ) (one two three : List Bool) (first second third : List Witness) →
     IsGoingOn n heights tolerance one first two second → IsGoingOn n heights tolerance two second three third
     → IsGoingOn n heights tolerance one first three third
 going-through n heights tolerance one two three first second third p q = record {
@@ -89,15 +89,15 @@ module _ (n : ℕ) (heights : List ℕ) (tolerance : ℕ) (old new : List Bool) 
     (leaf : Contains (leaves_of n (is_flagged old)) t)
     (least : IsLeastClosed n (with_triangle (is_flagged old) t) (is_flagged new)) where
   -- a leaf that is off is a reason
-  pub split-going : (before after : List Off) (p : Point) → IsSplittable n t → IsAbove n heights t tolerance p →
+  pub split-going : (before after : List Witness) (p : Point) → IsSplittable n t → IsAbove n heights t tolerance p →
       after ≡ before ++ record { triangle = t; x = p.x; y = p.y } ∷ [] →
       IsGoingOn n heights tolerance old before new after
   split-going before after p splittable above more = record {
     closed = least.closed;
     kept = λ a is. least.holds a (with-old (is_flagged old) t a is);
     leads = λ has leads.
-        let r : Off = record { triangle = t; x = p.x; y = p.y } in
-        subst (λ (l : List Off). LeadsTo n heights tolerance has l (is_flagged new)) (sym more)
+        let r : Witness = record { triangle = t; x = p.x; y = p.y } in
+        subst (λ (l : List Witness). LeadsTo n heights tolerance has l (is_flagged new)) (sym more)
         (leads-next n heights tolerance has before (is_flagged old) (is_flagged new) r leads
         record {
           splittable = splittable;
@@ -150,7 +150,7 @@ either-split n old mid new one other next either first second = record {
 
 -- one part after the other
 pub pass-through : (n : ℕ) (heights : List ℕ) (tolerance : ℕ) (one two three : List Bool)
-    (first second third : List Off) (did other next : Bool) → next ≡ (did || other) →
+    (first second third : List Witness) (did other next : Bool) → next ≡ (did || other) →
     IsPass n heights tolerance one first two second did → IsPass n heights tolerance two second three third other →
     IsPass n heights tolerance one first three third next
 pass-through n heights tolerance one two three first second third did other next either p q = record {
@@ -237,7 +237,8 @@ halves-worst n e tolerance has lower upper =
 -- how many reasons
 
 -- there are fewer than triangles that may be split
-pub reasons-few : (n : ℕ) (heights : List ℕ) (tolerance : ℕ) (has : ℕ → Bool) (reasons : List Off) (after : ℕ → Bool)
+pub reasons-few : (n : ℕ) (heights : List ℕ) (tolerance : ℕ) (has : ℕ → Bool) (reasons : List Witness)
+    (after : ℕ → Bool)
     → n ≤ 11 → IsClosed n has →
     LeadsTo n heights tolerance has reasons after → length reasons ≤ 8388608
 reasons-few n heights tolerance has reasons after small closed leads =

@@ -5,7 +5,7 @@ use Rattle.std.specs.Prelude.{◌≡◌, ℕ, ◌+◌, ◌-◌, ◌*◌, ◌^◌
 use Rattle.mesh_defs.specs.ClosedSet.{IsClosed, IsSubset, leaves_of}
 use Rattle.mesh_laws.specs.Sweep.{is_flagged}
 use Rattle.fit_laws.specs.Error.{error_of}
-use Rattle.certificate_laws.specs.declared.fit_reason.Off.{Off}
+use Rattle.certificate_laws.specs.declared.fit_reason.Witness.{Witness}
 use Rattle.certificate_laws.specs.declared.fit_reason.Target.{Target}
 use Rattle.certificate_laws.specs.declared.fit_reason.Target.TheVariants.{Error, Budget}
 use Rattle.certificate_laws.specs.FitCertificate.{LeadsTo}
@@ -34,8 +34,8 @@ pub record AreKept (n : ℕ) (heights : List ℕ) (least : ℕ) (old before new 
   pub known : AreKnown n heights least after
 
 -- the flags go on from old ones to new ones as the list of reasons does
-pub record IsGoingOn (n : ℕ) (heights : List ℕ) (tolerance : ℕ) (old : List Bool) (before : List Off)
-    (new : List Bool) (after : List Off) : Type 0 where
+pub record IsGoingOn (n : ℕ) (heights : List ℕ) (tolerance : ℕ) (old : List Bool) (before : List Witness)
+    (new : List Bool) (after : List Witness) : Type 0 where
   pub closed : IsClosed n (is_flagged new)
   pub kept : IsSubset (is_flagged old) (is_flagged new)
   pub leads : (has : ℕ → Bool) → LeadsTo n heights tolerance has before (is_flagged old)
@@ -47,7 +47,7 @@ pub record HasSplit (n : ℕ) (old new : List Bool) (again : Bool) : Type 0 wher
   pub same : again ≡ false → new ≡ old
 
 -- a pass over some triangles, and whether it split a leaf
-pub record IsPass (n : ℕ) (heights : List ℕ) (tolerance : ℕ) (old : List Bool) (before : List Off) (new : List Bool)
-    (after : List Off) (again : Bool) : Type 0 where
+pub record IsPass (n : ℕ) (heights : List ℕ) (tolerance : ℕ) (old : List Bool) (before : List Witness) (new : List Bool)
+    (after : List Witness) (again : Bool) : Type 0 where
   pub going : IsGoingOn n heights tolerance old before new after
   pub split : HasSplit n old new again

@@ -19,7 +19,9 @@ mod room;
 mod settle;
 mod verdict;
 
-pub use certificate_laws::{FitCert, FitReject, FitVerdict, KeptCert, MOST_REASONS, Off, Target};
+pub use certificate_laws::{
+    FitCert, FitReject, FitVerdict, KeptCert, MOST_REASONS, Target, Witness,
+};
 pub use keeping::{make_kept, mesh_of_kept};
 pub use kept_verdict::check_kept;
 pub use making::make;

@@ -12,7 +12,7 @@ ghost use Rattle.fit_certify.specs.Settling.{AreKnown, IsLower};
 
 use crate::room::no_flags;
 use crate::settle::settle;
-use certificate_laws::{FitCert, Off, Target};
+use certificate_laws::{FitCert, Target, Witness};
 use fit_mesh::Fit;
 use mesh_defs::NoMemory;
 use pgm_grid::Grid;
@@ -77,7 +77,7 @@ fn settle_below(
     lower: u32,
     flags: &mut [bool],
     known: &mut [bool],
-) -> Result<Vec<Off>, NoMemory>
+) -> Result<Vec<Witness>, NoMemory>
     requires file_level { grid.now.n ≤ GREATEST_FILE_LEVEL }
     requires flags { length flags.old ≡ 2 ^ (2 * grid.now.n + 1) }
     requires closed { IsClosed grid.now.n (is_flagged flags.old) }

@@ -11,7 +11,7 @@ ghost use Rattle.certificate_laws.specs.declared.limits.TheConstants.{MOST_REASO
 use crate::force::force;
 use address_flags::is_set;
 use bintree_addr::Tri;
-use certificate_laws::Off;
+use certificate_laws::Witness;
 use mesh_measure::off_point;
 use pgm_grid::Grid;
 
@@ -22,7 +22,7 @@ use pgm_grid::Grid;
 pub(crate) fn replay(
     grid: &Grid,
     tolerance: u32,
-    reasons: &[Off],
+    reasons: &[Witness],
     flags: &mut [bool],
 ) -> Option<u32>
     requires flags { length flags.old ≡ 2 ^ (2 * grid.now.n + 1) }
@@ -49,7 +49,7 @@ pub(crate) fn replay(
 }
 
 /// The reason at a place.
-fn reason_at(reasons: &[Off], index: usize) -> Off
+fn reason_at(reasons: &[Witness], index: usize) -> Witness
     requires { index < length reasons.now }
     ensures { result ≡ slice_index_or reasons.now index result }
 {
@@ -57,7 +57,7 @@ fn reason_at(reasons: &[Off], index: usize) -> Off
 }
 
 /// Whether this is a reason behind those that make the flagged set.
-fn is_reason(grid: &Grid, tolerance: u32, flags: &[bool], reason: Off) -> bool
+fn is_reason(grid: &Grid, tolerance: u32, flags: &[bool], reason: Witness) -> bool
     requires closed { IsClosed grid.now.n (is_flagged flags.now) }
     ensures { IsTrue result ↔ IsFitReason grid.now.n grid.now.heights tolerance (is_flagged flags.now) reason }
 {
@@ -82,7 +82,7 @@ fn is_leaf(flags: &[bool], t: Tri) -> bool
 
 /// Whether the reason's point is one of the grid that its triangle holds, where the surface is off by more than the
 /// tolerance.
-fn is_off(grid: &Grid, tolerance: u32, reason: Off) -> bool
+fn is_off(grid: &Grid, tolerance: u32, reason: Witness) -> bool
     requires splittable { IsSplittable grid.now.n reason.triangle }
     ensures { IsTrue result ↔ IsOff grid.now.n grid.now.heights tolerance reason }
 {

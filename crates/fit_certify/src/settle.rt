@@ -16,7 +16,7 @@ use crate::force::force;
 use crate::known::point_off;
 use address_flags::is_set;
 use bintree_addr::Tri;
-use certificate_laws::Off;
+use certificate_laws::Witness;
 use mesh_defs::NoMemory;
 use pgm_grid::Grid;
 use std::alloc::Global;
@@ -33,7 +33,7 @@ pub(crate) fn settle(
     lower: u32,
     flags: &mut [bool],
     known: &mut [bool],
-) -> Result<Vec<Off>, NoMemory>
+) -> Result<Vec<Witness>, NoMemory>
     requires file_level { grid.now.n ≤ GREATEST_FILE_LEVEL }
     requires lower { lower ≤ tolerance }
     requires flags { length flags.old ≡ 2 ^ (2 * grid.now.n + 1) }
@@ -65,7 +65,7 @@ fn sweep(
     lower: u32,
     flags: &mut [bool],
     known: &mut [bool],
-    reasons: &mut Vec<Off>,
+    reasons: &mut Vec<Witness>,
 ) -> Result<bool, NoMemory>
     requires ready { AreReady grid.now.n grid.now.heights tolerance lower flags.old known.old }
     ensures kept { AreKept grid.now.n grid.now.heights lower flags.old known.old flags.new known.new }
@@ -87,7 +87,7 @@ fn sweep_under(
     lower: u32,
     flags: &mut [bool],
     known: &mut [bool],
-    reasons: &mut Vec<Off>,
+    reasons: &mut Vec<Witness>,
     t: Tri,
 ) -> Result<bool, NoMemory>
     requires address { IsAddress grid.now.n t }
@@ -126,7 +126,7 @@ fn split_leaf(
     lower: u32,
     flags: &mut [bool],
     known: &mut [bool],
-    reasons: &mut Vec<Off>,
+    reasons: &mut Vec<Witness>,
     t: Tri,
 ) -> Result<bool, NoMemory>
     requires splittable { IsSplittable grid.now.n t }
@@ -144,7 +144,7 @@ fn split_leaf(
     match point_off(grid, t, tolerance, lower, known) {
         None => Ok(false),
         Some(point) => {
-            reasons.push(Off {
+            reasons.push(Witness {
                 triangle: t,
                 x: point.x,
                 y: point.y,

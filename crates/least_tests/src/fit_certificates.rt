@@ -8,7 +8,7 @@ ghost use Rattle.certificate_laws.specs.declared.limits.TheConstants.{MOST_REASO
 use bintree_addr::Tri;
 use cert_text::FitCertReader;
 use fit_certify::{
-    FitCert, FitReject, FitVerdict, MOST_REASONS, Off, Target, check, make, mesh_of,
+    FitCert, FitReject, FitVerdict, MOST_REASONS, Target, Witness, check, make, mesh_of,
 };
 use mesh_defs::GREATEST_FILE_LEVEL;
 use pgm_grid::Grid;
@@ -16,13 +16,13 @@ use std::alloc::Global;
 use std::test::Fail;
 
 /// The reasons of these rows.
-fn reasons(alloc: Global, rows: &[(u32, u32, u32)]) -> Result<Vec<Off>, Fail>
+fn reasons(alloc: Global, rows: &[(u32, u32, u32)]) -> Result<Vec<Witness>, Fail>
     ensures { IfOk result (λ v. length v.items ≤ MOST_REASONS) }
 {
     let mut reasons = Vec::new(alloc);
     for (address, x, y) in rows {
         let triangle = Tri::new(*address).ok_or("an address")?;
-        reasons.push(Off {
+        reasons.push(Witness {
             triangle,
             x: *x,
             y: *y,

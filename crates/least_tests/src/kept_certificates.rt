@@ -9,7 +9,7 @@ ghost use Rattle.certificate_laws.specs.declared.limits.TheConstants.{MOST_REASO
 use bintree_addr::{Point, Tri};
 use cert_text::KeptCertReader;
 use fit_certify::{
-    FitCert, FitReject, FitVerdict, KeptCert, MOST_REASONS, Off, check_kept, make_kept,
+    FitCert, FitReject, FitVerdict, KeptCert, MOST_REASONS, Witness, check_kept, make_kept,
     mesh_of_kept,
 };
 use mesh_defs::GREATEST_FILE_LEVEL;
@@ -55,13 +55,13 @@ fn points_on(alloc: Global, n: u32, rows: Rows) -> Result<Vec<Point>, Fail>
 }
 
 /// The reasons of these rows.
-fn reasons(alloc: Global, rows: &[(u32, u32, u32)]) -> Result<Vec<Off>, Fail>
+fn reasons(alloc: Global, rows: &[(u32, u32, u32)]) -> Result<Vec<Witness>, Fail>
     ensures { IfOk result (λ v. length v.items ≤ MOST_REASONS) }
 {
     let mut reasons = Vec::new(alloc);
     for (address, x, y) in rows {
         let triangle = Tri::new(*address).ok_or("an address")?;
-        reasons.push(Off {
+        reasons.push(Witness {
             triangle,
             x: *x,
             y: *y,

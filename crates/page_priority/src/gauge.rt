@@ -35,7 +35,7 @@ impl<'a> LoadedGauge<'a> {
 }
 
 impl<'a> Gauge for LoadedGauge<'a> {
-    ghost told = { λ g. loaded_priorities (loaded_in g.scene) };
+    ghost priorities = { λ g. loaded_priorities (loaded_in g.scene) };
 
     ghost readings = { λ g. loaded_readings (loaded_in g.scene) };
 

@@ -13,7 +13,7 @@ use Rattle.deferred_loop.specs.Seen.{SeenMesh}
 use Rattle.deferred_loop.specs.Promise.{AreStampsGood}
 use Rattle.mesh_defs.specs.ClosedSet.{among}
 use Rattle.view_priority.specs.Camera.{view_from}
-use Rattle.roam_bench.specs.Seen.{told_from, far_from, readings_from}
+use Rattle.roam_bench.specs.Seen.{priorities_from, far_from, readings_from}
 use Rattle.mesh_defs.proofs.DistanceLemmas.{ratio_of-farther, move_length-back}
 use Rattle.mesh_defs.proofs.ThresholdLemmas.{above-none}
 
@@ -57,7 +57,7 @@ pub stamps-after : (n : ℕ) (heights : List ℕ) (from to : CameraAt) (odometer
     odometer + move_length from to ≤ later → ((a : ℕ) → before.stamps a ≡ None) →
     AreStampsGood (readings_from n heights from) odometer before after →
     ((a : ℕ) (stamp : Stamp) → after.stamps a ≡ Some stamp → IsEntry after.set.n (among after.set.members) a) →
-    StampsHold (told_from n heights to).of later after.stamps
+    StampsHold (priorities_from n heights to).of later after.stamps
 stamps-after n heights from to odometer later before after far near way none good only a stamp is undue =
     let now : Stamp = stamp_now (readings_from n heights from) odometer a in
     let same : stamp ≡ now =
@@ -68,6 +68,6 @@ stamps-after n heights from to odometer later before after far near way none goo
     let there = far a in
     let back = near a in
     let both = move_length-back from to in
-    subst (λ (z : Stamp). IsInStamp z ((told_from n heights to).of a)) (sym same)
+    subst (λ (z : Stamp). IsInStamp z ((priorities_from n heights to).of a)) (sym same)
     (between-near n heights from to odometer a (omega (arith, way, within, there))
     (omega (arith, way, within, back, both)))

@@ -1,5 +1,5 @@
 -- What a gauge over made heights tells, and its readings.
--- Words: told_from, far_from, readings_from.
+-- Words: priorities_from, far_from, readings_from.
 use Rattle.std.specs.Prelude.{ℕ, ◌+◌, ◌-◌, ◌/◌, List, []}
 use Rattle.mesh_defs.specs.BoundingBox.{CameraAt, box_of, distance_of}
 use Rattle.mesh_defs.specs.Thickness.{thickness_of}
@@ -9,8 +9,8 @@ use Rattle.deferred_loop.specs.Choice.{Priorities}
 use Rattle.view_priority.specs.Camera.{view_from}
 
 -- the priorities from a camera, where a grid step has 30 world units, and there are no planes
-abbrev pub told_from : ℕ → List ℕ → CameraAt → Priorities
-told_from n heights camera = record { n = n; of = priority_of n heights (view_from camera 30 []) }
+abbrev pub priorities_from : ℕ → List ℕ → CameraAt → Priorities
+priorities_from n heights camera = record { n = n; of = priority_of n heights (view_from camera 30 []) }
 
 -- how far a triangle is from the camera
 abbrev pub far_from : ℕ → List ℕ → CameraAt → ℕ → ℕ

@@ -9,7 +9,7 @@ ghost use Rattle.mesh_laws.specs.Stamps.{Stamp, ReadingsHold, StampsHold};
 ghost use Rattle.deferred_loop.specs.Seen.{SeenMesh};
 ghost use Rattle.deferred_loop.specs.Promise.{AreStampsGood};
 ghost use Rattle.mesh_defs.specs.State.{move_length};
-ghost use Rattle.roam_bench.specs.Seen.{told_from, readings_from};
+ghost use Rattle.roam_bench.specs.Seen.{priorities_from, readings_from};
 
 use bintree_addr::{Rank, Tri};
 use cull_marks::Planes;
@@ -32,7 +32,7 @@ pub struct ViewGauge<'a> {
 }
 
 impl<'a> Gauge for ViewGauge<'a> {
-    ghost told = { λ g. told_from g.wedges.now.n g.wedges.now.heights g.camera };
+    ghost priorities = { λ g. priorities_from g.wedges.now.n g.wedges.now.heights g.camera };
 
     ghost readings = { λ g. readings_from g.wedges.now.n g.wedges.now.heights g.camera };
 
@@ -73,15 +73,15 @@ impl<'a> Gauge for ViewGauge<'a> {
 /// were all taken at one camera, they also lie there as seen from another one, if that is no farther than the
 /// odometer has gone.
 pub fn gauge_laws()
-    ensures falls { (n : ℕ) (heights : List ℕ) (camera : CameraAt) → IsFalling n (told_from n heights camera).of }
+    ensures falls { (n : ℕ) (heights : List ℕ) (camera : CameraAt) → IsFalling n (priorities_from n heights camera).of }
     ensures hold { (n : ℕ) (heights : List ℕ) (camera : CameraAt) (odometer : ℕ) →
-        ReadingsHold n (told_from n heights camera).of odometer (readings_from n heights camera) }
+        ReadingsHold n (priorities_from n heights camera).of odometer (readings_from n heights camera) }
     ensures stamps { (n : ℕ) (heights : List ℕ) (from to : CameraAt) (odometer later : ℕ) (before after : SeenMesh) →
         odometer + move_length from to ≤ later →
         ((a : ℕ) → before.stamps a ≡ None) →
         AreStampsGood (readings_from n heights from) odometer before after →
         ((a : ℕ) (stamp : Stamp) → after.stamps a ≡ Some stamp → IsEntry after.set.n (among after.set.members) a) →
-        StampsHold (told_from n heights to).of later after.stamps }
+        StampsHold (priorities_from n heights to).of later after.stamps }
 {
     distance_laws();
     priority_laws();

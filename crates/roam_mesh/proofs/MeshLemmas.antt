@@ -246,12 +246,12 @@ pub stamps_hold : (priority : ℕ → ℕ) (odometer : ℕ) (parts : PartsState)
 stamps_hold priority odometer parts log hold = subst (StampsHold priority odometer) (sym (seen_stamps parts log)) hold
 
 -- what the loop takes at most is said of the mesh between frames
-pub at_most : (told : Priorities) (readings : Readings) (odometer : ℕ) (parts : PartsState) (log : Log)
+pub at_most : (priorities : Priorities) (readings : Readings) (odometer : ℕ) (parts : PartsState) (log : Log)
     (budget steps count more : ℕ) →
-    IsAtMost told readings odometer (seen_parts parts) budget steps count more
-    → IsAtMost told readings odometer (seen_of (mesh_of parts log)) budget steps count more
-at_most told readings odometer parts log budget steps count more most =
-    subst (λ (stamps : ℕ → Option Stamp). IsAtMost told readings odometer
+    IsAtMost priorities readings odometer (seen_parts parts) budget steps count more
+    → IsAtMost priorities readings odometer (seen_of (mesh_of parts log)) budget steps count more
+at_most priorities readings odometer parts log budget steps count more most =
+    subst (λ (stamps : ℕ → Option Stamp). IsAtMost priorities readings odometer
     (record (seen_of (mesh_of parts log)) { stamps = stamps }) budget steps count more)
     (seen_stamps parts log) most
 

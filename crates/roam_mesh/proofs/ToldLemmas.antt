@@ -21,7 +21,7 @@ use Rattle.roam_mesh.specs.Mesh.{slot_of, pool_members, pool_set}
 use Rattle.roam_mesh.specs.Parts.{PartsState, parts_of, blank, stamp_in, best_of, merging_key, deadline_of, entry_at}
 use Rattle.roam_mesh.specs.Parts.{entry_of, seen_parts, is_leaf_at, is_ready_at, is_chief_at, is_entry_at, is_out}
 use Rattle.roam_mesh.specs.Parts.{leaf_rank, better_of, diamond_rank, IsSlotList, IsWhole, IsPlaced, IsNear, IsParts}
-use Rattle.roam_mesh.specs.Change.{chief_slot, rekeyed, heard, rated, unheard, forgotten}
+use Rattle.roam_mesh.specs.Change.{chief_slot, rekeyed, with_priority, rated, without_priority, forgotten}
 use Rattle.roam_mesh.specs.declared.entry.Entry.{Entry}
 use Rattle.roam_mesh.proofs.PlaceLemmas.{live_below, slot_of-at, one_slot, entry_at-set, entry_of-set}
 use Rattle.roam_mesh.proofs.RoleLemmas.{entry_live, entry_at-of, ready_live, entry_cases, ready_mate, chief_ready}
@@ -278,30 +278,33 @@ abbrev pub asked_with : PartsState → ℕ → List ℕ
 asked_with parts s = cond (entry_at parts s).listed parts.asked (parts.asked ++ (s ∷ []))
 
 -- it is whole after a slot was told
-pub heard_whole : (parts : PartsState) (s p : ℕ) → IsWhole parts → s < length parts.entries →
-    IsWhole (changed parts s (heard (entry_at parts s) p) (asked_with parts s))
-heard_whole parts s p whole below =
-    changed_whole parts s (heard (entry_at parts s) p) (asked_with parts s) whole below refl (λ known. refl)
+pub with_priority_whole : (parts : PartsState) (s p : ℕ) → IsWhole parts → s < length parts.entries →
+    IsWhole (changed parts s (with_priority (entry_at parts s) p) (asked_with parts s))
+with_priority_whole parts s p whole below =
+    changed_whole parts s (with_priority (entry_at parts s) p) (asked_with parts s) whole below refl (λ known. refl)
     (by_bool (entry_at parts s).listed
-    (λ old. subst (IsSlotList (slice_set parts.entries s (heard (entry_at parts s) p)) (λ z. z.listed))
+    (λ old. subst (IsSlotList (slice_set parts.entries s (with_priority (entry_at parts s) p)) (λ z. z.listed))
     (sym (cond-true (entry_at parts s).listed parts.asked (parts.asked ++ (s ∷ [])) old))
-    (marks_kept parts.entries (λ z. z.listed) s (heard (entry_at parts s) p) parts.asked (sym old) whole.asked))
-    (λ new. subst (IsSlotList (slice_set parts.entries s (heard (entry_at parts s) p)) (λ z. z.listed))
+    (marks_kept parts.entries (λ z. z.listed) s (with_priority (entry_at parts s) p) parts.asked (sym old) whole.asked))
+    (λ new. subst (IsSlotList (slice_set parts.entries s (with_priority (entry_at parts s) p)) (λ z. z.listed))
     (sym (cond-false (entry_at parts s).listed parts.asked (parts.asked ++ (s ∷ [])) new)) (pushed_list new)))
   where
     pushed_list : (entry_at parts s).listed ≡ false →
-        IsSlotList (slice_set parts.entries s (heard (entry_at parts s) p)) (λ z. z.listed) (parts.asked ++ (s ∷ []))
+        IsSlotList (slice_set parts.entries s (with_priority (entry_at parts s) p)) (λ z. z.listed)
+        (parts.asked ++ (s ∷ []))
     pushed_list new = record {
       distinct = IsDistinct-push nat_eq_equiv parts.asked s whole.asked.distinct
           (any-among s parts.asked ∙ sym (whole.asked.marked s) ∙ new);
       marked = λ r. by_bool (nat_eq s r)
           (λ same.
-          ap (λ (z : Entry). z.listed) (ap (λ q. entry_at (changed parts s (heard (entry_at parts s) p) parts.asked) q)
-          (sym (eqb-true s r same)) ∙ entry_own parts s (heard (entry_at parts s) p) parts.asked below)
+          ap (λ (z : Entry). z.listed) (ap (λ q. entry_at (changed parts s
+          (with_priority (entry_at parts s) p) parts.asked) q)
+          (sym (eqb-true s r same)) ∙ entry_own parts s (with_priority (entry_at parts s) p) parts.asked below)
           ∙ sym (among-push parts.asked s r
           ∙ or_right (among parts.asked r) (among (s ∷ []) r) (or_left (nat_eq s r) false same)))
           (λ apart.
-          ap (λ (z : Entry). z.listed) (entry_other parts s r (heard (entry_at parts s) p) below (eqb-false s r apart))
+          ap (λ (z : Entry). z.listed) (entry_other parts s r (with_priority (entry_at parts s) p) below
+          (eqb-false s r apart))
           ∙ whole.asked.marked r
           ∙ sym (among-push parts.asked s r
           ∙ or_none (among parts.asked r) (among (s ∷ []) r) (or_from (nat_eq s r) false apart refl)));
@@ -315,21 +318,24 @@ last_below parts rest s whole asked =
     (ap (λ l. among l s) asked ∙ among_last rest s)
 
 -- it is whole after a slot was forgotten
-pub unheard_whole : (parts : PartsState) (rest : List ℕ) (s : ℕ) → IsWhole parts → parts.asked ≡ rest ++ (s ∷ []) →
-    IsWhole (changed parts s (unheard (entry_at parts s)) rest)
-unheard_whole parts rest s whole asked =
+pub without_priority_whole : (parts : PartsState) (rest : List ℕ) (s : ℕ) → IsWhole parts
+    → parts.asked ≡ rest ++ (s ∷ []) →
+    IsWhole (changed parts s (without_priority (entry_at parts s)) rest)
+without_priority_whole parts rest s whole asked =
     let below = last_below parts rest s whole asked in
     let front = distinct_front rest s (subst (IsDistinct nat_eq) asked whole.asked.distinct) in
-    changed_whole parts s (unheard (entry_at parts s)) rest whole below refl
+    changed_whole parts s (without_priority (entry_at parts s)) rest whole below refl
     (λ known. absurd (both_ways false refl known)) record {
       distinct = front.0;
       marked = λ r. by_bool (nat_eq s r)
           (λ same.
-          ap (λ (z : Entry). z.listed) (ap (λ q. entry_at (changed parts s (unheard (entry_at parts s)) rest) q)
-          (sym (eqb-true s r same)) ∙ entry_own parts s (unheard (entry_at parts s)) rest below)
+          ap (λ (z : Entry). z.listed) (ap (λ q. entry_at (changed parts s
+          (without_priority (entry_at parts s)) rest) q)
+          (sym (eqb-true s r same)) ∙ entry_own parts s (without_priority (entry_at parts s)) rest below)
           ∙ sym front.1 ∙ ap (among rest) (eqb-true s r same))
           (λ apart.
-          ap (λ (z : Entry). z.listed) (entry_other parts s r (unheard (entry_at parts s)) below (eqb-false s r apart))
+          ap (λ (z : Entry). z.listed) (entry_other parts s r (without_priority (entry_at parts s)) below
+          (eqb-false s r apart))
           ∙ whole.asked.marked r ∙ ap (λ l. among l r) asked ∙ among-push rest s r
           ∙ or_none (among rest r) (among (s ∷ []) r) (or_from (nat_eq s r) false apart refl));
     }
@@ -341,7 +347,8 @@ told_placed : (parts : PartsState) (out : ℕ → Bool) (s p : ℕ) → IsWhole 
     is_entry_at parts.pool.pairs s ≡ true →
     ((q : ℕ) → out q ≡ false) → IsPlaced parts out → IsPlaced (rated parts s p) out
 told_placed parts out s p whole pool entry none placed =
-    renewed_placed parts out s (heard (entry_at parts s) p) (asked_with parts s) whole pool entry none refl placed
+    renewed_placed parts out s (with_priority (entry_at parts s) p)
+    (asked_with parts s) whole pool entry none refl placed
 
 -- what holds between two calls of the loop still does
 pub told_parts : (parts : PartsState) (s p : ℕ) → IsWhole parts → IsParts parts → parts.fresh ≡ [] →
@@ -349,7 +356,7 @@ pub told_parts : (parts : PartsState) (s p : ℕ) → IsWhole parts → IsParts 
 told_parts parts s p whole is none entry = record {
   pool = is.pool;
   near = λ r.
-      let e : Entry = heard (entry_at parts s) p in
+      let e : Entry = with_priority (entry_at parts s) p in
       let below = entry_below parts s whole entry in
       let odometer = field_kept (λ (z : Entry). z.odometer) parts s e (asked_with parts s) below refl r in
       let slack = field_kept (λ (z : Entry). z.slack) parts s e (asked_with parts s) below refl r in
@@ -363,7 +370,7 @@ pub told_seen : (parts : PartsState) (s : ℕ) (rank : Rank) → IsWhole parts �
     IsLive parts.pool.pairs s → address_at parts.pool.pairs s ≡ rank.tri →
     IsRated (seen_parts parts) (seen_parts (rated parts s rank.p)) rank
 told_seen parts s rank whole pool live at =
-    let e : Entry = heard (entry_at parts s) rank.p in
+    let e : Entry = with_priority (entry_at parts s) rank.p in
     let slot = live_below parts.pool.pairs s live in
     let size = whole.entries in
     let below : s < length parts.entries = omega arith in
@@ -433,9 +440,10 @@ forgotten_has parts rest s whole pool placed near asked = by_bool (entry_at part
       record {
         pool = refl;
         fresh = refl;
-        stamp = λ r. sym (field_kept stamp_in parts s (unheard (entry_at parts s)) rest below refl r);
+        stamp = λ r. sym (field_kept stamp_in parts s (without_priority (entry_at parts s)) rest below refl r);
         near = near_still;
-        placed = renewed_placed parts (λ r. false) s (unheard (entry_at parts s)) rest whole pool (placed.known s known)
+        placed = renewed_placed parts (λ r. false) s (without_priority (entry_at parts s)) rest whole pool
+            (placed.known s known)
             (λ q. refl) refl placed;
       },
       refl,
@@ -445,9 +453,9 @@ forgotten_has parts rest s whole pool placed near asked = by_bool (entry_at part
       record {
         pool = refl;
         fresh = refl;
-        stamp = λ r. sym (field_kept stamp_in parts s (unheard (entry_at parts s)) rest below refl r);
+        stamp = λ r. sym (field_kept stamp_in parts s (without_priority (entry_at parts s)) rest below refl r);
         near = near_still;
-        placed = kept_placed parts (λ r. false) s (unheard (entry_at parts s)) rest below
+        placed = kept_placed parts (λ r. false) s (without_priority (entry_at parts s)) rest below
             (ap (λ b. cond b (entry_at parts s).exact (cond (entry_at parts s).stamped (entry_at parts s).upper 0))
             (sym unknown))
             (ap (λ b. cond b (entry_at parts s).exact (cond (entry_at parts s).stamped (entry_at parts s).lower 0))
@@ -461,12 +469,14 @@ forgotten_has parts rest s whole pool placed near asked = by_bool (entry_at part
     below = last_below parts rest s whole asked
 
     now : PartsState
-    now = changed parts s (unheard (entry_at parts s)) rest
+    now = changed parts s (without_priority (entry_at parts s)) rest
 
     near_still : (r : ℕ) → IsNear (entry_at now r)
     near_still r =
-        let odometer = field_kept (λ (z : Entry). z.odometer) parts s (unheard (entry_at parts s)) rest below refl r in
-        let slack = field_kept (λ (z : Entry). z.slack) parts s (unheard (entry_at parts s)) rest below refl r in
+        let odometer = field_kept (λ (z : Entry). z.odometer) parts s
+        (without_priority (entry_at parts s)) rest below refl r in
+        let slack = field_kept (λ (z : Entry). z.slack) parts s
+        (without_priority (entry_at parts s)) rest below refl r in
         (subst (λ z. z ≤ 2 ^ 62) odometer (near r).0, subst (λ z. z ≤ 2 ^ 32) slack (near r).1)
 
 -- one after the other
@@ -509,33 +519,35 @@ entry_told parts s a is entry at =
 -- lists in arrays
 
 -- a slot that is told for the first time in this frame
-pub heard-array : (pool : PoolState) (entries : List Entry) (split merge : List (Option Rank)) (due : List (Option ℕ))
+pub with_priority-array : (pool : PoolState) (entries : List Entry) (split merge : List (Option Rank))
+    (due : List (Option ℕ))
     (asked : List Slot) (asked_count : ℕ) (fresh : List Slot) (fresh_count : ℕ)
     (s : Slot) (e : Entry) (p : ℕ) → asked_count < length asked →
     e ≡ slice_index_or entries s.0 blank → e.listed ≡ false →
-    parts_of pool (slice_set entries s.0 (heard e p)) split merge due (slice_set asked asked_count s)
+    parts_of pool (slice_set entries s.0 (with_priority e p)) split merge due (slice_set asked asked_count s)
     (asked_count + 1) fresh fresh_count
     ≡ changed (parts_of pool entries split merge due asked asked_count fresh fresh_count) s.0
-    (heard (slice_index_or entries s.0 blank) p)
+    (with_priority (slice_index_or entries s.0 blank) p)
     (asked_with (parts_of pool entries split merge due asked asked_count fresh fresh_count) s.0)
-heard-array pool entries split merge due asked asked_count fresh fresh_count s e p below is new =
+with_priority-array pool entries split merge due asked asked_count fresh fresh_count s e p below is new =
     let before : List ℕ = map (λ t. t.0) (take asked_count asked) in
     ap₂ (λ (f : Entry) (l : List ℕ).
-    changed (parts_of pool entries split merge due asked asked_count fresh fresh_count) s.0 (heard f p) l) is
+    changed (parts_of pool entries split merge due asked asked_count fresh fresh_count) s.0 (with_priority f p) l) is
     (numbers_push asked asked_count s below ∙ sym (cond-false (slice_index_or entries s.0 blank).listed before
     (before ++ (s.0 ∷ [])) (sym (ap (λ (f : Entry). f.listed) is) ∙ new)))
 
 -- and one that was told before
-pub heard-again : (pool : PoolState) (entries : List Entry) (split merge : List (Option Rank)) (due : List (Option ℕ))
+pub with_priority-again : (pool : PoolState) (entries : List Entry) (split merge : List (Option Rank))
+    (due : List (Option ℕ))
     (asked : List Slot) (asked_count : ℕ) (fresh : List Slot) (fresh_count : ℕ)
     (s : Slot) (e : Entry) (p : ℕ) → e ≡ slice_index_or entries s.0 blank → e.listed ≡ true →
-    parts_of pool (slice_set entries s.0 (heard e p)) split merge due asked asked_count fresh fresh_count
+    parts_of pool (slice_set entries s.0 (with_priority e p)) split merge due asked asked_count fresh fresh_count
     ≡ changed (parts_of pool entries split merge due asked asked_count fresh fresh_count) s.0
-    (heard (slice_index_or entries s.0 blank) p)
+    (with_priority (slice_index_or entries s.0 blank) p)
     (asked_with (parts_of pool entries split merge due asked asked_count fresh fresh_count) s.0)
-heard-again pool entries split merge due asked asked_count fresh fresh_count s e p is old =
+with_priority-again pool entries split merge due asked asked_count fresh fresh_count s e p is old =
     let before : List ℕ = map (λ t. t.0) (take asked_count asked) in
     ap₂ (λ (f : Entry) (l : List ℕ).
-    changed (parts_of pool entries split merge due asked asked_count fresh fresh_count) s.0 (heard f p) l) is
+    changed (parts_of pool entries split merge due asked asked_count fresh fresh_count) s.0 (with_priority f p) l) is
     (sym (cond-true (slice_index_or entries s.0 blank).listed before (before ++ (s.0 ∷ []))
     (sym (ap (λ (f : Entry). f.listed) is) ∙ old)))

@@ -1,8 +1,8 @@
 -- What each call does to the parts of a mesh, as functions.
 -- All of it is this project's own.
 -- Words: chief_slot, diamond_slots, child_slots, above_slots, with_above, with_mate, with_chain, with_children,
--- gone_entry, taken_out, left, left_all, pushed, pushed_all, rekeyed, is_mate_fresh, put_in, heard, rated,
--- read_entry, entered, seated, unheard, forgotten, begun_at, expired_at.
+-- gone_entry, taken_out, left, left_all, pushed, pushed_all, rekeyed, is_mate_fresh, put_in, with_priority, rated,
+-- read_entry, entered, seated, without_priority, forgotten, begun_at, expired_at.
 use Rattle.std.specs.Prelude.{ℕ, ◌+◌, ◌*◌, ◌/◌, ◌&&◌, ◌||◌, Bool, true, false, cond, nat_le, nat_lt, List, [], ◌∷◌}
 use Rattle.std.specs.Prelude.{◌++◌, None, Some, option_map, slice_index_or, slice_set}
 use Rattle.mesh_laws.specs.Edge.{mate_of}
@@ -107,12 +107,12 @@ put_in parts s = cond (is_leaf_at parts.pool.pairs s || not_fresh parts s) (reke
     not_fresh parts s = cond (is_mate_fresh parts s) false true
 
 -- with a priority that was told
-abbrev pub heard : Entry → ℕ → Entry
-heard e p = record e { exact = p; known = true; listed = true }
+abbrev pub with_priority : Entry → ℕ → Entry
+with_priority e p = record e { exact = p; known = true; listed = true }
 
 abbrev pub rated : PartsState → ℕ → ℕ → PartsState
 rated parts s p = rekeyed (record parts {
-  entries = slice_set parts.entries s (heard (entry_at parts s) p);
+  entries = slice_set parts.entries s (with_priority (entry_at parts s) p);
   asked = cond (entry_at parts s).listed parts.asked (parts.asked ++ (s ∷ []));
 }) s
 
@@ -145,8 +145,8 @@ seated parts rest s was = put_in (record parts {
 }) s
 
 -- what was told is forgotten
-abbrev pub unheard : Entry → Entry
-unheard e = record e { known = false; listed = false }
+abbrev pub without_priority : Entry → Entry
+without_priority e = record e { known = false; listed = false }
 
 -- the slot s is the last that was asked, and rest are the others
 abbrev pub forgotten : PartsState → List ℕ → ℕ → PartsState
@@ -155,7 +155,7 @@ forgotten parts rest s =
   where
     unasked_slot : PartsState → List ℕ → ℕ → PartsState
     unasked_slot parts rest s = record parts {
-      entries = slice_set parts.entries s (unheard (entry_at parts s));
+      entries = slice_set parts.entries s (without_priority (entry_at parts s));
       asked = rest;
     }
 

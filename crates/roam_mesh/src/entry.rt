@@ -2,7 +2,7 @@
 
 ghost use Rattle.std.specs.Prelude.{◌≡◌, ◌<◌, ◌||◌, nat_eq, cond, true, length, Some, slice_set};
 ghost use Rattle.roam_mesh.specs.Parts.{best_of, merging_key, deadline_of, blank, IsNear};
-ghost use Rattle.roam_mesh.specs.Change.{gone_entry, heard, read_entry, unheard};
+ghost use Rattle.roam_mesh.specs.Change.{gone_entry, with_priority, read_entry, without_priority};
 
 use bintree_addr::Slot;
 use deferred_loop::Reading;
@@ -122,8 +122,8 @@ impl Entry {
     }
 
     /// With the priority that was told.
-    pub fn hear(&mut self, exact: u64)
-        ensures { self.new ≡ heard self.old exact }
+    pub fn set_priority(&mut self, exact: u64)
+        ensures { self.new ≡ with_priority self.old exact }
     {
         self.exact = exact;
         self.known = true;
@@ -132,7 +132,7 @@ impl Entry {
 
     /// What was told is forgotten.
     pub fn forget(&mut self)
-        ensures { self.new ≡ unheard self.old }
+        ensures { self.new ≡ without_priority self.old }
     {
         self.known = false;
         self.listed = false;

@@ -50,7 +50,7 @@ impl Parts {
     }
 
     /// Takes the priority of an entry as its key, and lists it as asked.
-    pub fn hear(&mut self, s: Slot, p: u64)
+    pub fn set_priority(&mut self, s: Slot, p: u64)
         requires entry { is_entry_at self.old.pool.pairs s.0 ≡ true }
         requires leaf { is_leaf_at self.old.pool.pairs s.0 ≡ true → IsSome (slice_index_or self.old.split s.0 None) }
         requires diamond { is_leaf_at self.old.pool.pairs s.0 ≡ false →
@@ -62,7 +62,7 @@ impl Parts {
             self.asked[self.asked_count as usize] = s;
             self.asked_count += 1;
         }
-        self.entries[s.0 as usize].hear(p);
+        self.entries[s.0 as usize].set_priority(p);
         self.rekey(s);
     }
 

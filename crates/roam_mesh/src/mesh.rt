@@ -130,31 +130,32 @@ impl Mesh {
     /// gauge was asked. `stamps`: each entry has a stamp that is not due; `only`: nothing else has one. `changed`:
     /// what `Mesh::changed` lists from then on.
     pub fn advance<G: Gauge>(&mut self, gauge: &mut G, budget: u32, odometer: u64) -> Steps
-        requires grid { (G.told gauge.old).n ≡ self.old.pool.n }
+        requires grid { (G.priorities gauge.old).n ≡ self.old.pool.n }
         requires budget { 2 ≤ budget }
         requires far { odometer ≤ LONGEST_WAY }
         requires counted { G.count gauge.old < CHANGES_AT_FRAME }
         requires room { HasRoom self.old.pool.n self.old.pool.most budget }
         requires counters { (self.old.pool.splits < CHANGES_AT_FRAME) × (self.old.pool.merges < CHANGES_AT_FRAME) }
-        requires falls { IsFalling (G.told gauge.old).n (G.told gauge.old).of }
-        requires readings { ReadingsHold (G.told gauge.old).n (G.told gauge.old).of
+        requires falls { IsFalling (G.priorities gauge.old).n (G.priorities gauge.old).of }
+        requires readings { ReadingsHold (G.priorities gauge.old).n (G.priorities gauge.old).of
             odometer (G.readings gauge.old) }
-        requires stamps { StampsHold (G.told gauge.old).of odometer (stamp_of self.old) }
-        ensures told { G.told gauge.new ≡ G.told gauge.old }
+        requires stamps { StampsHold (G.priorities gauge.old).of odometer (stamp_of self.old) }
+        ensures priorities { G.priorities gauge.new ≡ G.priorities gauge.old }
         ensures readings { G.readings gauge.new ≡ G.readings gauge.old }
         ensures n { self.new.pool.n ≡ self.old.pool.n }
         ensures counters { IsCountedBy (pool_set self.old.pool) (pool_set self.new.pool) result.splits result.merges }
-        ensures run { IsFrameRun self.old.pool.n budget (G.told gauge.old).of
+        ensures run { IsFrameRun self.old.pool.n budget (G.priorities gauge.old).of
             (pool_members self.old.pool) (pool_members self.new.pool) result.splits result.merges }
-        ensures frame { IsFrame self.old.pool.n budget (G.told gauge.old).of
+        ensures frame { IsFrame self.old.pool.n budget (G.priorities gauge.old).of
             (among (pool_members self.new.pool)) result.worst result.blocked }
         ensures unblocked { IsNone result.blocked
-            ↔ All (λ a. (G.told gauge.old).of a ≡ 0) (leaves_of self.old.pool.n (among (pool_members self.new.pool))) }
-        ensures sparing { IsSparing self.old.pool.n budget (G.told gauge.old).of
+            ↔ All (λ a. (G.priorities gauge.old).of a ≡ 0) (leaves_of self.old.pool.n
+            (among (pool_members self.new.pool))) }
+        ensures sparing { IsSparing self.old.pool.n budget (G.priorities gauge.old).of
             (pool_members self.old.pool) (pool_members self.new.pool) result.splits result.merges }
-        ensures spares { SparesChosen self.old.pool.n budget (G.told gauge.old).of
+        ensures spares { SparesChosen self.old.pool.n budget (G.priorities gauge.old).of
             (pool_members self.old.pool) (pool_members self.new.pool) }
-        ensures most { IsAtMost (G.told gauge.old) (G.readings gauge.old) odometer (seen_of self.old) budget
+        ensures most { IsAtMost (G.priorities gauge.old) (G.readings gauge.old) odometer (seen_of self.old) budget
             (result.splits + result.merges) (G.count gauge.old) (G.count gauge.new) }
         ensures least { IsAtLeast (seen_of self.old) (seen_of self.new) (G.count gauge.old) (G.count gauge.new) }
         ensures counted { G.count gauge.new < 2 ^ 64 - 1 }

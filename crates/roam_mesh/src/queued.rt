@@ -79,7 +79,7 @@ impl QueuedMesh for QueuedParts {
     }
 
     fn tell(&mut self, slot: Slot, rank: Rank) {
-        self.parts.hear(slot, rank.p);
+        self.parts.set_priority(slot, rank.p);
     }
 
     fn next_fresh(&self) -> Option<Tri> {

@@ -15,7 +15,7 @@ use Rattle.run_laws.specs.Picture.{Picture, last_members}
 use Rattle.run_laws.specs.Outcome.{Outcome, EngineEnd, sum_acts, engine_for, engine_end}
 use Rattle.run_laws.specs.Promise.{is_complete, ends_script, leaves_engine}
 use Rattle.run_laws.specs.Moment.{Moment, moment}
-use Rattle.run_laws.specs.Maker.{Leaves, IsScriptEnd}
+use Rattle.run_laws.specs.Maker.{LeavesEngine, IsScriptEnd}
 use Rattle.run_laws.proofs.GridLemmas.{not-complete}
 use Rattle.run_words.specs.Words.{Scripted, OnGrid, Frames, is_of_engine}
 use Rattle.run_words.specs.declared.showing.Showing.{Showing}
@@ -55,7 +55,7 @@ engine-left Measures walk ps = refl
 
 -- the engine that is left is the one that the outcome tells of
 pub leaves-engine : (showing other : Showing) (engine : EngineState) (end : Outcome) →
-    Leaves (show_seen showing) (EngineHasFollowed other engine) end → Some (engine_seen engine) ≡ end.engine
+    LeavesEngine (show_seen showing) (EngineHasFollowed other engine) end → Some (engine_seen engine) ≡ end.engine
 leaves-engine showing other engine end leaves =
     ap Some (followed-end leaves.walk leaves.pictures engine leaves.followed.followed)
     ∙ (sym (engine-left showing leaves.walk leaves.pictures) ∙ leaves.left)

@@ -11,10 +11,10 @@ use Rattle.run_laws.specs.Walk.{Refusal}
 use Rattle.run_words.specs.Words.{as_sums, Generated}
 use Rattle.run_laws.specs.Picture.{Picture}
 use Rattle.run_laws.specs.ReportText.{all_triangles, worst_in, sums_line, try_line}
-use Rattle.run_laws.specs.Act.{Act, ReportText, Told, Stands, IsCutShort}
+use Rattle.run_laws.specs.Act.{Act, ReportText, Sinks, Stands, IsCutShort}
 use Rattle.run_laws.specs.Outcome.{Outcome, text_outcome, shown_acts, sum_acts, stop_acts, stop_status, frames_outcome}
 use Rattle.run_laws.specs.Outcome.{engine_end, made_walk}
-use Rattle.run_laws.specs.Promise.{Seen, is_complete, ends_script, may_end}
+use Rattle.run_laws.specs.Promise.{ShelfState, is_complete, ends_script, may_end}
 use Rattle.run_laws.proofs.WalkLemmas.{along-stop}
 use Rattle.run_engine.specs.declared.generated.Sums.{Sums}
 use Rattle.run_engine.specs.EngineSeen.{engine_seen}
@@ -22,7 +22,7 @@ use Rattle.run_laws.specs.Maker.{DoesAs}
 use Rattle.run_laws.specs.Moment.{Moment}
 use Rattle.run_laws.proofs.ActLemmas.{stands-nothing}
 use Rattle.run_laws.proofs.StatementLemmas.{ends-by-status}
-use Rattle.run_laws.specs.Leaving.{CommandEnds, Runs, TellsLast}
+use Rattle.run_laws.specs.Leaving.{CommandEnds, RunsCommand, TellsLast}
 use Rattle.run_engine.specs.SumView.{made_start, IsSumOf, SumsUp}
 use Rattle.roam_run.proofs.LeftLemmas.{followed-end, left-seen}
 
@@ -65,7 +65,7 @@ left-by n seed sums engine left status all (inr failed) is e =
     absurd (false≢true (subst P failed e))
 
 -- the line of its sums ends it
-pub made-ends : (before now : Told) (shelf : Seen) (n seed : ℕ) (sums : Sums) (engine : EngineState)
+pub made-ends : (before now : Sinks) (shelf : ShelfState) (n seed : ℕ) (sums : Sums) (engine : EngineState)
     (left : Option EngineState) (files : List NamedFile)
     (text : List ℕ) (status : Status) → SumsUp n seed sums engine →
     text ≡ sums_line n seed sums.frames sums.triangles sums.worst sums.blocked
@@ -99,12 +99,12 @@ pub made-runs : (before now : Moment) (n seed : ℕ) (sums : Sums) (engine : Eng
     text ≡ sums_line n seed sums.frames sums.triangles sums.worst sums.blocked
     → left ≡ (if ends_script status then Some engine else None) → (IsSome left ↔ IsTrue (ends_script status))
     → TellsLast before now text ends.Done status →
-    Runs before now (Some (Generated n seed)) status (option_map engine_seen left)
+    RunsCommand before now (Some (Generated n seed)) status (option_map engine_seen left)
 made-runs before now n seed sums engine left text status all is by some tells =
-    let P : Seen → Type 0 = λ shelf. (files : List NamedFile)
+    let P : ShelfState → Type 0 = λ shelf. (files : List NamedFile)
     → CommandEnds before.sinks now.sinks before.shelf shelf (Generated n seed) files status
     (option_map engine_seen left) in
-    let opened : now.shelf.opens ≡ before.shelf.opens = ap (λ (shelf : Seen). shelf.opens) tells.shelf in
+    let opened : now.shelf.opens ≡ before.shelf.opens = ap (λ (shelf : ShelfState). shelf.opens) tells.shelf in
     record {
       ends = ends-by-status before now (Generated n seed) status (option_map engine_seen left)
           (λ files are. subst P (sym tells.shelf) (λ other.
@@ -113,7 +113,7 @@ made-runs before now n seed sums engine left text status all is by some tells =
           (λ e. absurd (not-read tells.ends e))
           (λ e. absurd (not-memory tells.ends e));
       leaves = record {
-        files = ap (λ (shelf : Seen). shelf.files) tells.shelf;
+        files = ap (λ (shelf : ShelfState). shelf.files) tells.shelf;
         idle = λ not. tells.idle not;
         no_mesh = λ text_alone. tells.no_mesh refl;
         opens = record {
@@ -167,7 +167,7 @@ made-runs before now n seed sums engine left text status all is by some tells =
 
 -- memory ran out in one
 pub unmade-runs : (now : Moment) (n seed : ℕ) →
-    Runs now now (Some (Generated n seed)) ends.NoMemory None
+    RunsCommand now now (Some (Generated n seed)) ends.NoMemory None
 unmade-runs now n seed = record {
   ends = ends-by-status now now (Generated n seed) ends.NoMemory None
       (λ files are. record { ends = λ m r. absurd (m refl) })

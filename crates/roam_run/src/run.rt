@@ -11,7 +11,7 @@ ghost use Rattle.run_laws.specs.Promise.{IsAccepted, ends_script};
 ghost use Rattle.run_laws.specs.Moment.{moment};
 ghost use Rattle.run_laws.specs.Statement.{KeepsBestMeshes, CertifiesMesh, TellsCertificates, EndsByStatus};
 ghost use Rattle.run_laws.specs.Statement.{LeavesOutside, IsCaused};
-ghost use Rattle.run_laws.specs.Leaving.{Runs};
+ghost use Rattle.run_laws.specs.Leaving.{RunsCommand};
 ghost use Rattle.run_engine.specs.EngineSeen.{engine_seen};
 ghost use Rattle.run_words.specs.WordView.{show_for, scripted_seen, command_seen, IsFrameCommand};
 ghost use Rattle.run_words.specs.WordView.{IsCommandInBounds};
@@ -209,7 +209,7 @@ fn run_of_words<O: Outside>(alloc: Global, words: &[String], outside: &mut O) ->
     requires idle { (O.moment outside.old).under_way ≡ false }
     requires opens { (O.moment outside.old).shelf.opens ≤ 2 ^ 63 }
     ensures same { O.is_same outside.old outside.new }
-    ensures runs { Runs (O.moment outside.old) (O.moment outside.new) (command_of (map string_bytes words.now))
+    ensures runs { RunsCommand (O.moment outside.old) (O.moment outside.new) (command_of (map string_bytes words.now))
         result.status (option_map engine_seen result.engine) }
     ensures untouched { result.status ≡ Status.Usage → outside.new ≡ outside.old }
 {
@@ -228,7 +228,7 @@ fn run_command<O: Outside>(alloc: Global, command: &Command<'_>, outside: &mut O
     requires accepted { IsCommandInBounds command.now }
     requires opens { (O.moment outside.old).shelf.opens ≤ 2 ^ 63 }
     ensures same { O.is_same outside.old outside.new }
-    ensures runs { Runs (O.moment outside.old) (O.moment outside.new) (Some (command_seen command.now))
+    ensures runs { RunsCommand (O.moment outside.old) (O.moment outside.new) (Some (command_seen command.now))
         result.status (option_map engine_seen result.engine) }
 {
     match command {
@@ -252,7 +252,7 @@ fn run_frames<O: Outside>(alloc: Global, command: &FrameWords<'_>, outside: &mut
     requires accepted { IsFrameCommand command.now }
     requires opens { (O.moment outside.old).shelf.opens ≤ 2 ^ 63 }
     ensures same { O.is_same outside.old outside.new }
-    ensures runs { Runs (O.moment outside.old) (O.moment outside.new)
+    ensures runs { RunsCommand (O.moment outside.old) (O.moment outside.new)
         (Some (OnGrid command.now.grid.now (Frames (scripted_seen command.now))))
         result.status (option_map engine_seen result.engine) }
 {
@@ -277,7 +277,7 @@ fn run_engine<O: Outside>(
     requires shown { show_for command.now.meshing ≡ show_seen showing }
     requires opens { (O.moment outside.old).shelf.opens ≤ 2 ^ 63 }
     ensures same { O.is_same outside.old outside.new }
-    ensures runs { Runs (O.moment outside.old) (O.moment outside.new)
+    ensures runs { RunsCommand (O.moment outside.old) (O.moment outside.new)
         (Some (OnGrid command.now.grid.now (Frames (scripted_seen command.now))))
         result.status (option_map engine_seen result.engine) }
 {
@@ -300,7 +300,7 @@ fn run_try<O: Outside>(alloc: Global, n: u32, seed: u32, outside: &mut O) -> Run
     requires n_low { 1 ≤ n }
     requires n_high { n ≤ GREATEST_FILE_LEVEL }
     ensures same { O.is_same outside.old outside.new }
-    ensures runs { Runs (O.moment outside.old) (O.moment outside.new) (Some (Generated n seed))
+    ensures runs { RunsCommand (O.moment outside.old) (O.moment outside.new) (Some (Generated n seed))
         result.status (option_map engine_seen result.engine) }
 {
     match sums_of(alloc, n, seed) {

@@ -17,7 +17,7 @@ use Rattle.run_laws.specs.ReportText.{certified_fit_line}
 use Rattle.run_laws.specs.Outcome.{Outcome, text_outcome, IsCompared, IsFitVerdictOutcome, IsJobOutcome}
 use Rattle.run_laws.specs.Promise.{HasEnded, leaves_engine}
 use Rattle.run_laws.specs.Moment.{Moment}
-use Rattle.run_laws.specs.Leaving.{Runs, HasOpened, ReadsGrid, TellsLast}
+use Rattle.run_laws.specs.Leaving.{RunsCommand, HasOpened, ReadsGrid, TellsLast}
 use Rattle.run_laws.proofs.RunLemmas.{fails-then, certified-runs, rejected-runs}
 use Rattle.run_laws.proofs.RunLemmas.{tells-as}
 use Rattle.run_certify.specs.declared.mesh_file.CheckStop.{CheckStop}
@@ -81,7 +81,7 @@ module _ (before middle last now : Moment) (name : List ℕ) (job : Job) (more :
       IsJobOutcome job grid files (judged_outcome (1 + more) grid.n judgement))
       → text ≡ fit_judged_text grid.n judgement → meant ≡ fit_judged_status judgement →
       TellsLast last now text meant status
-      → Runs before now (Some (OnGrid name job)) status None
+      → RunsCommand before now (Some (OnGrid name job)) status None
   judged-runs (Certified triangles deviation) opened some ended judged is_text is_end tells =
       certified-runs before middle last now name job grid (more + 1) status read opened _ (omega (arith, whole))
       (ended refl) none (job-judged (Certified triangles deviation) (1 + (more + 1)) (omega arith) judged)
@@ -105,10 +105,10 @@ pub check-ends : (before last now : Moment) (command : Option Command) (n : ℕ)
     → IfOk judged opens → IfOk judged ended → IfOk judged does
     → ((judgement : Judgement) → opens judgement → ended judgement → does judgement →
     TellsLast last now (fit_judged_text n judgement) (fit_judged_status judgement) status →
-    Runs before now command status None)
-    → (judged ≡ Err stop.NoMemory → Runs before last command ends.NoMemory None)
-    → (judged ≡ Err stop.Failed → Runs before last command ends.ReadFault None)
-    → Runs before now command status None
+    RunsCommand before now command status None)
+    → (judged ≡ Err stop.NoMemory → RunsCommand before last command ends.NoMemory None)
+    → (judged ≡ Err stop.Failed → RunsCommand before last command ends.ReadFault None)
+    → RunsCommand before now command status None
 check-ends before last now command n (Ok judgement) status tells opened is_end judged runs spent failed =
     runs judgement opened is_end judged tells
 check-ends before last now command n (Err stop.NoMemory) status (same, is) opened is_end judged runs spent failed =
@@ -121,14 +121,14 @@ module _ (before middle now : Moment) (name : List ℕ) (c : FitChecking) (grid 
     (read : ReadsGrid before middle name grid) where
   -- memory ran out behind the grid
   pub check-memory : JudgesNoMemory (IsFaultlessFile c.certificate (fit_cert_in grid.n) (IsFitFaultless c grid)) middle
-      now → Runs before now (Some (OnGrid name (CheckFit c))) ends.NoMemory None
+      now → RunsCommand before now (Some (OnGrid name (CheckFit c))) ends.NoMemory None
   check-memory = judges-memory before middle now name (CheckFit c) grid 1
       (IsFaultlessFile c.certificate (fit_cert_in grid.n) (IsFitFaultless c grid)) read.opened
       (omega arith) (omega arith) read.is_grid (λ count files told faultless. faultless)
 
   -- a read failed behind the grid
   pub check-fault : JudgesFault c.certificate c.mesh c.spacing grid (FitCertHasRead grid.n) (fit_cert_in grid.n)
-      (IsFitFaultless c grid) middle now → Runs before now (Some (OnGrid name (CheckFit c))) ends.ReadFault None
+      (IsFitFaultless c grid) middle now → RunsCommand before now (Some (OnGrid name (CheckFit c))) ends.ReadFault None
   check-fault (inl one) =
       judges-fault before now name (CheckFit c) 1 c.certificate _
       (fails-then before middle now 1 1 c.certificate _ read.opened one) (omega arith) refl

@@ -20,7 +20,7 @@ use Rattle.run_laws.specs.ReportText.{rejection}
 use Rattle.run_laws.specs.Outcome.{text_outcome, IsJobOutcome}
 use Rattle.run_laws.specs.Promise.{HasEnded, HasRead, JobHasCome}
 use Rattle.run_laws.specs.Moment.{Moment}
-use Rattle.run_laws.specs.Leaving.{Runs, HasOpened, HasFailed, ReadsGrid, TellsLast}
+use Rattle.run_laws.specs.Leaving.{RunsCommand, HasOpened, HasFailed, ReadsGrid, TellsLast}
 use Rattle.run_laws.proofs.ActLemmas.{stands-nothing}
 use Rattle.run_laws.proofs.GridLemmas.{file-fault, behind-memory}
 use Rattle.run_laws.proofs.RunLemmas.{read-failed, memory-spent, opens-then, fails-then, certified-runs, rejected-runs}
@@ -50,7 +50,7 @@ pub judges-memory : (before middle now : Moment) (name : List ℕ) (job : Job) (
     → ((files : List NamedFile) → before.shelf.files ≡ Some files → grid_of (bytes_of files name) ≡ Ok grid)
     → ((count : ℕ) (files : List NamedFile) → before.shelf.files ≡ Some files
     → (behind + 2 ≤ count → faultless_file files) → JobHasCome job grid files count)
-    → JudgesNoMemory faultless_file middle now → Runs before now (Some (OnGrid name job)) NoMemory None
+    → JudgesNoMemory faultless_file middle now → RunsCommand before now (Some (OnGrid name job)) NoMemory None
 judges-memory before middle now name job grid behind faultless_file read some most is_grid come (inl one) =
     let opened = opens-then before middle now behind 1 read one in
     memory-spent before now name job (behind + 1) opened
@@ -68,7 +68,7 @@ pub judges-fault : (before now : Moment) (name : List ℕ) (job : Job) (behind :
     → behind + 1 ≤ file_count (Some (OnGrid name job)) → slice_get (names_of (OnGrid name job)) behind ≡ Some last
     → ((files : List NamedFile) → before.shelf.files ≡ Some files → (read : List ℕ) → holds read →
     HasRead (OnGrid name job) files behind read [])
-    → Runs before now (Some (OnGrid name job)) ReadFault None
+    → RunsCommand before now (Some (OnGrid name job)) ReadFault None
 judges-fault before now name job behind last holds failed within named has_read =
     read-failed before now name job (behind + 1) last holds failed (omega arith) within (record {
       file = behind;
@@ -84,12 +84,12 @@ module _ (before middle now : Moment) (name : List ℕ) (c : Checking) (grid : H
     (read : ReadsGrid before middle name grid) where
   -- memory ran out behind the grid
   pub check-memory : JudgesNoMemory (IsFaultlessFile c grid) middle now →
-      Runs before now (Some (OnGrid name (Check c))) NoMemory None
+      RunsCommand before now (Some (OnGrid name (Check c))) NoMemory None
   check-memory = judges-memory before middle now name (Check c) grid 1 (IsFaultlessFile c grid) read.opened
       (omega arith) (omega arith) read.is_grid (λ count files told faultless. faultless)
 
   -- a read failed behind the grid
-  pub check-fault : JudgesFault c grid middle now → Runs before now (Some (OnGrid name (Check c))) ReadFault None
+  pub check-fault : JudgesFault c grid middle now → RunsCommand before now (Some (OnGrid name (Check c))) ReadFault None
   check-fault (inl one) =
       judges-fault before now name (Check c) 1 c.certificate _
       (fails-then before middle now 1 1 c.certificate _ read.opened one) (omega arith) refl
@@ -111,7 +111,7 @@ module _ (before middle last now : Moment) (name : List ℕ) (c : Checking) (gri
       → (judged_status judgement ≡ Done → HasEnded last.shelf)
       → ((files : List NamedFile) → middle.shelf.files ≡ Some files → IsJudged c grid files judgement)
       → text ≡ judged_text judgement → meant ≡ judged_status judgement → TellsLast last now text meant status
-      → Runs before now (Some (OnGrid name (Check c))) status None
+      → RunsCommand before now (Some (OnGrid name (Check c))) status None
   check-runs (Certified camera triangles worst) opened ended judged is_text is_end tells =
       certified-runs before middle last now name (Check c) grid 2 status read opened _ refl (ended refl) refl judged
       (tells-as is_text is_end tells)

@@ -17,7 +17,7 @@ use Rattle.run_laws.specs.Act.{ReportText}
 use Rattle.run_laws.specs.Outcome.{Outcome, text_outcome, IsKeptMakeOutcome, IsKeptCheckOutcome, IsJobOutcome}
 use Rattle.run_laws.specs.Promise.{HasEnded}
 use Rattle.run_laws.specs.Moment.{Moment}
-use Rattle.run_laws.specs.Leaving.{Runs, HasOpened, ReadsGrid, ReadsPoints, TellsLast}
+use Rattle.run_laws.specs.Leaving.{RunsCommand, HasOpened, ReadsGrid, ReadsPoints, TellsLast}
 use Rattle.run_laws.proofs.GridLemmas.{behind-memory}
 use Rattle.run_laws.proofs.RunLemmas.{memory-spent, opens-then, fails-then, whole-runs}
 use Rattle.run_certify.specs.declared.fit_verdict_report.Judgement.{Judgement}
@@ -34,7 +34,7 @@ module _ (before middle last now : Moment) (name : List ℕ) (m : KeptMaking) (g
   -- the certificate ended the command
   pub make-runs : (cert : KeptCertificate) (status : Status) → IsKeptMade m points grid cert
       → TellsLast last now (kept_cert_text cert) Done status
-      → Runs before now (Some (OnGrid name (MakeKept m))) status None
+      → RunsCommand before now (Some (OnGrid name (MakeKept m))) status None
   make-runs cert status made tells =
       whole-runs before middle last now name (MakeKept m) grid 1 status read behind.opened
       (ReportText (kept_cert_text cert) ∷ []) refl behind.ended refl (λ text_alone. refl)
@@ -45,7 +45,7 @@ module _ (before middle last now : Moment) (name : List ℕ) (m : KeptMaking) (g
 module _ (before middle now : Moment) (name : List ℕ) (m : KeptMaking) (grid : HeightField) (points : List Point)
     (read : ReadsGrid before middle name grid) (behind : ReadsPoints middle now m.points grid points) where
   -- memory ran out behind the points
-  pub make-memory : Runs before now (Some (OnGrid name (MakeKept m))) NoMemory None
+  pub make-memory : RunsCommand before now (Some (OnGrid name (MakeKept m))) NoMemory None
   make-memory =
       let opened = opens-then before middle now 1 1 read.opened behind.opened in
       memory-spent before now name (MakeKept m) 2 opened
@@ -69,7 +69,7 @@ module _ (before middle last now : Moment) (name : List ℕ) (c : KeptChecking) 
   -- memory ran out behind the points
   pub check-memory : JudgesNoMemory
       (IsFaultlessFile c.certificate (kept_cert_in grid.n) (IsKeptFaultless c points grid)) last now
-      → Runs before now (Some (OnGrid name (CheckKept c))) NoMemory None
+      → RunsCommand before now (Some (OnGrid name (CheckKept c))) NoMemory None
   check-memory = judges-memory before last now name (CheckKept c) grid 2
       (IsFaultlessFile c.certificate (kept_cert_in grid.n) (IsKeptFaultless c points grid)) both-opened
       (omega arith) (omega arith) read.is_grid
@@ -77,7 +77,8 @@ module _ (before middle last now : Moment) (name : List ℕ) (c : KeptChecking) 
 
   -- a read failed behind the points
   pub check-fault : JudgesFault c.certificate c.mesh c.spacing grid (KeptCertHasRead grid.n) (kept_cert_in grid.n)
-      (IsKeptFaultless c points grid) last now → Runs before now (Some (OnGrid name (CheckKept c))) ReadFault None
+      (IsKeptFaultless c points grid) last now → RunsCommand before now
+      (Some (OnGrid name (CheckKept c))) ReadFault None
   check-fault (inl one) =
       judges-fault before now name (CheckKept c) 2 c.certificate _
       (fails-then before last now 2 1 c.certificate _ both-opened one) (omega arith) refl
@@ -122,7 +123,7 @@ module _ (before middle last end now : Moment) (name : List ℕ) (c : KeptChecki
       (kept_cert_in grid.n (bytes_of files c.certificate)) (bytes_of files c.mesh) (judged_outcome 3 grid.n judgement))
       → text ≡ fit_judged_text grid.n judgement → meant ≡ fit_judged_status judgement →
       TellsLast end now text meant status
-      → Runs before now (Some (OnGrid name (CheckKept c))) status None
+      → RunsCommand before now (Some (OnGrid name (CheckKept c))) status None
   check-runs judgement opened ended judged =
       let two : 1 + (1 + fit_mesh_opens judgement) ≡ 2 + fit_mesh_opens judgement = omega arith in
       judged-runs before middle end now name (CheckKept c) 2 grid text meant status read refl refl refl refl judgement

@@ -6,7 +6,7 @@ ghost use Rattle.roam_edge.specs.Shelf.{NamedFile, bytes_of};
 ghost use Rattle.run_words.specs.Words.{OnGrid, Check};
 ghost use Rattle.run_laws.specs.Outcome.{IsCheckOutcome};
 ghost use Rattle.run_laws.specs.Promise.{HasEnded};
-ghost use Rattle.run_laws.specs.Leaving.{Runs, HasOpened};
+ghost use Rattle.run_laws.specs.Leaving.{RunsCommand, HasOpened};
 ghost use Rattle.run_words.specs.CertifyView.{checking_seen, AreInBounds};
 ghost use Rattle.run_certify.specs.Judging.{judged_status, mesh_opens, judged_outcome, IsJudged};
 ghost use Rattle.run_certify.specs.Judging.{IsFaultlessFile, JudgesNoMemory, JudgesFault, NoMemoryBehind, FailsBehind};
@@ -28,7 +28,7 @@ pub fn run_check<O: Outside>(alloc: Global, words: &CheckWords<'_>, outside: &mu
     requires opens { (O.moment outside.old).shelf.opens ≤ 2 ^ 63 }
     requires bounds { AreInBounds words.now.budget words.now.spacing }
     ensures same { O.is_same outside.old outside.new }
-    ensures runs { Runs (O.moment outside.old) (O.moment outside.new)
+    ensures runs { RunsCommand (O.moment outside.old) (O.moment outside.new)
         (Some (OnGrid words.now.grid.now (Check (checking_seen words.now)))) result None }
 {
     match grid_or_end(alloc, words.grid, outside) {

@@ -6,10 +6,10 @@ ghost use Rattle.bintree_laws.specs.Corners.{IsInSquare};
 ghost use Rattle.certificate_laws.specs.Keeping.{IsKeptSound, IsKeptVerdictOf};
 ghost use Rattle.run_words.specs.Words.{OnGrid, CheckKept};
 ghost use Rattle.run_words.specs.FitView.{kept_checking_seen, AreKeptBounds};
-ghost use Rattle.run_laws.specs.Leaving.{Runs};
+ghost use Rattle.run_laws.specs.Leaving.{RunsCommand};
 
-use crate::fit_goal::tolerance;
 use crate::fit_judging::{FitCheck, end_check, judge};
+use crate::fit_target::tolerance;
 use crate::points::points_or_end;
 use bintree_addr::{Point, Tri};
 use cert_text::KeptCertReader;
@@ -32,7 +32,7 @@ pub fn run_kept_check<O: Outside>(
     requires opens { (O.moment outside.old).shelf.opens ≤ 2 ^ 63 }
     requires bounds { AreKeptBounds words.now.thousandths words.now.spacing }
     ensures same { O.is_same outside.old outside.new }
-    ensures runs { Runs (O.moment outside.old) (O.moment outside.new)
+    ensures runs { RunsCommand (O.moment outside.old) (O.moment outside.new)
         (Some (OnGrid words.now.grid.now (CheckKept (kept_checking_seen words.now)))) result None }
 {
     let grid = match grid_or_end(alloc, words.grid, outside) {
@@ -44,14 +44,14 @@ pub fn run_kept_check<O: Outside>(
         Err(status) => return status,
     };
     let n = grid.n();
-    let goal = KeptGoal {
+    let target = KeptTarget {
         tolerance: tolerance(words.thousandths, n),
         points: &points,
     };
-    let judged = judge::<KeptCertReader, KeptGoal<'_>, O>(
+    let judged = judge::<KeptCertReader, KeptTarget<'_>, O>(
         alloc,
         &grid,
-        &goal,
+        &target,
         words.certificate,
         words.mesh,
         words.spacing,
@@ -62,23 +62,23 @@ pub fn run_kept_check<O: Outside>(
 
 /// An error, and the points that a mesh has to keep.
 #[derive(Drop)]
-pub(crate) struct KeptGoal<'a> {
+pub(crate) struct KeptTarget<'a> {
     /// In units of height, times 2^n.
     tolerance: u32,
     /// Points of the grid.
     points: &'a [Point],
 }
 
-impl FitCheck<KeptCert> for KeptGoal<'_> {
-    ghost IsFor = { λ goal n. All (IsInSquare (2 ^ n)) goal.points.now };
+impl FitCheck<KeptCert> for KeptTarget<'_> {
+    ghost IsFor = { λ target n. All (IsInSquare (2 ^ n)) target.points.now };
 
-    ghost IsVerdict = { λ goal grid cert is mesh.
-        IsKeptVerdictOf grid.n grid.heights goal.points.now goal.tolerance cert is mesh };
+    ghost IsVerdict = { λ target grid cert is mesh.
+        IsKeptVerdictOf grid.n grid.heights target.points.now target.tolerance cert is mesh };
 
-    ghost IsFaultless = { λ goal grid cert mesh.
-        IsKeptSound grid.n grid.heights goal.points.now goal.tolerance cert mesh };
+    ghost IsFaultless = { λ target grid cert mesh.
+        IsKeptSound grid.n grid.heights target.points.now target.tolerance cert mesh };
 
-    ghost sound = { λ goal grid cert triangles deviation mesh is. is.0 };
+    ghost sound = { λ target grid cert triangles deviation mesh is. is.0 };
 
     fn verdict(&self, alloc: Global, grid: &Grid, cert: &KeptCert) -> Result<FitVerdict, NoMemory> {
         check_kept(alloc, grid, cert, self.tolerance, self.points)

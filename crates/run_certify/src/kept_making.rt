@@ -7,10 +7,10 @@ ghost use Rattle.roam_script.specs.PointText.{most_points as most_points_seen};
 ghost use Rattle.cert_text.specs.KeptCert.{kept_cert_text};
 ghost use Rattle.run_words.specs.Words.{OnGrid, MakeKept};
 ghost use Rattle.run_laws.specs.Certify.{IsKeptMade};
-ghost use Rattle.run_laws.specs.Leaving.{Runs, TellsLast};
+ghost use Rattle.run_laws.specs.Leaving.{RunsCommand, TellsLast};
 ghost use Rattle.run_words.specs.FitView.{kept_making_seen, AreKeptBounds};
 
-use crate::fit_goal::tolerance;
+use crate::fit_target::tolerance;
 use crate::points::points_or_end;
 use bintree_addr::Point;
 use certificate_laws::KeptCert;
@@ -32,7 +32,7 @@ pub fn run_kept_make<O: Outside>(
     requires opens { (O.moment outside.old).shelf.opens ≤ 2 ^ 63 }
     requires bounds { AreKeptBounds words.now.thousandths words.now.spacing }
     ensures same { O.is_same outside.old outside.new }
-    ensures runs { Runs (O.moment outside.old) (O.moment outside.new)
+    ensures runs { RunsCommand (O.moment outside.old) (O.moment outside.new)
         (Some (OnGrid words.now.grid.now (MakeKept (kept_making_seen words.now)))) result None }
 {
     match grid_or_end(alloc, words.grid, outside) {

@@ -8,9 +8,9 @@
 
 mod checking;
 mod fit_checking;
-mod fit_goal;
 mod fit_judging;
 mod fit_making;
+mod fit_target;
 mod fit_verdict_report;
 mod kept_checking;
 mod kept_making;

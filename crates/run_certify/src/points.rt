@@ -3,7 +3,7 @@
 ghost use Rattle.std.specs.Prelude.{◌+◌, ◌^◌, ◌≤◌, ℕ, List, IfOk, IfErr, Some, None};
 ghost use Rattle.run_words.specs.Words.{Job, OnGrid};
 ghost use Rattle.run_laws.specs.Moment.{Moment};
-ghost use Rattle.run_laws.specs.Leaving.{Runs, ReadsGrid, KeepsPoints, ReadsPoints};
+ghost use Rattle.run_laws.specs.Leaving.{RunsCommand, ReadsGrid, KeepsPoints, ReadsPoints};
 
 use bintree_addr::Point;
 use pgm_grid::Grid;
@@ -27,7 +27,7 @@ pub(crate) fn points_or_end<O: Outside>(
     // For the moment before the grid was read.
     ensures err { IfErr result (λ status. (before : Moment) (grid_name : List ℕ) (job : Job) →
         KeepsPoints grid_name name.now job → ReadsGrid before (O.moment outside.old) grid_name grid.now →
-        Runs before (O.moment outside.new) (Some (OnGrid grid_name job)) status None) }
+        RunsCommand before (O.moment outside.new) (Some (OnGrid grid_name job)) status None) }
 {
     let Ok(room) = Vec::with_capacity(alloc, most_points(grid.n()) as usize) else {
         return Err(Status::NoMemory);

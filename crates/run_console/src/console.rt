@@ -12,7 +12,7 @@ use crate::noted_files::{Noted, NotedFiles};
 use crate::opened::opened_file;
 use crate::outside_text::{MeshFault, ReadFault, ReportFault};
 use crate::prefix::mesh_prefix;
-use crate::runs::Runs;
+use crate::program::Program;
 use crate::usage::{Asked, VERSION, asked_for, tell_usage};
 use crate::watched::{WatchedShelf, WatchedSink};
 use crate::word_text::WordText;
@@ -37,12 +37,12 @@ struct Notes {
     report: Note,
 }
 
-/// Carries the words of the command line out by this run, over real files and standard output, and answers its status
-/// as the exit status. What the report does not say stands on standard error.
+/// Runs this program on the words of the command line, over real files and standard output, and answers its status as
+/// the exit status. What the report does not say stands on standard error.
 ///
 /// Where the system cannot give the words the exit status is 8, or that of `NoMemory` where memory is the cause. No
 /// clause can speak of what the system gives, so which words are carried out is not said.
-pub fn carry_out<R: Env + Files + Print + Eprint + AllocGlobal, P: Runs>(
+pub fn run_program<R: Env + Files + Print + Eprint + AllocGlobal, P: Program>(
     rt: &R,
     program: &P,
 ) -> ExitCode
@@ -72,7 +72,7 @@ fn behind_name(all: &[String]) -> &[String]
 }
 
 /// Carries the words out over real files, and tells on standard error what the report does not.
-fn run<R: Files + Print + Eprint + AllocGlobal, P: Runs>(
+fn run<R: Files + Print + Eprint + AllocGlobal, P: Program>(
     rt: &R,
     program: &P,
     words: &[String],

@@ -9,7 +9,7 @@ use run_words::{Command, FrameWords, KeptCheckWords, Role, command_in};
 
 /// A file that the words of a command name.
 #[derive(Clone, Copy)]
-pub struct NamedFile<'a> {
+pub struct OpenedFile<'a> {
     /// What it is.
     pub role: Role,
     /// Its name.
@@ -18,7 +18,7 @@ pub struct NamedFile<'a> {
 
 /// The file that is opened as the one of this number, counted from 1, by the command that the words
 /// are; None of words that are no command, and of numbers beyond its files.
-pub fn opened_file(words: &[String], number: u64) -> Option<NamedFile<'_>>
+pub fn opened_file(words: &[String], number: u64) -> Option<OpenedFile<'_>>
     ensures name { option_map (λ file. file.name.now) result ≡
         opened_name (command_of (map string_bytes words.now)) number }
     ensures role { option_map (λ file. file.role) result ≡
@@ -31,7 +31,7 @@ pub fn opened_file(words: &[String], number: u64) -> Option<NamedFile<'_>>
 }
 
 /// The file that this command opens as the one of this number.
-fn file_of<'a>(command: &Command<'a>, number: u64) -> Option<NamedFile<'a>>
+fn file_of<'a>(command: &Command<'a>, number: u64) -> Option<OpenedFile<'a>>
     ensures name { option_map (λ file. file.name.now) result ≡
         opened_name (Some (command_seen command.now)) number }
     ensures role { option_map (λ file. file.role) result ≡
@@ -57,12 +57,12 @@ fn file_of<'a>(command: &Command<'a>, number: u64) -> Option<NamedFile<'a>>
 }
 
 /// The only file of a command that has no other one than its grid.
-fn file_of_grid(grid: &str, number: u64) -> Option<NamedFile<'_>>
+fn file_of_grid(grid: &str, number: u64) -> Option<OpenedFile<'_>>
     ensures name { option_map (λ file. file.name.now) result ≡ entry (grid.now ∷ []) number }
     ensures role { option_map (λ file. file.role) result ≡ entry (Role.Grid ∷ []) number }
 {
     match number {
-        1 => Some(NamedFile {
+        1 => Some(OpenedFile {
             role: Role::Grid,
             name: grid,
         }),
@@ -71,14 +71,14 @@ fn file_of_grid(grid: &str, number: u64) -> Option<NamedFile<'_>>
 }
 
 /// A file of a command that makes the frames of a script.
-fn file_of_frames<'a>(words: &FrameWords<'a>, number: u64) -> Option<NamedFile<'a>>
+fn file_of_frames<'a>(words: &FrameWords<'a>, number: u64) -> Option<OpenedFile<'a>>
     ensures name { option_map (λ file. file.name.now) result ≡
         entry (words.now.grid.now ∷ (words.now.script.now ∷ [])) number }
     ensures role { option_map (λ file. file.role) result ≡
         entry (Role.Grid ∷ (Role.Script ∷ [])) number }
 {
     match number {
-        2 => Some(NamedFile {
+        2 => Some(OpenedFile {
             role: Role::Script,
             name: words.script,
         }),
@@ -87,14 +87,14 @@ fn file_of_frames<'a>(words: &FrameWords<'a>, number: u64) -> Option<NamedFile<'
 }
 
 /// A file of a command that keeps points and checks nothing.
-fn file_of_kept<'a>(grid: &'a str, points: &'a str, number: u64) -> Option<NamedFile<'a>>
+fn file_of_kept<'a>(grid: &'a str, points: &'a str, number: u64) -> Option<OpenedFile<'a>>
     ensures name { option_map (λ file. file.name.now) result ≡
         entry (grid.now ∷ (points.now ∷ [])) number }
     ensures role { option_map (λ file. file.role) result ≡
         entry (Role.Grid ∷ (Role.Points ∷ [])) number }
 {
     match number {
-        2 => Some(NamedFile {
+        2 => Some(OpenedFile {
             role: Role::Points,
             name: points,
         }),
@@ -103,7 +103,7 @@ fn file_of_kept<'a>(grid: &'a str, points: &'a str, number: u64) -> Option<Named
 }
 
 /// A file of a check of a mesh that keeps points: these come first, and then the certificate.
-fn file_of_kept_check<'a>(words: &KeptCheckWords<'a>, number: u64) -> Option<NamedFile<'a>>
+fn file_of_kept_check<'a>(words: &KeptCheckWords<'a>, number: u64) -> Option<OpenedFile<'a>>
     ensures name { option_map (λ file. file.name.now) result ≡
         entry (words.now.grid.now ∷ (words.now.points.now ∷ (words.now.certificate.now ∷ (words.now.mesh.now ∷ []))))
         number }
@@ -111,11 +111,11 @@ fn file_of_kept_check<'a>(words: &KeptCheckWords<'a>, number: u64) -> Option<Nam
         entry (Role.Grid ∷ (Role.Points ∷ (Role.Certificate ∷ (Role.Mesh ∷ [])))) number }
 {
     match number {
-        3 => Some(NamedFile {
+        3 => Some(OpenedFile {
             role: Role::Certificate,
             name: words.certificate,
         }),
-        4 => Some(NamedFile {
+        4 => Some(OpenedFile {
             role: Role::Mesh,
             name: words.mesh,
         }),
@@ -129,18 +129,18 @@ fn file_of_check<'a>(
     certificate: &'a str,
     mesh: &'a str,
     number: u64,
-) -> Option<NamedFile<'a>>
+) -> Option<OpenedFile<'a>>
     ensures name { option_map (λ file. file.name.now) result ≡
         entry (grid.now ∷ (certificate.now ∷ (mesh.now ∷ []))) number }
     ensures role { option_map (λ file. file.role) result ≡
         entry (Role.Grid ∷ (Role.Certificate ∷ (Role.Mesh ∷ []))) number }
 {
     match number {
-        2 => Some(NamedFile {
+        2 => Some(OpenedFile {
             role: Role::Certificate,
             name: certificate,
         }),
-        3 => Some(NamedFile {
+        3 => Some(OpenedFile {
             role: Role::Mesh,
             name: mesh,
         }),

@@ -1,7 +1,7 @@
 //! What is said of a file that could not be opened, read or written.
 
 use crate::note::{Failure, Step};
-use crate::opened::NamedFile;
+use crate::opened::OpenedFile;
 use crate::quoted::Quoted;
 use run_words::Role;
 use std::fmt;
@@ -10,7 +10,7 @@ use std::fmt;
 #[derive(Clone, Copy)]
 pub struct ReadFault<'a> {
     /// The file, if the words name one.
-    pub file: Option<NamedFile<'a>>,
+    pub file: Option<OpenedFile<'a>>,
     /// The call that failed, if it was noted.
     pub failure: Option<Failure>,
 }
@@ -87,7 +87,7 @@ fn verb(failure: Option<Failure>, other: &'static str) -> &'static str {
 /// Writes which file it is, if the words name one.
 fn write_file<W: fmt::Write>(
     f: &mut fmt::Formatter<W>,
-    file: Option<NamedFile<'_>>,
+    file: Option<OpenedFile<'_>>,
 ) -> fmt::Result {
     match file {
         Some(file) => write!(f, "the {} {}", noun(file.role), Quoted(file.name)),

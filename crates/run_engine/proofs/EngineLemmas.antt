@@ -23,7 +23,7 @@ use Rattle.run_laws.specs.Picture.{Picture, IsPicture, IsFrameFor, IsChangeFor, 
 use Rattle.run_laws.proofs.PictureLemmas.{of-budget}
 use Rattle.run_laws.proofs.ShownLemmas.{shown_by-none}
 use Rattle.run_laws.proofs.StepLemmas.{last_members-append}
-use Rattle.run_engine.specs.EngineSeen.{IsCarriedOut, HasFollowed}
+use Rattle.run_engine.specs.EngineSeen.{IsApplied, HasFollowed}
 use Rattle.run_engine.specs.NoteSeen.{picture_seen}
 
 -- the set of a pool
@@ -53,7 +53,7 @@ followed-begins grid spacing budget engine state most none odometer frames split
 module _ (walk : Walk) (pictures : List Picture) (old new : EngineState)
     (followed : HasFollowed walk pictures old) where
   -- a line was carried out that makes no frame
-  pub followed-line : (line : Line) → line ≢ Frame → IsCarriedOut old new line →
+  pub followed-line : (line : Line) → line ≢ Frame → IsApplied old new line →
       HasFollowed (after_line line walk) pictures new
   followed-line line other out = record {
     at_state = out.next ∙ ap (state_after line) followed.at_state;

@@ -10,7 +10,7 @@ use Rattle.frame_loop.specs.declared.note.FrameNote.{FrameNote}
 use Rattle.run_laws.specs.Walk.{Walk}
 use Rattle.run_words.specs.Words.{Show, is_of_engine}
 use Rattle.run_laws.specs.Picture.{Picture, IsPicture, last_members}
-use Rattle.run_laws.specs.Act.{Told, Stands, IsCutShort}
+use Rattle.run_laws.specs.Act.{Sinks, Stands, IsCutShort}
 use Rattle.run_laws.specs.Outcome.{picture_acts}
 use Rattle.run_words.specs.declared.showing.Showing.{Showing}
 use Rattle.run_words.specs.declared.showing.Showing.TheVariants.{Meshes, Strips, Measures}
@@ -44,7 +44,7 @@ frame-room showing old new room note lines is done strip =
     subst P (sym done.state) fits
 
 -- a frame of an engine is shown, or cut short, as the picture of the walk's state
-pub engine-takes : {T E : Type 0} (before now : Told) (showing : Showing) (old new : EngineState) (note : FrameNote)
+pub engine-takes : {T E : Type 0} (before now : Sinks) (showing : Showing) (old new : EngineState) (note : FrameNote)
     (answer : Result T E) → IsFrameDone old new note
     → OnOk answer (Stands before now (picture_acts (show_seen showing) new.frames (picture_seen new note)))
     → OnErr answer (IsCutShort before now (picture_acts (show_seen showing) new.frames (picture_seen new note)))

@@ -28,7 +28,7 @@ use Rattle.run_laws.proofs.OutcomeLemmas.{made_lines-count, made_grid-level, mad
 use Rattle.run_laws.proofs.WalkLemmas.{ArePictures-append}
 use Rattle.run_engine.specs.declared.generated.Sums.{Sums}
 use Rattle.run_engine.specs.declared.generated.TheConstants.{LINES}
-use Rattle.run_engine.specs.EngineSeen.{IsUnderLimits, IsCarriedOut, HasFollowed}
+use Rattle.run_engine.specs.EngineSeen.{IsUnderLimits, IsApplied, HasFollowed}
 use Rattle.run_engine.specs.NoteSeen.{picture_seen}
 use Rattle.run_engine.specs.SumView.{made_start, IsSumOf, HasGone, SumsUp}
 use Rattle.run_engine.proofs.EngineLemmas.{followed-line, followed-frame, picture-shown}
@@ -175,7 +175,7 @@ module _ (n seed k : ℕ) (engine : EngineState) (sums : Sums) (here : HasGone n
   module _ (new : EngineState) where
     -- so does a line that makes no frame
     gone-carried : (line : Line) → slice_get (made_lines n seed) k ≡ Some line → line ≢ Frame →
-        IsCarriedOut engine new line
+        IsApplied engine new line
         → ArePictures (as_sums n seed) [] (after_line line here.walk).frames here.pictures
         → (state_after line engine.state).grid.n ≡ n → (state_after line engine.state).grid.maxval ≡ 65535 →
         HasGone n seed (k + 1) new sums
@@ -208,7 +208,7 @@ module _ (n seed k : ℕ) (engine : EngineState) (sums : Sums) (here : HasGone n
         subst P (sym (append-nil here.walk.frames)) here.shown
 
     gone-made : (line : Line) → slice_get (made_lines n seed) k ≡ Some line → line ≢ Frame → IsMadeLine n line →
-        IsCarriedOut engine new line → HasGone n seed (k + 1) new sums
+        IsApplied engine new line → HasGone n seed (k + 1) new sums
     gone-made Blank is other made done = absurd made
     gone-made (Camera x y z) is other made done =
         gone-carried (Camera x y z) is other done still here.level here.heights
@@ -221,7 +221,7 @@ module _ (n seed k : ℕ) (engine : EngineState) (sums : Sums) (here : HasGone n
 
     pub gone-other : (line at : Line) → slice_get (made_lines n seed) k ≡ Some line → line ≢ Frame →
         line ≡ at → IsMadeLine n at
-        → IsCarriedOut engine new line → HasGone n seed (k + 1) new sums
+        → IsApplied engine new line → HasGone n seed (k + 1) new sums
     gone-other line at is other same made done =
         let P : Line → Type 0 = λ l. IsMadeLine n l in
         gone-made line is other (subst P (sym same) made) done

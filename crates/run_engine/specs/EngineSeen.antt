@@ -1,6 +1,6 @@
 -- An engine in the words of a run: what is seen of it at the end, what a line does to it, and how it follows a walk.
 -- All of it is this project's own.
--- Words: engine_seen, IsUnderLimits, IsCarriedOut, HasFollowed.
+-- Words: engine_seen, IsUnderLimits, IsApplied, HasFollowed.
 use Rattle.std.specs.Prelude.{◌≡◌, ◌+◌, ◌^◌, ◌≤◌, List, [], length, sum_by}
 use Rattle.view_priority.specs.Camera.{IsCamera}
 use Rattle.roam_mesh.specs.Mesh.{pool_members}
@@ -31,7 +31,7 @@ pub record IsUnderLimits (engine : EngineState) (limits : Limits) : Type 0 where
 
 -- A line that makes no frame was carried out: the state is the next one, the camera went the line's way, which is
 -- short, and mesh, counts and greatest budget are as before.
-pub record IsCarriedOut (old new : EngineState) (line : Line) : Type 0 where
+pub record IsApplied (old new : EngineState) (line : Line) : Type 0 where
   pub next : new.state ≡ state_after line old.state
   pub greatest : new.most ≡ old.most
   pub gone : new.odometer ≡ old.odometer + way_of line old.state

@@ -9,7 +9,7 @@ ghost use Rattle.run_words.specs.Words.{OnGrid, Make};
 ghost use Rattle.run_laws.specs.Certify.{IsMade, makes_at};
 ghost use Rattle.frame_loop.specs.Engine.{mesh_seen};
 ghost use Rattle.run_words.specs.CertifyView.{making_seen, AreInBounds};
-ghost use Rattle.run_laws.specs.Leaving.{Runs, TellsLast};
+ghost use Rattle.run_laws.specs.Leaving.{RunsCommand, TellsLast};
 
 use cert_text::Cert;
 use frame_loop::Engine;
@@ -27,7 +27,7 @@ pub fn run_make<O: Outside>(alloc: Global, words: &MakeWords<'_>, outside: &mut 
     requires opens { (O.moment outside.old).shelf.opens ≤ 2 ^ 63 }
     requires bounds { AreInBounds words.now.budget words.now.spacing }
     ensures same { O.is_same outside.old outside.new }
-    ensures runs { Runs (O.moment outside.old) (O.moment outside.new)
+    ensures runs { RunsCommand (O.moment outside.old) (O.moment outside.new)
         (Some (OnGrid words.now.grid.now (Make (making_seen words.now)))) result None }
 {
     match grid_or_end(alloc, words.grid, outside) {

@@ -10,7 +10,7 @@ ghost use Rattle.run_engine.specs.EngineFrames.{IsEngineReady, IsUnderEngine, En
 ghost use Rattle.run_words.specs.ShowView.{show_seen, IsShowing};
 ghost use Rattle.run_engine.specs.ShowView.{is_strip};
 
-use crate::carry::carry_out;
+use crate::applying::apply_line;
 use crate::frame::show_frame;
 use bintree_addr::Tri;
 use frame_loop::Engine;
@@ -79,8 +79,8 @@ impl<'a> FrameMaker for EngineFrames<'a> {
         }
     }
 
-    fn carry_out(&mut self, line: Line) {
-        carry_out(&mut self.engine, line);
+    fn apply_line(&mut self, line: Line) {
+        apply_line(&mut self.engine, line);
     }
 
     fn take_frame<O: Outside>(&mut self, outside: &mut O) -> Result<(), Failed> {

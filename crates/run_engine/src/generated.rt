@@ -5,7 +5,7 @@ ghost use Rattle.mesh_defs.specs.declared.level.TheConstants.{GREATEST_FILE_LEVE
 ghost use Rattle.run_engine.specs.declared.generated.TheConstants.{LINES};
 ghost use Rattle.run_engine.specs.SumView.{IsSumOf, HasGone, SumsUp};
 
-use crate::carry::carry_out;
+use crate::applying::apply_line;
 use frame_loop::{Engine, FrameNote};
 use roam_edge::NoMemory;
 use roam_gen::{gen_grid, gen_line, generator_laws};
@@ -94,6 +94,6 @@ fn take_line(n: u32, seed: u32, k: u32, engine: &mut Engine, sums: &mut Sums)
     generator_laws();
     match gen_line(n, seed, k + 1) {
         Line::Frame => sums.add(&engine.frame()),
-        line => carry_out(engine, line),
+        line => apply_line(engine, line),
     }
 }

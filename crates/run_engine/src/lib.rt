@@ -8,7 +8,7 @@
 
 #![tactic(auto)]
 
-mod carry;
+mod applying;
 mod certify;
 mod engine_frames;
 mod frame;

@@ -10,7 +10,7 @@ ghost use Rattle.run_laws.specs.Promise.{HasEnded, HasReadHeader, IsUndecided};
 ghost use Rattle.run_laws.specs.FileStop.{StopsReading};
 ghost use Rattle.run_words.specs.Words.{Job, OnGrid};
 ghost use Rattle.run_laws.specs.Moment.{OnlyReads};
-ghost use Rattle.run_laws.specs.Leaving.{Runs, ReadsGrid};
+ghost use Rattle.run_laws.specs.Leaving.{RunsCommand, ReadsGrid};
 ghost use Rattle.run_files.specs.GridStop.{stop_for};
 
 use crate::end::end_with_text;
@@ -92,7 +92,7 @@ pub fn grid_or_end<O: Outside>(alloc: Global, name: &str, outside: &mut O) -> Re
     ensures ok { IfOk result (λ grid. ReadsGrid (O.moment outside.old) (O.moment outside.new) name.now grid) }
     ensures level { IfOk result (λ grid. grid.n ≤ GREATEST_FILE_LEVEL) }
     ensures err { IfErr result (λ status. (job : Job) →
-        Runs (O.moment outside.old) (O.moment outside.new) (Some (OnGrid name.now job)) status None) }
+        RunsCommand (O.moment outside.old) (O.moment outside.new) (Some (OnGrid name.now job)) status None) }
 {
     match read_grid(alloc, name, outside) {
         Ok(grid) => Ok(grid),

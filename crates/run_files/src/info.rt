@@ -5,7 +5,7 @@ ghost use Rattle.mesh_defs.specs.BoundingBox.{least, greatest};
 ghost use Rattle.mesh_defs.specs.Thickness.{thickness_of};
 ghost use Rattle.run_words.specs.Words.{OnGrid, Facts};
 ghost use Rattle.run_laws.specs.ReportText.{info_line};
-ghost use Rattle.run_laws.specs.Leaving.{Runs};
+ghost use Rattle.run_laws.specs.Leaving.{RunsCommand};
 
 use crate::end::end_with_text;
 use crate::grid_file::grid_or_end;
@@ -25,7 +25,8 @@ use wedgie_tree::Wedges;
 pub fn run_info<O: Outside>(alloc: Global, name: &str, outside: &mut O) -> Status
     requires opens { (O.moment outside.old).shelf.opens ≤ 2 ^ 63 }
     ensures same { O.is_same outside.old outside.new }
-    ensures runs { Runs (O.moment outside.old) (O.moment outside.new) (Some (OnGrid name.now Facts)) result None }
+    ensures runs { RunsCommand (O.moment outside.old) (O.moment outside.new)
+        (Some (OnGrid name.now Facts)) result None }
 {
     match grid_or_end(alloc, name, outside) {
         Ok(grid) => match Wedges::build(alloc, grid) {

@@ -35,8 +35,8 @@ pub trait FrameMaker {
         ensures line { result.line ≡ lines + 1 }
         ensures level { result.n ≤ GREATEST_LEVEL };
 
-    /// Carries out a line that makes no frame.
-    fn carry_out(&mut self, line: Line)
+    /// Applies a line that makes no frame.
+    fn apply_line(&mut self, line: Line)
         requires other { line ≢ Line.Frame }
         requires ready { (lines : ℕ) × is_ready self.old lines × (lines < MOST_LINES) }
         requires ranges { (limits : LimitsSeen) × is_under self.old limits × LiesInRange limits line }

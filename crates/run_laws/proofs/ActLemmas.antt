@@ -3,7 +3,8 @@ use Rattle.std.proofs.Common.{◌≡◌, ℕ, true, List, [], ◌∷◌, ◌++�
 use Rattle.std.proofs.Common.{◌∙◌, ap, subst, append_assoc, append-nil}
 use Rattle.roam_edge.specs.Fault.{Rose}
 use Rattle.obj_write.specs.Written.{mesh_with, Grows}
-use Rattle.run_laws.specs.Act.{Act, WholeMesh, ReportText, Told, Stands, IsCutShort, StandsInPart, meshes_of, report_of}
+use Rattle.run_laws.specs.Act.{Act, WholeMesh, ReportText, Sinks, Stands, IsCutShort, StandsInPart, meshes_of}
+use Rattle.run_laws.specs.Act.{report_of}
 
 -- a count that rose from a later moment on rose from the first one on, if it was the same
 rose-since : (before middle now : ℕ) → middle ≡ before → Rose middle now → Rose before now
@@ -36,7 +37,7 @@ report_of-append (ReportText bytes ∷ first) second =
     ap (λ m. bytes ++ m) (report_of-append first second) ∙ sym (append_assoc bytes (report_of first) (report_of second))
 
 -- no act was done
-pub stands-nothing : (before : Told) → Stands before before []
+pub stands-nothing : (before : Sinks) → Stands before before []
 stands-nothing before =
     record {
       meshes_grow = grows-nothing before.meshes;
@@ -46,7 +47,7 @@ stands-nothing before =
     }
 
 -- acts were done, and then others
-pub stands-append : (before middle now : Told) (first second : List Act)
+pub stands-append : (before middle now : Sinks) (first second : List Act)
     → Stands before middle first → Stands middle now second → Stands before now (first ++ second)
 stands-append before middle now first second one two = record {
   meshes_grow = rw (meshes_of-append first second) (grows-append before.meshes middle.meshes now.meshes
@@ -58,7 +59,7 @@ stands-append before middle now first second one two = record {
 }
 
 -- acts were done, and then an act in part
-pub part-append : (before middle now : Told) (first done : List Act) (next : Act)
+pub part-append : (before middle now : Sinks) (first done : List Act) (next : Act)
     → Stands before middle first → StandsInPart middle now done next → StandsInPart before now (first ++ done) next
 part-append before middle now first done (WholeMesh prefix number bytes) one part = (
   λ all is.
@@ -90,7 +91,7 @@ part-append before middle now first done (ReportText bytes) one part = (
 )
 
 -- acts were done, and then others were cut short
-pub cut-append : (before middle now : Told) (first second : List Act)
+pub cut-append : (before middle now : Sinks) (first second : List Act)
     → Stands before middle first → IsCutShort middle now second → IsCutShort before now (first ++ second)
 cut-append before middle now first second one cut = record {
   done = first ++ cut.done;
@@ -101,7 +102,7 @@ cut-append before middle now first second one cut = record {
 }
 
 -- acts were cut short, and more were owed behind them
-pub cut-longer : (before now : Told) (acts more : List Act) → IsCutShort before now acts →
+pub cut-longer : (before now : Sinks) (acts more : List Act) → IsCutShort before now acts →
     IsCutShort before now (acts ++ more)
 cut-longer before now acts more cut = record {
   done = cut.done;

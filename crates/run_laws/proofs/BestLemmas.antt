@@ -19,11 +19,11 @@ use Rattle.run_laws.specs.declared.status.Status.TheVariants.{ReadFault, WriteFa
 use Rattle.run_laws.specs.Walk.{Walk, start_walk, walk_of}
 use Rattle.run_words.specs.Words.{Scripted, Checking, Frames, Check, Command, OnGrid, prefix_of, command_of}
 use Rattle.run_laws.specs.CertFile.{cert_in}
-use Rattle.run_laws.specs.Act.{Act, Told, Stands, report_of}
+use Rattle.run_laws.specs.Act.{Act, Sinks, Stands, report_of}
 use Rattle.run_laws.specs.Picture.{Picture, ArePictures}
 use Rattle.run_laws.specs.Outcome.{Outcome, shown_acts, script_walk, IsFramesOutcome, IsCheckOutcome, IsGridOutcome}
 use Rattle.run_laws.specs.Outcome.{IsOutcome}
-use Rattle.run_laws.specs.Promise.{Seen, is_complete, ends_script, EndsRight, ScriptHasRead, FileReadFault}
+use Rattle.run_laws.specs.Promise.{ShelfState, is_complete, ends_script, EndsRight, ScriptHasRead, FileReadFault}
 use Rattle.run_laws.specs.Promise.{LeavesAtReadFault, LeavesAtNoMemory}
 use Rattle.run_laws.specs.Headline.{IsRunOf, KeepsGoodMeshes, IsCertifiedMesh}
 use Rattle.run_laws.specs.Laws.{AreStates, BudgetsAreTwo}
@@ -42,7 +42,8 @@ same-grid answer g h one two = cc
 
 module _ (best : FramesAreBest) (two : BudgetsAreTwo) (read_texts : TextsAreRead) (words : List (List ℕ))
     (files : List NamedFile) (s : Scripted) (grid : HeightField)
-    (run : IsRunOf words files (Frames s) grid) (shown : IsSome (prefix_of s.show)) (before now : Told) (old new : Seen)
+    (run : IsRunOf words files (Frames s) grid) (shown : IsSome (prefix_of s.show)) (before now : Sinks)
+    (old new : ShelfState)
     (all : List WrittenMesh)
     (told : old.files ≡ Some files) (there : before.meshes ≡ Some all) where
   abbrev script : List ℕ
@@ -144,7 +145,7 @@ module _ (best : FramesAreBest) (two : BudgetsAreTwo) (read_texts : TextsAreRead
 module _ (falling : (n : ℕ) (heights : List ℕ) (view : View) → IsFalling n (priority_of n heights view))
     (read_texts : TextsAreRead) (words : List (List ℕ)) (files : List NamedFile)
     (c : Checking) (grid : HeightField) (is : IsRunOf words files (Check c) grid)
-    (before now : Told) (old new : Seen) where
+    (before now : Sinks) (old new : ShelfState) where
   -- the outcome of the words is that of the check
   check-outcome : (end : Outcome) → IsOutcome (command_of words) files end →
       IsCheckOutcome c grid (cert_in grid.n (bytes_of files c.certificate)) (bytes_of files c.mesh) end

@@ -16,7 +16,7 @@ use Rattle.run_laws.specs.declared.status.Status.{Status}
 use Rattle.run_laws.specs.declared.status.Status.TheVariants.{NoMemory, ReadFault, WriteFault}
 use Rattle.run_laws.specs.Walk.{Refusal}
 use Rattle.run_words.specs.Words.{Criterion, TriangleOrder, Output, Meshes, Measures, Sums, Show, Frames, Command}
-use Rattle.run_laws.specs.Act.{Act, WholeMesh, ReportText, Told, StandsInPart, IsCutShort, meshes_of, report_of}
+use Rattle.run_laws.specs.Act.{Act, WholeMesh, ReportText, Sinks, StandsInPart, IsCutShort, meshes_of, report_of}
 use Rattle.run_laws.specs.Picture.{Picture, shown_triangles}
 use Rattle.run_laws.specs.Outcome.{Outcome, picture_acts, shown_acts, sum_acts, stop_acts, script_walk, IsFramesOutcome}
 use Rattle.run_laws.specs.Outcome.{IsGridOutcome, IsOutcome}
@@ -119,7 +119,7 @@ cut_at show k (p ∷ ps) behind done next owed same =
 some-one : {A : Type 0} (a b : A) → Some a ≡ Some b → a ≡ b
 some-one a b same = cc
 
-mesh_cases : (before now : Told) (acts : List Act) (prefix : List ℕ) (number : ℕ) (bytes : List ℕ)
+mesh_cases : (before now : Sinks) (acts : List Act) (prefix : List ℕ) (number : ℕ) (bytes : List ℕ)
     (meshes : Option (List WrittenMesh)) → before.meshes ≡ meshes
     → StandsInPart before now acts (WholeMesh prefix number bytes) → StandsUnbegun before now acts
     ⊎ StandsInMesh before now acts prefix number bytes
@@ -133,7 +133,7 @@ mesh_cases before now acts prefix number bytes (Some known) is part =
     let stood = part.0 known is in
     mesh_cases_of before now acts prefix number bytes known is part.1 part.2 part.3 stood.0 stood.1 stood.2
   where
-    mesh_cases_of : (before now : Told) (acts : List Act) (prefix : List ℕ) (number : ℕ) (bytes : List ℕ)
+    mesh_cases_of : (before now : Sinks) (acts : List Act) (prefix : List ℕ) (number : ℕ) (bytes : List ℕ)
         (known : List WrittenMesh) → before.meshes ≡ Some known
         → ((all : List ℕ) → before.report ≡ Some all → now.report ≡ Some (all ++ report_of acts))
         → Rose before.mesh_faults now.mesh_faults → now.report_faults ≡ before.report_faults →
@@ -165,12 +165,12 @@ mesh_cases before now acts prefix number bytes (Some known) is part =
           report_same = same_report;
         })
 
-text_case : (before now : Told) (acts : List Act) (bytes : List ℕ) → StandsInPart before now acts (ReportText bytes) →
+text_case : (before now : Sinks) (acts : List Act) (bytes : List ℕ) → StandsInPart before now acts (ReportText bytes) →
     StandsInText before now acts bytes
 text_case before now acts bytes part = record { meshes = part.0; report = part.1; failed = part.2; mesh_same = part.3 }
 
 -- one text was cut short behind some acts
-text_cut : (before now : Told) (acts : List Act) (bytes : List ℕ) (mine : List Act) (next : Act) (owed : List Act) →
+text_cut : (before now : Sinks) (acts : List Act) (bytes : List ℕ) (mine : List Act) (next : Act) (owed : List Act) →
     ReportText bytes ∷ [] ≡ mine ++ next ∷ owed
     → StandsInPart before now (acts ++ mine) next → StandsInText before now acts bytes
 text_cut before now acts bytes [] next owed same part =
@@ -180,7 +180,7 @@ text_cut before now acts bytes [] next owed same part =
 text_cut before now acts bytes (d ∷ mine) next owed same part = absurd (not-empty mine next owed (tails _ _ _ _ same))
 
 -- a mesh and a text behind it were cut short behind some acts
-pub mesh_cut : (before now : Told) (acts : List Act) (prefix : List ℕ) (number : ℕ) (bytes line : List ℕ)
+pub mesh_cut : (before now : Sinks) (acts : List Act) (prefix : List ℕ) (number : ℕ) (bytes line : List ℕ)
     (mine : List Act) (next : Act) (owed : List Act)
     → WholeMesh prefix number bytes ∷ (ReportText line ∷ []) ≡ mine ++ next ∷ owed →
     StandsInPart before now (acts ++ mine) next
@@ -202,7 +202,7 @@ mesh_cut before now acts prefix number bytes line (d ∷ mine) next owed same pa
     ∙ sym (append_assoc acts (WholeMesh prefix number bytes ∷ []) mine)) part)))
 
 -- the same, with the prefix that is shown
-with_prefix : (before now : Told) (acts : List Act) (prefix : List ℕ) (shown : Option (List ℕ)) (number : ℕ)
+with_prefix : (before now : Sinks) (acts : List Act) (prefix : List ℕ) (shown : Option (List ℕ)) (number : ℕ)
     (bytes line : List ℕ) → shown ≡ Some prefix
     → StandsUnbegun before now acts ⊎ StandsInMesh before now acts prefix number bytes ⊎ StandsInText before now
     (acts ++ WholeMesh prefix number bytes ∷ []) line
@@ -214,7 +214,7 @@ with_prefix before now acts prefix shown number bytes line is (inr (inl some)) =
 with_prefix before now acts prefix shown number bytes line is (inr (inr text)) = inr text
 
 -- the acts of a frame were cut short behind those of the frames before it
-frame_cut : (before now : Told) (acts : List Act) (show : Show) (number : ℕ) (picture : Picture) (mine : List Act)
+frame_cut : (before now : Sinks) (acts : List Act) (show : Show) (number : ℕ) (picture : Picture) (mine : List Act)
     (next : Act) (owed : List Act)
     → picture_acts show number picture ≡ mine ++ next ∷ owed → StandsInPart before now (acts ++ mine) next
     → IsCutInMesh before now acts show number picture ⊎ IsCutInLine before now acts show number picture
@@ -322,7 +322,7 @@ write_faults read before now old new words files s grid status ends failed run b
 not-rose : (old new : ℕ) → old < 2 ^ 64 - 1 → new ≡ old → Rose old new → ⊥
 not-rose old new low same rose = omega (arith, rose, same, low)
 
-module _ (before now : Told) (show : Show) (acts : List Act) (number : ℕ) (picture : Picture) where
+module _ (before now : Sinks) (show : Show) (acts : List Act) (number : ℕ) (picture : Picture) where
   -- no mesh was cut short where the meshes did not fail
   mesh-failed : before.mesh_faults < 2 ^ 64 - 1 → now.mesh_faults ≡ before.mesh_faults →
       IsCutInMesh before now acts show number picture → ⊥

@@ -7,7 +7,7 @@ use Rattle.roam_edge.specs.Sink.{Appends}
 use Rattle.obj_write.specs.Written.{mesh_with, Grows, IsPartOfMesh}
 use Rattle.run_laws.specs.declared.status.Status.{Status}
 use Rattle.run_laws.specs.declared.status.Status.TheVariants.{WriteFault}
-use Rattle.run_laws.specs.Act.{Act, WholeMesh, ReportText, Told, meshes_of}
+use Rattle.run_laws.specs.Act.{Act, WholeMesh, ReportText, Sinks, meshes_of}
 use Rattle.run_laws.specs.Cause.{NoFault, WritesHaveCause}
 use Rattle.run_laws.specs.Promise.{is_complete}
 use Rattle.run_laws.specs.Moment.{Moment, OnlyWrites, Does, SameMeshes}
@@ -133,7 +133,7 @@ does-mesh before now prefix number bytes (Err error) shelf idle report faults la
     }
 
 -- faults of one call behind another that did not fail
-causes-then : {U G : Type 0} (before middle now : Told) (answer : Result U G) →
+causes-then : {U G : Type 0} (before middle now : Sinks) (answer : Result U G) →
     NoFault before.mesh_faults middle.mesh_faults before.report_faults middle.report_faults
     → WritesHaveCause middle.mesh_faults now.mesh_faults middle.report_faults now.report_faults answer
     → WritesHaveCause before.mesh_faults now.mesh_faults before.report_faults now.report_faults answer

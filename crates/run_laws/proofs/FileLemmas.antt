@@ -6,7 +6,7 @@ use Rattle.std.proofs.Math.Seq.{take-append_seam}
 use Rattle.std.proofs.lemmas.List.{take-append-drop, take_more, length-take-le}
 use Rattle.roam_edge.specs.Shelf.{NamedFile, bytes_of}
 use Rattle.roam_edge.specs.Told.{StaysTold}
-use Rattle.run_laws.specs.Promise.{seen, HasEnded}
+use Rattle.run_laws.specs.Promise.{shelf_state, HasEnded}
 use Rattle.run_laws.specs.FileStop.{StopsReading}
 
 -- where the shelf tells its files, these bytes are the first of the named file, whose other bytes are unread
@@ -92,7 +92,7 @@ nothing-told (Some bytes) rest' stays left unread is = same-unread unread [] (sy
 pub has-ended : (files : Option (List NamedFile)) (rest rest' : Option (List ℕ)) (opens : ℕ) (ended : Bool) →
     ended ≡ true → StaysTold rest rest'
     → ((all : List NamedFile) → files ≡ Some all → (unread : List ℕ) × (rest ≡ Some unread))
-    → ((unread : List ℕ) → rest ≡ Some unread → rest' ≡ Some []) → HasEnded (seen files rest' opens ended)
+    → ((unread : List ℕ) → rest ≡ Some unread → rest' ≡ Some []) → HasEnded (shelf_state files rest' opens ended)
 has-ended files rest rest' opens ended at_end stays told left = record {
   at_end = at_end;
   nothing_left = λ all is. (let here = told all is in left here.0 here.1);
@@ -185,7 +185,8 @@ module _ {holds : List ℕ → Type 0} {files : Option (List NamedFile)} {rest :
   pub read-ended : {V E : Type 0} (answer : Result V E) (files' : Option (List NamedFile)) (rest' : Option (List ℕ))
       (opens count : ℕ) (ended : Bool) → files' ≡ files → count ≡ 0 → ended ≡ true → StaysTold rest rest'
       → ((unread : List ℕ) → rest ≡ Some unread → rest' ≡ Some (drop count unread))
-      → ((unread : List ℕ) → rest ≡ Some unread → unread ≡ []) → OnOk answer (HasEnded (seen files' rest' opens ended))
+      → ((unread : List ℕ) → rest ≡ Some unread → unread ≡ [])
+      → OnOk answer (HasEnded (shelf_state files' rest' opens ended))
   read-ended (Err error) files' rest' opens count ended same none at_end stays takes nothing = tt
   read-ended (Ok value) files' rest' opens count ended same none at_end stays takes nothing =
       has-ended files' rest rest' opens ended at_end stays

@@ -9,7 +9,7 @@ use Rattle.pgm_grid.specs.Laws.{TextsAreRead}
 use Rattle.fit_laws.specs.PlaneHeight.{deviation_of}
 use Rattle.obj_write.specs.Written.{Grows}
 use Rattle.certificate_laws.specs.declared.reason.Reject.TheVariants.{BadLine, MeshDiffers}
-use Rattle.certificate_laws.specs.declared.fit_reason.Target.{Target as Goal}
+use Rattle.certificate_laws.specs.declared.fit_reason.Target.{Target}
 use Rattle.certificate_laws.specs.declared.fit_reason.FitVerdict.{FitVerdict}
 use Rattle.certificate_laws.specs.declared.fit_reason.FitVerdict.TheVariants as verdict
 use Rattle.certificate_laws.specs.FitCertificate.{FitCertificate, IsVerdictOf, IsFitSound}
@@ -20,20 +20,20 @@ use Rattle.certificate_laws.proofs.FoundLemmas.{sound_found}
 use Rattle.cert_text.specs.FitCertText.{fit_cert_text}
 use Rattle.run_laws.specs.declared.status.Status.{Status}
 use Rattle.run_laws.specs.declared.status.Status.TheVariants.{Done, NoMemory, ReadFault, Rejected}
-use Rattle.run_words.specs.Words.{Target, AtError, InBudget, FitMaking, FitChecking, CheckFit, Command, command_of}
+use Rattle.run_words.specs.Words.{Goal, AtError, InBudget, FitMaking, FitChecking, CheckFit, Command, command_of}
 use Rattle.run_words.specs.Words.{MakeFit, Job}
 use Rattle.run_laws.specs.CertFile.{fit_cert_in}
 use Rattle.run_laws.specs.Certify.{IsFitMade}
-use Rattle.run_laws.specs.Fit.{goal_of, IsFitFor, IsBestFit, fit_text}
-use Rattle.run_laws.specs.Act.{Told, Stands, report_of}
+use Rattle.run_laws.specs.Fit.{target_of, IsFitFor, IsBestFit, fit_text}
+use Rattle.run_laws.specs.Act.{Sinks, Stands, report_of}
 use Rattle.run_laws.specs.ReportText.{certified_fit_line, fit_rejection, rejection}
 use Rattle.run_laws.specs.Outcome.{Outcome, text_outcome, IsJobOutcome, IsCompared, IsFitVerdictOutcome}
 use Rattle.run_laws.specs.Outcome.{IsFitCheckOutcome, IsGridOutcome, IsOutcome}
-use Rattle.run_laws.specs.Promise.{Seen, is_complete, EndsRight, IsAcceptedFitCheck}
+use Rattle.run_laws.specs.Promise.{ShelfState, is_complete, EndsRight, IsAcceptedFitCheck}
 use Rattle.run_laws.specs.Headline.{IsRunOf, IsCertifiedAs, IsCertifiedFit}
 use Rattle.run_laws.proofs.DifferenceLemmas.{difference-same}
 use Rattle.run_laws.proofs.CertifyLemmas.{IsOneText, compared-text, compared-unique, compared-exists, not-done}
-use Rattle.run_laws.proofs.FitLemmas.{IsTargetOfWords, fit-best}
+use Rattle.run_laws.proofs.FitLemmas.{IsGoalOfWords, fit-best}
 
 -- one text, and then the end
 
@@ -112,22 +112,22 @@ judged-exists files spacing grid holds found (Err line) mesh =
 
 -- a certificate can be made
 
-possible : (n : ℕ) (target : Target) → IsTargetOfWords target → IsPossible (goal_of n target)
+possible : (n : ℕ) (goal : Goal) → IsGoalOfWords goal → IsPossible (target_of n goal)
 possible n (AtError thousandths) within = tt
 possible n (InBudget budget) two = two
 
--- making a certificate of a fitted mesh has an outcome, where words may say the target
-pub fit_make-exists : (m : FitMaking) (grid : HeightField) (files : List NamedFile) → IsTargetOfWords m.target →
+-- making a certificate of a fitted mesh has an outcome, where words may say the goal
+pub fit_make-exists : (m : FitMaking) (grid : HeightField) (files : List NamedFile) → IsGoalOfWords m.goal →
     (end : Outcome) × IsJobOutcome (MakeFit m) grid files end
 fit_make-exists m grid files two =
-    let goal : Goal = goal_of grid.n m.target in
-    let found = sound_found grid.n grid.heights goal (possible grid.n m.target two) in
+    let target : Target = target_of grid.n m.goal in
+    let found = sound_found grid.n grid.heights target (possible grid.n m.goal two) in
     let made : IsFitMade m grid found.0 =
     record {
       triangles = found.1;
       sound = found.2;
       behind = found.3;
-      few = sound-few grid.n grid.heights goal found.0 found.1 found.2;
+      few = sound-few grid.n grid.heights target found.0 found.1 found.2;
     } in
     (text_outcome (fit_cert_text found.0) Done 1, (found.0, made, refl))
 
@@ -162,21 +162,21 @@ judged-done files spacing grid holds cert one triangles mesh count deviation end
 -- a check by a certificate of a fitted mesh
 
 -- the verdict on a certificate of a fitted mesh is one
-fit-one : (grid : HeightField) (goal : Goal) (cert : FitCertificate) →
-    IsOneVerdict (IsVerdictOf grid.n grid.heights goal cert)
-fit-one grid goal cert is other triangles others v w =
-    let Holds : FitVerdict → List ℕ → Type 0 = λ v l. IsVerdictOf grid.n grid.heights goal cert v l in
-    let same = verdict_one grid.n grid.heights goal cert other is
-    (verdict-is grid.n grid.heights goal cert other others w)
-    (verdict-is grid.n grid.heights goal cert is triangles v) in (
+fit-one : (grid : HeightField) (target : Target) (cert : FitCertificate) →
+    IsOneVerdict (IsVerdictOf grid.n grid.heights target cert)
+fit-one grid target cert is other triangles others v w =
+    let Holds : FitVerdict → List ℕ → Type 0 = λ v l. IsVerdictOf grid.n grid.heights target cert v l in
+    let same = verdict_one grid.n grid.heights target cert other is
+    (verdict-is grid.n grid.heights target cert other others w)
+    (verdict-is grid.n grid.heights target cert is triangles v) in (
       same,
-      λ count deviation certified. mesh_one grid.n grid.heights goal cert others triangles
+      λ count deviation certified. mesh_one grid.n grid.heights target cert others triangles
           (subst (λ v. Holds v others) (same ∙ certified) w).0 (subst (λ v. Holds v triangles) certified v).0,
     )
 
 module _ (c : FitChecking) (grid : HeightField) (files : List NamedFile) where
   abbrev Holds : FitCertificate → FitVerdict → List ℕ → Type 0
-  Holds cert is triangles = IsVerdictOf grid.n grid.heights (goal_of grid.n c.target) cert is triangles
+  Holds cert is triangles = IsVerdictOf grid.n grid.heights (target_of grid.n c.goal) cert is triangles
 
   abbrev the-cert : Result FitCertificate ℕ
   the-cert = fit_cert_in grid.n (bytes_of files c.certificate)
@@ -192,27 +192,27 @@ module _ (c : FitChecking) (grid : HeightField) (files : List NamedFile) where
   pub fit_check-unique : (end other : Outcome) → IsJobOutcome (CheckFit c) grid files end
       → IsJobOutcome (CheckFit c) grid files other → end ≡ other
   fit_check-unique end other f g =
-      judged-unique FitCertificate 2 c.spacing grid Holds (fit-one grid (goal_of grid.n c.target)) the-cert the-mesh end
+      judged-unique FitCertificate 2 c.spacing grid Holds (fit-one grid (target_of grid.n c.goal)) the-cert the-mesh end
       other f g
 
   -- and it has one
   pub fit_check-exists : (end : Outcome) × IsJobOutcome (CheckFit c) grid files end
   fit_check-exists = judged-exists 2 c.spacing grid Holds
-      (λ cert. verdict_found grid.n grid.heights (goal_of grid.n c.target) cert) the-cert the-mesh
+      (λ cert. verdict_found grid.n grid.heights (target_of grid.n c.goal) cert) the-cert the-mesh
 
   -- of a faultless certificate and of the text of its triangles it ends with Done
   pub fit_check-done : (end : Outcome) → IsAcceptedFitCheck c grid files → IsJobOutcome (CheckFit c) grid files end
       → end.status ≡ Done
   fit_check-done end (cert, triangles, read, sound, same) is =
-      judged-done 2 c.spacing grid Holds cert (fit-one grid (goal_of grid.n c.target) cert) triangles the-mesh
+      judged-done 2 c.spacing grid Holds cert (fit-one grid (target_of grid.n c.goal) cert) triangles the-mesh
       (length triangles) (deviation_of grid.n grid.heights triangles) end (sound, refl, refl) same
       (subst (λ (r : Result FitCertificate ℕ). IsFitCheckOutcome 2 c.spacing grid Holds r the-mesh end) read is)
 
 -- the mesh of a check that is done
 
 -- a sound certificate is of the mesh of its target
-pub sound-fits : (target : Target) (grid : HeightField) (cert : FitCertificate) (triangles : List ℕ)
-    → IsFitSound grid.n grid.heights (goal_of grid.n target) cert triangles → IsFitFor target grid triangles
+pub sound-fits : (goal : Goal) (grid : HeightField) (cert : FitCertificate) (triangles : List ℕ)
+    → IsFitSound grid.n grid.heights (target_of grid.n goal) cert triangles → IsFitFor goal grid triangles
 sound-fits (AtError thousandths) grid cert triangles sound = sound-error grid.n grid.heights _ cert triangles sound
 sound-fits (InBudget budget) grid cert triangles sound = sound-budget grid.n grid.heights budget cert triangles sound
 
@@ -265,7 +265,7 @@ module _ (files spacing : ℕ) (grid : HeightField) (is_best is_fit : List ℕ �
 -- where it is done, the report got its line
 
 -- its line stands, and it certifies the mesh
-line-stands : (before now : Told) (files : ℕ) (certified : List ℕ → Type 0) (end : Outcome) →
+line-stands : (before now : Sinks) (files : ℕ) (certified : List ℕ → Type 0) (end : Outcome) →
     Stands before now end.acts → CertifiesAs files certified end
     → (line : List ℕ) × Grows before.report now.report line × certified line
 line-stands before now files certified end stands certifies = (
@@ -286,7 +286,7 @@ job-outcome read_texts words files job grid run end is =
 
 module _ (read_texts : TextsAreRead) (words : List (List ℕ)) (files : List NamedFile) (job : Job)
     (grid : HeightField) (is : IsRunOf words files job grid)
-    (before now : Told) (old new : Seen) (count : ℕ) (certified : List ℕ → Type 0)
+    (before now : Sinks) (old new : ShelfState) (count : ℕ) (certified : List ℕ → Type 0)
     (certifies : (end : Outcome) → end.status ≡ Done → IsJobOutcome job grid files end →
     CertifiesAs count certified end) where
   done-certified : (status : Status) → IsTrue (is_complete status) → EndsRight before now old new words files status →
@@ -306,15 +306,15 @@ module _ (read_texts : TextsAreRead) (words : List (List ℕ)) (files : List Nam
 
 -- where a check of a fitted mesh is done, the report got one line, by which its mesh is certified
 pub fit_mesh-certified : TextsAreRead → (words : List (List ℕ)) (files : List NamedFile) (c : FitChecking)
-    (grid : HeightField) (is : IsRunOf words files (CheckFit c) grid) (before now : Told) (old new : Seen)
+    (grid : HeightField) (is : IsRunOf words files (CheckFit c) grid) (before now : Sinks) (old new : ShelfState)
     (status : Status) → EndsRight before now old new words files status → status ≡ Done
     → (line : List ℕ) × Grows before.report now.report line × IsCertifiedFit c grid (bytes_of files c.mesh) line
 fit_mesh-certified read_texts words files c grid is before now old new =
     mesh-certified read_texts words files (CheckFit c) grid is before now old new 3
     (λ line. IsCertifiedFit c grid (bytes_of files c.mesh) line)
-    (λ end done of. judged-certifies 2 c.spacing grid (IsBestFit c.target grid) (IsFitFor c.target grid)
+    (λ end done of. judged-certifies 2 c.spacing grid (IsBestFit c.goal grid) (IsFitFor c.goal grid)
     (bytes_of files c.mesh) end done (Holds c grid files)
     (λ cert triangles count deviation v.
-    let fit : IsFitFor c.target grid triangles = sound-fits c.target grid cert triangles v.0 in
-    (fit-best c.target grid triangles fit, fit, v.1, v.2))
+    let fit : IsFitFor c.goal grid triangles = sound-fits c.goal grid cert triangles v.0 in
+    (fit-best c.goal grid triangles fit, fit, v.1, v.2))
     (fit_cert_in grid.n (bytes_of files c.certificate)) of)

@@ -1,4 +1,4 @@
--- Meshes that are fitted: the tolerance is exact, there is one mesh for each target, and it is a best one.
+-- Meshes that are fitted: the tolerance is exact, there is one mesh for each goal, and it is a best one.
 use Rattle.std.proofs.Common.{◌≡◌, ℕ, ◌≤◌, ◌*◌, ◌^◌, List, refl, sym, ◌∙◌, ap, subst, arith}
 use Rattle.std.proofs.Math.Nat.{le-div_iff_mul-le}
 use Rattle.roam_edge.specs.Shelf.{NamedFile}
@@ -13,7 +13,7 @@ use Rattle.fit_laws.proofs.BudgetLemmas.{budget_found}
 use Rattle.fit_laws.proofs.ErrorLemmas.{error-finest, worst-deviation}
 use Rattle.fit_laws.proofs.OrderLemmas.{leaves-order, least-one, budget-one}
 use Rattle.run_laws.specs.declared.status.Status.TheVariants.{Done}
-use Rattle.run_words.specs.Words.{Target, AtError, InBudget, greatest_error, Fitting, Fit}
+use Rattle.run_words.specs.Words.{Goal, AtError, InBudget, greatest_error, Fitting, Fit}
 use Rattle.run_laws.specs.Fit.{tolerance_of, IsFitFor, IsFitted, IsFewestFor, IsClosestFor, IsBestFit}
 use Rattle.run_laws.specs.Outcome.{Outcome, plain_outcome, fit_acts, IsJobOutcome}
 use Rattle.run_laws.specs.Laws.{TolerancesAreExact}
@@ -28,23 +28,23 @@ tolerance-exact n thousandths error =
 
 -- one mesh
 
--- the triangles of a target, depth first, are one list
-pub fitted-one : (target : Target) (grid : HeightField) (triangles others : List ℕ) → IsFitted target grid triangles →
-    IsFitted target grid others → triangles ≡ others
+-- the triangles of a goal, depth first, are one list
+pub fitted-one : (goal : Goal) (grid : HeightField) (triangles others : List ℕ) → IsFitted goal grid triangles →
+    IsFitted goal grid others → triangles ≡ others
 fitted-one (AtError thousandths) grid triangles others p q =
     least-one grid.n (tolerance_of grid.n thousandths)
     (error_of grid.n grid.heights) triangles others p.fit q.fit p.in_order q.in_order
 fitted-one (InBudget budget) grid triangles others p q =
     budget-one grid.n budget (error_of grid.n grid.heights) triangles others p.fit q.fit p.in_order q.in_order
 
--- a target that words may say: an error within its bound, or a budget with room for the two base triangles
-abbrev pub IsTargetOfWords : Target → Type 0
-IsTargetOfWords (AtError thousandths) = thousandths ≤ greatest_error
-IsTargetOfWords (InBudget budget) = 2 ≤ budget
+-- a goal that words may say: an error within its bound, or a budget with room for the two base triangles
+abbrev pub IsGoalOfWords : Goal → Type 0
+IsGoalOfWords (AtError thousandths) = thousandths ≤ greatest_error
+IsGoalOfWords (InBudget budget) = 2 ≤ budget
 
 -- then there is one
-pub fitted-exists : (target : Target) (grid : HeightField) → IsTargetOfWords target →
-    (triangles : List ℕ) × IsFitted target grid triangles
+pub fitted-exists : (goal : Goal) (grid : HeightField) → IsGoalOfWords goal →
+    (triangles : List ℕ) × IsFitted goal grid triangles
 fitted-exists (AtError thousandths) grid two =
     let n : ℕ = grid.n in
     let tolerance : ℕ = tolerance_of n thousandths in
@@ -66,13 +66,13 @@ pub fit-unique : (f : Fitting) (grid : HeightField) (files : List NamedFile) (en
     IsJobOutcome (Fit f) grid files other → end ≡ other
 fit-unique f grid files end other p q =
     p.2 ∙ ap (λ (triangles : List ℕ). plain_outcome (fit_acts f grid triangles) Done 1)
-    (fitted-one f.target grid p.0 q.0 p.1 q.1) ∙ sym q.2
+    (fitted-one f.goal grid p.0 q.0 p.1 q.1) ∙ sym q.2
 
--- fitting a mesh has an outcome, where words may say the target
-pub fit-exists : (f : Fitting) (grid : HeightField) (files : List NamedFile) → IsTargetOfWords f.target →
+-- fitting a mesh has an outcome, where words may say the goal
+pub fit-exists : (f : Fitting) (grid : HeightField) (files : List NamedFile) → IsGoalOfWords f.goal →
     (end : Outcome) × IsJobOutcome (Fit f) grid files end
 fit-exists f grid files two =
-    let found = fitted-exists f.target grid two in
+    let found = fitted-exists f.goal grid two in
     (plain_outcome (fit_acts f grid found.0) Done 1, (found.0, found.1, refl))
 
 -- a best one
@@ -109,7 +109,7 @@ closest-for budget grid triangles best =
     }
 
 -- a mesh that is fitted is one, in the words of distances from the surface
-pub fit-best : (target : Target) (grid : HeightField) (triangles : List ℕ) → IsFitFor target grid triangles →
-    IsBestFit target grid triangles
+pub fit-best : (goal : Goal) (grid : HeightField) (triangles : List ℕ) → IsFitFor goal grid triangles →
+    IsBestFit goal grid triangles
 fit-best (AtError thousandths) grid triangles fit = fewest-for thousandths grid triangles fit
 fit-best (InBudget budget) grid triangles fit = closest-for budget grid triangles fit

@@ -19,10 +19,10 @@ use Rattle.run_laws.specs.Walk.{Refusal}
 use Rattle.run_laws.specs.Fit.{IsFitFor, IsBestFit, IsKeptFor, IsFewestKeeping, fit_text}
 use Rattle.run_laws.specs.PointFile.{points_in}
 use Rattle.run_laws.specs.ReportText.{fit_line}
-use Rattle.run_laws.specs.Act.{Act, WholeMesh, ReportText, Told, Stands, IsCutShort}
+use Rattle.run_laws.specs.Act.{Act, WholeMesh, ReportText, Sinks, Stands, IsCutShort}
 use Rattle.run_laws.specs.CutShort.{StandsInMesh}
 use Rattle.run_laws.specs.Outcome.{Outcome, IsKeepOutcome, IsOutcome}
-use Rattle.run_laws.specs.Promise.{Seen, is_complete, EndsRight, LeavesAtReadFault, LeavesAtNoMemory}
+use Rattle.run_laws.specs.Promise.{ShelfState, is_complete, EndsRight, LeavesAtReadFault, LeavesAtNoMemory}
 use Rattle.run_laws.specs.Headline.{IsRunOf, IsOneMeshOf, KeepsOneMesh, KeepsFitMesh, KeepsKeptMesh}
 use Rattle.run_laws.proofs.BestLemmas.{same-command}
 use Rattle.run_laws.proofs.CutShortLemmas.{mesh_cut}
@@ -42,7 +42,7 @@ module _ (words : List (List ℕ)) (files : List NamedFile) (name : List ℕ) (j
     (begin : List ℕ) (spacing : ℕ) (grid : HeightField) (is_best is_fit : List ℕ → Type 0)
     (best : (triangles : List ℕ) → is_fit triangles → is_best triangles)
     (one_mesh : (end : Outcome) → IsOutcome (command_of words) files end → IsOneMesh begin spacing grid is_fit end)
-    (before now : Told) (old new : Seen) (all : List WrittenMesh) (there : before.meshes ≡ Some all) where
+    (before now : Sinks) (old new : ShelfState) (all : List WrittenMesh) (there : before.meshes ≡ Some all) where
   abbrev Keeps : Status → Type 0
   Keeps status = KeepsOneMesh begin spacing grid is_best is_fit before now all status
 
@@ -163,13 +163,13 @@ module _ (words : List (List ℕ)) (files : List NamedFile) (name : List ℕ) (j
 
 -- whatever the status, the mesh of a fit is a best one if it is finished
 pub fit-keeps : TextsAreRead → (words : List (List ℕ)) (files : List NamedFile) (f : Fitting) (grid : HeightField)
-    (run : IsRunOf words files (Fit f) grid) (before now : Told) (old new : Seen) (all : List WrittenMesh)
+    (run : IsRunOf words files (Fit f) grid) (before now : Sinks) (old new : ShelfState) (all : List WrittenMesh)
     (there : before.meshes ≡ Some all) (status : Status) → EndsRight before now old new words files status →
     (status ≡ ReadFault → LeavesAtReadFault before now old new words)
     → (status ≡ NoMemory → LeavesAtNoMemory before now old new words) → KeepsFitMesh f grid before now all status
 fit-keeps read_texts words files f grid run before now old new all there =
     one-keeps words files run.grid_name (Fit f) run.is_command (λ e. cc) f.prefix f.spacing grid
-    (IsBestFit f.target grid) (IsFitFor f.target grid) (fit-best f.target grid)
+    (IsBestFit f.goal grid) (IsFitFor f.goal grid) (fit-best f.goal grid)
     (λ end is. (let of_job = job-outcome read_texts words files (Fit f) grid run end is in
     (of_job.0, of_job.1.fit, ap (λ (o : Outcome). o.acts) of_job.2)))
     before now old new all there
@@ -178,7 +178,7 @@ fit-keeps read_texts words files f grid run before now old new all there =
 pub kept-keeps : TextsAreRead → PointsAreInGrid → (words : List (List ℕ)) (files : List NamedFile) (k : Keeping)
     (grid : HeightField) (points : List Point) (run : IsRunOf words files (Keep k) grid)
     → points_in grid.n (bytes_of files k.points) ≡ Ok points
-    → (before now : Told) (old new : Seen) (all : List WrittenMesh)
+    → (before now : Sinks) (old new : ShelfState) (all : List WrittenMesh)
     (there : before.meshes ≡ Some all) (status : Status) → EndsRight before now old new words files status →
     (status ≡ ReadFault → LeavesAtReadFault before now old new words)
     → (status ≡ NoMemory → LeavesAtNoMemory before now old new words) →

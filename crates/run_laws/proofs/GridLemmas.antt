@@ -14,14 +14,14 @@ use Rattle.run_laws.specs.Walk.{Walk, start_walk}
 use Rattle.run_words.specs.Words.{Show, Scripted, Job, Frames, Command, OnGrid}
 use Rattle.run_words.specs.Jobs.{Work, OfFrames, OfMesh, OfFacts, OfCertificate, OfCheck, File, job_row, names_of}
 use Rattle.run_laws.specs.Picture.{Picture}
-use Rattle.run_laws.specs.Act.{Act, Told, Stands}
+use Rattle.run_laws.specs.Act.{Act, Sinks, Stands}
 use Rattle.run_laws.specs.Outcome.{Outcome, EngineEnd, shown_acts, IsGridOutcome}
-use Rattle.run_laws.specs.Promise.{Seen, HasRead, FileReadFault, CommandReadFault, HasReadHeader}
+use Rattle.run_laws.specs.Promise.{ShelfState, HasRead, FileReadFault, CommandReadFault, HasReadHeader}
 use Rattle.run_words.specs.Jobs.{open_for, most_open}
 use Rattle.run_laws.specs.Promise.{JobHasCome, CommandNoMemory, IsUndecided, is_complete}
 use Rattle.run_laws.proofs.ActLemmas.{stands-nothing}
 use Rattle.run_laws.proofs.StepLemmas.{come-read}
-use Rattle.run_laws.specs.Maker.{TellsFrames, Begins, DoesAs, Leaves, EndsScript, ScriptHasCome}
+use Rattle.run_laws.specs.Maker.{TellsFrames, Begins, DoesAs, LeavesEngine, EndsScript, ScriptHasCome}
 use Rattle.run_laws.specs.FileStop.{StopsReading}
 use Rattle.run_laws.specs.Leaving.{CommandEnds}
 
@@ -34,7 +34,7 @@ pub next_count-one : (before now : ℕ) → before ≤ 2 ^ 63 → now ≡ next_c
 next_count-one before now low is = next-one before now (omega (arith, low)) is
 
 -- a command ends as the outcome says that what its grid is read as leads to
-pub ends-as : (before now : Told) (old new : Seen) (name : List ℕ) (job : Job) (files : List NamedFile)
+pub ends-as : (before now : Sinks) (old new : ShelfState) (name : List ℕ) (job : Job) (files : List NamedFile)
     (answer : Result HeightField PgmFault) (end : Outcome) (status : Status)
     → grid_of (bytes_of files name) ≡ answer → IsGridOutcome job answer files end → new.opens ≡ old.opens + end.opened
     → DoesAs before now end status → (engine : Option EngineEnd) → (IsTrue (is_complete status) → engine ≡ end.engine)
@@ -51,7 +51,8 @@ ends-as before now old new name job files answer end status found is opened does
     }
 
 -- a read of a command's file failed
-pub file-fault : (before now : Told) (new : Seen) (command : Command) (files : List NamedFile) (k : ℕ) (name : List ℕ)
+pub file-fault : (before now : Sinks) (new : ShelfState) (command : Command) (files : List NamedFile) (k : ℕ)
+    (name : List ℕ)
     (acts : List Act) (holds : List ℕ → Type 0)
     (at : StopsReading holds (bytes_of files name) new.rest new.ended) → slice_get (names_of command) k ≡ Some name →
     HasRead command files k at.read acts
@@ -70,7 +71,7 @@ file-fault before now new command files k name acts holds at named has_read stan
 }
 
 -- a read of its grid failed
-pub grid-fault : (before : Told) (old new : Seen) (name : List ℕ) (job : Job) → new.opens ≡ old.opens + 1
+pub grid-fault : (before : Sinks) (old new : ShelfState) (name : List ℕ) (job : Job) → new.opens ≡ old.opens + 1
     → ((files : List NamedFile) → old.files ≡ Some files →
     StopsReading IsUndecided (bytes_of files name) new.rest new.ended)
     → CommandReadFault before before old new (OnGrid name job)
@@ -101,7 +102,7 @@ some-open OfCertificate files = omega arith
 some-open OfCheck files = omega arith
 
 -- memory ran out at the grid
-pub grid-memory : (before : Told) (old new : Seen) (name : List ℕ) (job : Job) → new.opens ≡ old.opens + 1
+pub grid-memory : (before : Sinks) (old new : ShelfState) (name : List ℕ) (job : Job) → new.opens ≡ old.opens + 1
     → ((files : List NamedFile) → old.files ≡ Some files → HasReadHeader (bytes_of files name) new.rest)
     → CommandNoMemory before before old new (OnGrid name job)
 grid-memory before old new name job opened header = record {
@@ -117,7 +118,7 @@ grid-memory before old new name job opened header = record {
 }
 
 -- memory ran out behind the grid, with so many files opened, of which the job accepted the earlier ones
-pub behind-memory : (before : Told) (old new : Seen) (name : List ℕ) (job : Job) (grid : HeightField) (count : ℕ)
+pub behind-memory : (before : Sinks) (old new : ShelfState) (name : List ℕ) (job : Job) (grid : HeightField) (count : ℕ)
     → new.opens ≡ old.opens + count → 2 ≤ count → count ≤ most_open (OnGrid name job)
     → ((files : List NamedFile) → old.files ≡ Some files → grid_of (bytes_of files name) ≡ Ok grid)
     → ((files : List NamedFile) → old.files ≡ Some files → JobHasCome job grid files count)
@@ -160,11 +161,11 @@ module _ (s : Scripted) (grid : HeightField) where
     alone = alone;
   }
 
-  module _ (before now : Told) (old new : Seen) (name : List ℕ) (opened : new.opens ≡ old.opens + 2) where
+  module _ (before now : Sinks) (old new : ShelfState) (name : List ℕ) (opened : new.opens ≡ old.opens + 2) where
     -- the script ended
     pub script-ends : (files : List NamedFile) (status : Status) (follows : Show → Walk → List Picture →
         Type 0) (left : Option EngineEnd) → grid_of (bytes_of files name) ≡ Ok grid
-        → ((end : Outcome) → IsTrue (is_complete status) → Leaves s.show follows end → left ≡ end.engine)
+        → ((end : Outcome) → IsTrue (is_complete status) → LeavesEngine s.show follows end → left ≡ end.engine)
         → (status ≢ ends.ReadFault → EndsScript before now s.show follows first_walk (bytes_of files s.script) status)
         → CommandEnds before now old new (OnGrid name (Frames s)) files status left
     script-ends files status follows left found leaves does = record {

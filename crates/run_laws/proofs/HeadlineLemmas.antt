@@ -17,7 +17,7 @@ use Rattle.run_laws.specs.declared.status.Status.{Status}
 use Rattle.run_laws.specs.Walk.{Refusal}
 use Rattle.run_words.specs.Words.{Criterion, OfBudget, OfTolerance, TriangleOrder, DepthFirst, AlongStrip, Output}
 use Rattle.run_words.specs.Words.{Meshes, Measures, Sums, Show, Scripted, prefix_of}
-use Rattle.run_laws.specs.Act.{Act, WholeMesh, ReportText, meshes_of, Told, Stands, StandsInPart, IsCutShort}
+use Rattle.run_laws.specs.Act.{Act, WholeMesh, ReportText, meshes_of, Sinks, Stands, StandsInPart, IsCutShort}
 use Rattle.run_laws.specs.Picture.{Picture, shown_triangles, IsLeastFrame, IsFrameFor, IsPicture, ArePictures}
 use Rattle.run_laws.specs.Outcome.{Outcome, picture_acts, shown_acts, sum_acts, stop_acts, script_walk, IsFramesOutcome}
 use Rattle.run_laws.specs.Promise.{ends_script}
@@ -208,7 +208,7 @@ frames-part show k (s ∷ states) (mesh ∷ xs) part more prefix count bytes fra
 
 module _ (best : FramesAreBest) (two : BudgetsAreTwo) (s : Scripted) (grid : HeightField) (script : List ℕ)
     (some : IsSome (prefix_of s.show)) (low : 2 ≤ s.budget)
-    (before now : Told) (all : List WrittenMesh) (there : before.meshes ≡ Some all) (status : Status) where
+    (before now : Sinks) (all : List WrittenMesh) (there : before.meshes ≡ Some all) (status : Status) where
   -- the headline of a run that did all of its outcome
   pub complete-keeps : (end : Outcome) → IsFramesOutcome s.show 2 (script_walk s grid script) end →
       Stands before now end.acts → KeepsGoodMeshes s grid script all now.meshes status

@@ -17,7 +17,7 @@ use Rattle.run_laws.specs.Outcome.{text_outcome, plain_outcome, fit_acts, IsKeep
 use Rattle.run_laws.specs.Outcome.{IsKeptCheckOutcome, IsJobOutcome}
 use Rattle.run_laws.specs.Promise.{HasEnded}
 use Rattle.run_laws.specs.Moment.{Moment, OnlyReads}
-use Rattle.run_laws.specs.Leaving.{Runs, HasOpened, ReadsGrid, KeepsPoints, EndsWith, TellsLast}
+use Rattle.run_laws.specs.Leaving.{RunsCommand, HasOpened, ReadsGrid, KeepsPoints, EndsWith, TellsLast}
 use Rattle.run_laws.proofs.ActLemmas.{stands-nothing}
 use Rattle.run_laws.proofs.GridLemmas.{next-one, file-fault}
 use Rattle.run_laws.proofs.RunLemmas.{read-failed, opens-one, fails-then, whole-runs, second-refused}
@@ -83,7 +83,7 @@ module _ (before middle : Moment) (name points : List ℕ) (job : Job) (grid : H
       → IsInTime middle.shelf_late middle.shelf_faults now.shelf_late
       → ((files : List NamedFile) → middle.shelf.files ≡ Some files →
       StopsReading (PointsHaveRead n) (bytes_of files points) now.shelf.rest now.shelf.ended)
-      → Runs before now (Some (OnGrid name job)) ReadFault None
+      → RunsCommand before now (Some (OnGrid name job)) ReadFault None
   points-fault now low only opens rose in_time stops =
       let failed = fails-then before middle now 1 1 points (PointsHaveRead grid.n) read.opened
       (record {
@@ -111,7 +111,7 @@ module _ (before middle : Moment) (name points : List ℕ) (job : Job) (grid : H
       → text ≡ line_refusal refusal → HasOpened middle last 1
       → ((files : List NamedFile) → middle.shelf.files ≡ Some files →
       points_in n (bytes_of files points) ≡ Err refusal)
-      → TellsLast last now text ScriptRefused status → Runs before now (Some (OnGrid name job)) status None
+      → TellsLast last now text ScriptRefused status → RunsCommand before now (Some (OnGrid name job)) status None
   points-refused-runs last now status refusal text is behind found tells =
       second-refused before middle last now name job grid 1 status read behind text refl keeps.two keeps.allowed
       keeps.no_engine
@@ -128,7 +128,7 @@ pub kept-runs : (before middle last now : Moment) (name : List ℕ) (k : Keeping
     → points_in grid.n (bytes_of files k.points) ≡ Ok points)
     → IsKept k.thousandths points grid triangles
     → EndsWith last now (fit_acts (fitting_of k) grid triangles) Done status
-    → Runs before now (Some (OnGrid name (Keep k))) status None
+    → RunsCommand before now (Some (OnGrid name (Keep k))) status None
 kept-runs before middle last now name k grid status read behind points triangles ended found kept ends =
     whole-runs before middle last now name (Keep k) grid 1 status read behind
     (fit_acts (fitting_of k) grid triangles) refl ended refl (λ text_alone. cc)

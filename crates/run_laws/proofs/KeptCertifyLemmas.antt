@@ -21,11 +21,11 @@ use Rattle.run_laws.specs.CertFile.{kept_cert_in}
 use Rattle.run_laws.specs.PointFile.{points_in}
 use Rattle.run_laws.specs.Certify.{IsKeptMade}
 use Rattle.run_laws.specs.Fit.{tolerance_of, IsKeptFor, IsKept, IsFewestKeeping}
-use Rattle.run_laws.specs.Act.{Told}
+use Rattle.run_laws.specs.Act.{Sinks}
 use Rattle.run_laws.specs.ReportText.{line_refusal}
 use Rattle.run_laws.specs.Outcome.{Outcome, text_outcome, IsFitCheckOutcome, IsKeptMakeOutcome, IsKeptCheckOutcome}
 use Rattle.run_laws.specs.Outcome.{IsJobOutcome}
-use Rattle.run_laws.specs.Promise.{Seen, EndsRight, IsAcceptedKeptCheck}
+use Rattle.run_laws.specs.Promise.{ShelfState, EndsRight, IsAcceptedKeptCheck}
 use Rattle.run_laws.specs.Headline.{IsRunOf, IsCertifiedKept}
 use Rattle.run_laws.proofs.CertifyLemmas.{IsOneText}
 use Rattle.run_laws.proofs.FitCertifyLemmas.{IsOneVerdict, judged-text, judged-unique, judged-exists, judged-done}
@@ -182,8 +182,8 @@ told-points c grid answer mesh end (points, is, tells) = (tells.0, (points, is, 
 
 -- where a check of a mesh that keeps points is done, the report got one line, by which its mesh is certified
 pub kept_mesh-certified : TextsAreRead → PointsAreInGrid → (words : List (List ℕ)) (files : List NamedFile)
-    (c : KeptChecking) (grid : HeightField) (is : IsRunOf words files (CheckKept c) grid) (before now : Told)
-    (old new : Seen) (status : Status) → EndsRight before now old new words files status → status ≡ Done
+    (c : KeptChecking) (grid : HeightField) (is : IsRunOf words files (CheckKept c) grid) (before now : Sinks)
+    (old new : ShelfState) (status : Status) → EndsRight before now old new words files status → status ≡ Done
     → (points : List Point) × (points_in grid.n (bytes_of files c.points) ≡ Ok points) × (line : List ℕ)
     × Grows before.report now.report line × IsCertifiedKept c points grid (bytes_of files c.mesh) line
 kept_mesh-certified read_texts in_grid words files c grid is before now old new status ends done =

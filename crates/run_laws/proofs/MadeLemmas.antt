@@ -21,7 +21,7 @@ use Rattle.cert_text.specs.CertReader.{ReadSoFar, read_so_far, nothing_read, cer
 use Rattle.cert_text.specs.CertText.{cert_text, cert_lines}
 use Rattle.cert_text.specs.Laws.{IsCertificateOf, lines_read, WrittenLinesAreRead, WrittenLinesAreEnded}
 use Rattle.cert_text.specs.Laws.{WrittenLinesAreLines}
-use Rattle.certificate_laws.specs.declared.fit_reason.Off.{Off}
+use Rattle.certificate_laws.specs.declared.fit_reason.Witness.{Witness}
 use Rattle.certificate_laws.specs.FitCertificate.{FitCertificate, LeadsTo, IsFitSound}
 use Rattle.certificate_laws.specs.declared.limits.TheConstants.{MOST_REASONS}
 use Rattle.certificate_laws.specs.Keeping.{KeptCertificate, IsNeed, IsKeptSound}
@@ -37,17 +37,17 @@ use Rattle.cert_text.specs.KeptLaws.{WrittenKeptLinesAreEnded, WrittenKeptLinesA
 use Rattle.roam_script.specs.PointText.{most_points}
 use Rattle.roam_edge.specs.Shelf.{NamedFile, bytes_of}
 use Rattle.run_laws.specs.Walk.{lines_of}
-use Rattle.run_words.specs.Words.{Making, Checking, Target, AtError, InBudget, FitMaking, FitChecking, KeptMaking}
+use Rattle.run_words.specs.Words.{Making, Checking, Goal, AtError, InBudget, FitMaking, FitChecking, KeptMaking}
 use Rattle.run_words.specs.Words.{KeptChecking, greatest_error}
 use Rattle.run_laws.specs.CertFile.{lines_behind, cert_of, cert_in, fit_cert_of, fit_cert_in, kept_cert_of, kept_cert_in}
 use Rattle.run_laws.specs.PointFile.{points_in}
 use Rattle.run_laws.specs.Certify.{makes_at, IsMade, IsFaultless, IsFitMade, IsKeptMade}
-use Rattle.run_laws.specs.Fit.{tolerance_of, goal_of, IsFitted, IsKept, fit_text}
+use Rattle.run_laws.specs.Fit.{tolerance_of, target_of, IsFitted, IsKept, fit_text}
 use Rattle.run_laws.specs.Promise.{IsAcceptedCheck, IsAcceptedFitCheck, IsAcceptedKeptCheck}
 use Rattle.run_laws.proofs.LineLemmas.{lines_of-ends}
 use Rattle.run_laws.proofs.OutcomeLemmas.{IsWithinReach}
 use Rattle.run_laws.proofs.CertFileLemmas.{IsFormat, file-said, cert-format, fit-format, kept-format}
-use Rattle.run_laws.proofs.FitLemmas.{IsTargetOfWords, fitted-one}
+use Rattle.run_laws.proofs.FitLemmas.{IsGoalOfWords, fitted-one}
 use Rattle.run_laws.proofs.FitCertifyLemmas.{sound-fits}
 use Rattle.run_laws.proofs.KeepLemmas.{kept-one}
 use Rattle.run_laws.proofs.KeptCertifyLemmas.{sound-keeps}
@@ -199,8 +199,8 @@ module _ (read : WrittenLinesAreRead) (ended : WrittenLinesAreEnded) (whole : Wr
 -- a certificate of a fitted mesh
 
 -- the reasons are of the grid
-leads-of : (n : ℕ) (heights : List ℕ) (tolerance : ℕ) (has : ℕ → Bool) (reasons : List Off) (after : ℕ → Bool) →
-    LeadsTo n heights tolerance has reasons after → AllByRecursion (written.IsOffOf n) reasons
+leads-of : (n : ℕ) (heights : List ℕ) (tolerance : ℕ) (has : ℕ → Bool) (reasons : List Witness) (after : ℕ → Bool) →
+    LeadsTo n heights tolerance has reasons after → AllByRecursion (written.IsWitnessOf n) reasons
 leads-of n heights tolerance has [] after leads = tt
 leads-of n heights tolerance has (r ∷ reasons) after leads = (
   record { splittable = leads.1.splittable; column = leads.1.off.column; row = leads.1.off.row },
@@ -213,9 +213,9 @@ file-end n high = let few : 2 * n + 1 ≤ 23 = omega arith in pow_mono few
 
 -- its tolerance has 32 bits: that of an error is within the bound of words, and that of a budget is no height of a grid
 -- above 65535
-tolerance-small : (target : Target) (grid : HeightField) (cert : FitCertificate) (triangles : List ℕ) →
-    IsHeightField grid → IsTargetOfWords target →
-    IsFitSound grid.n grid.heights (goal_of grid.n target) cert triangles → cert.tolerance < 2 ^ 32
+tolerance-small : (goal : Goal) (grid : HeightField) (cert : FitCertificate) (triangles : List ℕ) →
+    IsHeightField grid → IsGoalOfWords goal →
+    IsFitSound grid.n grid.heights (target_of grid.n goal) cert triangles → cert.tolerance < 2 ^ 32
 tolerance-small (AtError thousandths) grid cert triangles valid high sound =
     let own : cert.tolerance ≡ thousandths * 2 ^ grid.n / 1000 = sound.own in
     let side : 2 ^ grid.n ≤ 2 ^ 14 = pow_mono valid.n_high in
@@ -230,16 +230,16 @@ tolerance-small (InBudget budget) grid cert triangles valid low sound =
     omega arith
 
 -- the triangles of a sound one are fitted
-sound-fitted : (target : Target) (grid : HeightField) (cert : FitCertificate) (triangles : List ℕ) →
-    IsFitSound grid.n grid.heights (goal_of grid.n target) cert triangles → IsFitted target grid triangles
-sound-fitted target grid cert triangles sound = record {
-  fit = sound-fits target grid cert triangles sound;
-  in_order = sound-order grid.n grid.heights (goal_of grid.n target) cert triangles sound;
+sound-fitted : (goal : Goal) (grid : HeightField) (cert : FitCertificate) (triangles : List ℕ) →
+    IsFitSound grid.n grid.heights (target_of grid.n goal) cert triangles → IsFitted goal grid triangles
+sound-fitted goal grid cert triangles sound = record {
+  fit = sound-fits goal grid cert triangles sound;
+  in_order = sound-order grid.n grid.heights (target_of grid.n goal) cert triangles sound;
 }
 
 module _ (read : written.WrittenFitLinesAreRead) (ended : written.WrittenFitLinesAreEnded)
     (whole : written.WrittenFitLinesAreLines) (m : FitMaking) (grid : HeightField) (cert : FitCertificate)
-    (valid : IsHeightField grid) (of_file : grid.n ≤ 11) (said : IsTargetOfWords m.target)
+    (valid : IsHeightField grid) (of_file : grid.n ≤ 11) (said : IsGoalOfWords m.goal)
     (made : IsFitMade m grid cert) where
   -- what is made is a certificate of the grid
   made-fit_certificate : written.IsFitCertificateOf grid.n cert
@@ -254,25 +254,25 @@ module _ (read : written.WrittenFitLinesAreRead) (ended : written.WrittenFitLine
           few_needed = omega arith;
           few_beyond = omega arith;
         };
-        tolerance = tolerance-small m.target grid cert made.triangles valid said sound;
-        needed = All-from_recursion (written.IsOffOf n) cert.needed
+        tolerance = tolerance-small m.goal grid cert made.triangles valid said sound;
+        needed = All-from_recursion (written.IsWitnessOf n) cert.needed
             (leads-of n grid.heights cert.tolerance (λ a. false) cert.needed sound.has sound.fitted.needed);
-        beyond = All-from_recursion (written.IsOffOf n) cert.beyond
+        beyond = All-from_recursion (written.IsWitnessOf n) cert.beyond
             (leads-of n grid.heights (cert.tolerance - 1) sound.has cert.beyond sound.over sound.beyond);
       }
 
   -- and a check of its text and of the text of the mesh that is fitted, for the same target, is accepted
-  pub fit_made-accepted : (c : FitChecking) (files : List NamedFile) (triangles : List ℕ) → c.target ≡ m.target →
-      IsFitted m.target grid triangles → bytes_of files c.certificate ≡ fit_cert_text cert
+  pub fit_made-accepted : (c : FitChecking) (files : List NamedFile) (triangles : List ℕ) → c.goal ≡ m.goal →
+      IsFitted m.goal grid triangles → bytes_of files c.certificate ≡ fit_cert_text cert
       → bytes_of files c.mesh ≡ fit_text c.spacing grid triangles → IsAcceptedFitCheck c grid files
-  fit_made-accepted c files triangles target fitted text mesh =
+  fit_made-accepted c files triangles goal fitted text mesh =
       let same : triangles ≡ made.triangles =
-      fitted-one m.target grid triangles made.triangles fitted
-      (sound-fitted m.target grid cert made.triangles made.sound) in (
+      fitted-one m.goal grid triangles made.triangles fitted
+      (sound-fitted m.goal grid cert made.triangles made.sound) in (
         cert,
         made.triangles,
         ap (fit_cert_in grid.n) text ∙ fit-back read ended whole grid.n cert made-fit_certificate,
-        subst (λ (t : Target). IsFitSound grid.n grid.heights (goal_of grid.n t) cert made.triangles) (sym target)
+        subst (λ (t : Goal). IsFitSound grid.n grid.heights (target_of grid.n t) cert made.triangles) (sym goal)
             made.sound,
         mesh ∙ ap (λ (l : List ℕ). fit_text c.spacing grid l) same,
       )
@@ -310,13 +310,13 @@ module _ (read : WrittenKeptLinesAreRead) (ended : WrittenKeptLinesAreEnded) (wh
           few = record {
             in_grid = (valid.n_low, valid.n_high);
             few_needed = omega arith;
-            few_beyond = subst (λ (l : List Off). length l ≤ MOST_REASONS) (sym sound.behind) (omega arith);
+            few_beyond = subst (λ (l : List Witness). length l ≤ MOST_REASONS) (sym sound.behind) (omega arith);
           };
           tolerance = omega (arith, own, units, high);
-          needed = All-from_recursion (written.IsOffOf n) cert.rest.needed
+          needed = All-from_recursion (written.IsWitnessOf n) cert.rest.needed
               (leads-of n grid.heights cert.rest.tolerance leads.start cert.rest.needed sound.has leads.needed);
-          beyond = subst (λ (l : List Off). All (written.IsOffOf n) l) (sym sound.behind)
-              (All-from_recursion (written.IsOffOf n) [] tt);
+          beyond = subst (λ (l : List Witness). All (written.IsWitnessOf n) l) (sym sound.behind)
+              (All-from_recursion (written.IsWitnessOf n) [] tt);
         };
       }
     where

@@ -46,7 +46,7 @@ use Rattle.run_laws.specs.Laws.{FramesExist, RunsAreUnique, LevelsAreInRange, Ar
 use Rattle.run_laws.proofs.PictureLemmas.{FramesAreUnique, SetsAreLists, ArePictures-unique, pictures_of, no-members}
 use Rattle.run_laws.proofs.CertifyLemmas.{IsOneText, make-text, check-text, check-unique, check-exists, check-done}
 use Rattle.run_laws.proofs.CertifyLemmas.{CertificatesExist, make-exists}
-use Rattle.run_laws.proofs.FitLemmas.{IsTargetOfWords, fit-unique, fit-exists}
+use Rattle.run_laws.proofs.FitLemmas.{IsGoalOfWords, fit-unique, fit-exists}
 use Rattle.run_laws.proofs.KeepLemmas.{keep-unique, keep-exists, keep-done, keep-plain}
 use Rattle.run_laws.proofs.FitCertifyLemmas.{fit_make-text, fit_check-text, fit_check-unique, fit_check-exists}
 use Rattle.run_laws.proofs.FitCertifyLemmas.{fit_check-done, fit_make-exists}
@@ -204,8 +204,8 @@ pub record IsWithinReach (m : Making) : Type 0 where
 abbrev pub HasBudget : Job → Type 0
 HasBudget (Frames s) = 2 ≤ s.budget
 HasBudget (Make m) = IsWithinReach m
-HasBudget (Fit f) = IsTargetOfWords f.target
-HasBudget (MakeFit m) = IsTargetOfWords m.target
+HasBudget (Fit f) = IsGoalOfWords f.goal
+HasBudget (MakeFit m) = IsGoalOfWords m.goal
 HasBudget (MakeKept m) = m.thousandths ≤ greatest_error
 HasBudget job = Unit {0}
 
@@ -216,7 +216,7 @@ CommandHasBudget (Generated n seed) = (1 ≤ n) × (n ≤ 11)
 -- so of what is read of words
 abbrev IsInBounds : Found → Type 0
 IsInBounds f = ((1 ≤ f.level) × (f.level ≤ 11)) × ((least_budget ≤ f.budget) × (f.budget ≤ greatest_budget))
-    × (f.thousandths ≤ greatest_error) × IsTargetOfWords f.target
+    × (f.thousandths ≤ greatest_error) × IsGoalOfWords f.goal
     × ((unsigned_abs f.camera.x ≤ 2 ^ 30) × (unsigned_abs f.camera.y ≤ 2 ^ 30) × (unsigned_abs f.camera.z ≤ 2 ^ 30))
 
 made-budget : (kind : Kind) (f : Found) → IsInBounds f → CommandHasBudget (made_of kind f)

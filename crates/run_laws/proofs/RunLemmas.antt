@@ -15,7 +15,7 @@ use Rattle.run_words.specs.Jobs.{names_of, file_count, is_check, open_for, most_
 use Rattle.mesh_defs.specs.HeightField.{HeightField}
 use Rattle.pgm_grid.specs.declared.fault.PgmFault.{PgmFault}
 use Rattle.pgm_grid.specs.Progress.{grid_of}
-use Rattle.run_laws.specs.Act.{Act, ReportText, Told, meshes_of}
+use Rattle.run_laws.specs.Act.{Act, ReportText, Sinks, meshes_of}
 use Rattle.run_laws.specs.Cause.{StatusHasCause, StatusWritesHaveCause}
 use Rattle.run_laws.specs.Statement.{EndsByStatus}
 use Rattle.run_laws.specs.ReportText.{grid_refusal}
@@ -23,12 +23,12 @@ use Rattle.run_laws.specs.Picture.{Picture}
 use Rattle.run_laws.specs.Walk.{Walk}
 use Rattle.run_laws.specs.Outcome.{Outcome, EngineEnd, plain_outcome, text_outcome, IsJobOutcome, IsGridOutcome}
 use Rattle.run_laws.specs.Outcome.{IsCommandOutcome}
-use Rattle.run_laws.specs.Promise.{Seen, HasEnded, HasReadHeader, IsUndecided, OpensForStatus, CommandReadFault}
+use Rattle.run_laws.specs.Promise.{ShelfState, HasEnded, HasReadHeader, IsUndecided, OpensForStatus, CommandReadFault}
 use Rattle.run_laws.specs.Promise.{CommandNoMemory, is_complete, ends_script, may_end, leaves_engine}
-use Rattle.run_laws.specs.Maker.{DoesAs, IsScriptEnd, Leaves, EndsScript, ScriptHasCome}
+use Rattle.run_laws.specs.Maker.{DoesAs, IsScriptEnd, LeavesEngine, EndsScript, ScriptHasCome}
 use Rattle.run_laws.specs.FileStop.{StopsReading}
 use Rattle.run_laws.specs.Moment.{Moment, OnlyReads, SameMeshes}
-use Rattle.run_laws.specs.Leaving.{CommandEnds, Runs, HasOpened, HasFailed, ReadsGrid, EndsWith, TellsLast}
+use Rattle.run_laws.specs.Leaving.{CommandEnds, RunsCommand, HasOpened, HasFailed, ReadsGrid, EndsWith, TellsLast}
 use Rattle.run_laws.specs.Leaving.{LeavesByScript}
 use Rattle.run_laws.proofs.ActLemmas.{stands-nothing}
 use Rattle.run_laws.proofs.DoesLemmas.{same-in-time, same-meshes-then}
@@ -78,8 +78,8 @@ most-named name job = open-named (job_row job).work (job_row job).files
 -- reading calls no sink of meshes
 reads-no-mesh : (before now : Moment) → OnlyReads before now → SameMeshes before now
 reads-no-mesh before now only = record {
-  meshes = ap (λ (t : Told). t.meshes) only.sinks;
-  faults = ap (λ (t : Told). t.mesh_faults) only.sinks;
+  meshes = ap (λ (t : Sinks). t.meshes) only.sinks;
+  faults = ap (λ (t : Sinks). t.mesh_faults) only.sinks;
   under_way = only.under_way;
   late = only.mesh_late;
 }
@@ -130,7 +130,7 @@ pub reads-run : (before now : Moment) (command : Option Command) (status : Statu
     → OpensForStatus before.shelf.opens now.shelf.opens (file_count command) status
     → leaves_engine command status ≡ false → IsTrue (may_end command status)
     → (status ≡ ReadFault → Rose before.shelf_faults now.shelf_faults)
-    → (status ≢ ReadFault → now.shelf_faults ≡ before.shelf_faults) → Runs before now command status None
+    → (status ≢ ReadFault → now.shelf_faults ≡ before.shelf_faults) → RunsCommand before now command status None
 reads-run before now command status only in_time undone unwritten ends opens left allowed read not_read = record {
   ends = ends;
   leaves = record {
@@ -151,8 +151,8 @@ reads-run before now command status only in_time undone unwritten ends opens lef
     writes = record {
       write = λ is. absurd (unwritten is);
       not_write = λ not. record {
-        meshes_same = ap (λ (t : Told). t.mesh_faults) only.sinks;
-        report_same = ap (λ (t : Told). t.report_faults) only.sinks;
+        meshes_same = ap (λ (t : Sinks). t.mesh_faults) only.sinks;
+        report_same = ap (λ (t : Sinks). t.report_faults) only.sinks;
       };
     };
   };
@@ -164,12 +164,12 @@ pub read-failed : (before now : Moment) (name : List ℕ) (job : Job) (files : �
     → HasFailed before now files last holds → 1 ≤ files →
     files ≤ file_count (Some (OnGrid name job))
     → CommandReadFault before.sinks before.sinks before.shelf now.shelf (OnGrid name job)
-    → Runs before now (Some (OnGrid name job)) ReadFault None
+    → RunsCommand before now (Some (OnGrid name job)) ReadFault None
 read-failed before now name job files last holds read some within fault =
     reads-run before now (Some (OnGrid name job)) ReadFault read.only read.in_time (λ e. cc) (λ e. cc)
     (ends-by-status before now (OnGrid name job) ReadFault None
     (λ files are. record { ends = λ m r. absurd (r refl) })
-    (λ is. (let P : Told → Type 0 = λ t. CommandReadFault before.sinks t before.shelf now.shelf (OnGrid name job) in
+    (λ is. (let P : Sinks → Type 0 = λ t. CommandReadFault before.sinks t before.shelf now.shelf (OnGrid name job) in
     subst P (sym read.only.sinks) fault))
     (λ e. cc))
     (opens-at before.shelf.opens now.shelf.opens (file_count (Some (OnGrid name job))) ReadFault
@@ -179,13 +179,13 @@ read-failed before now name job files last holds read some within fault =
 -- memory ran out once so many of a command's files were opened
 pub memory-spent : (before now : Moment) (name : List ℕ) (job : Job) (files : ℕ) → HasOpened before now files
     → CommandNoMemory before.sinks before.sinks before.shelf now.shelf (OnGrid name job)
-    → Runs before now (Some (OnGrid name job)) NoMemory None
+    → RunsCommand before now (Some (OnGrid name job)) NoMemory None
 memory-spent before now name job files read spent =
     reads-run before now (Some (OnGrid name job)) NoMemory read.only read.in_time (λ e. cc) (λ e. cc)
     (ends-by-status before now (OnGrid name job) NoMemory None
     (λ files are. record { ends = λ m r. absurd (m refl) })
     (λ e. cc)
-    (λ is. (let P : Told → Type 0 = λ t. CommandNoMemory before.sinks t before.shelf now.shelf (OnGrid name job) in
+    (λ is. (let P : Sinks → Type 0 = λ t. CommandNoMemory before.sinks t before.shelf now.shelf (OnGrid name job) in
     subst P (sym read.only.sinks) spent)))
     (opens-at before.shelf.opens now.shelf.opens (file_count (Some (OnGrid name job))) NoMemory tt
     (omega (arith, spent.count)) (omega (arith, spent.count, spent.most, most-named name job)))
@@ -198,7 +198,7 @@ module _ (before now : Moment) (name : List ℕ) (job : Job) (only : OnlyReads b
   pub grid-failed : Rose before.shelf_faults now.shelf_faults
       → ((files : List NamedFile) → before.shelf.files ≡ Some files
       → StopsReading IsUndecided (bytes_of files name) now.shelf.rest now.shelf.ended)
-      → Runs before now (Some (OnGrid name job)) ReadFault None
+      → RunsCommand before now (Some (OnGrid name job)) ReadFault None
   grid-failed rose stops =
       read-failed before now name job 1 name IsUndecided
       (record { only = only; opens = opened; failed = rose; in_time = in_time; stops = stops })
@@ -208,7 +208,7 @@ module _ (before now : Moment) (name : List ℕ) (job : Job) (only : OnlyReads b
   pub grid-spent : now.shelf_faults ≡ before.shelf_faults
       → ((files : List NamedFile) → before.shelf.files ≡ Some files →
       HasReadHeader (bytes_of files name) now.shelf.rest)
-      → Runs before now (Some (OnGrid name job)) NoMemory None
+      → RunsCommand before now (Some (OnGrid name job)) NoMemory None
   grid-spent calm header =
       memory-spent before now name job 1 (record { only = only; opens = opened; faults = calm; in_time = in_time })
       (grid-memory before.sinks before.shelf now.shelf name job opened header)
@@ -222,17 +222,18 @@ module _ (before middle now : Moment) (name : List ℕ) (job : Job) (k : ℕ) (r
   named = Some (OnGrid name job)
 
   opens-now : (status : Status) → EndsWith middle now acts meant status → now.shelf.opens ≡ middle.shelf.opens
-  opens-now status tells = ap (λ (s : Seen). s.opens) tells.shelf
+  opens-now status tells = ap (λ (s : ShelfState). s.opens) tells.shelf
 
   mesh-faults : middle.sinks.mesh_faults ≡ before.sinks.mesh_faults
-  mesh-faults = ap (λ (t : Told). t.mesh_faults) read.only.sinks
+  mesh-faults = ap (λ (t : Sinks). t.mesh_faults) read.only.sinks
 
   report-faults : middle.sinks.report_faults ≡ before.sinks.report_faults
-  report-faults = ap (λ (t : Told). t.report_faults) read.only.sinks
+  report-faults = ap (λ (t : Sinks). t.report_faults) read.only.sinks
 
   by-status : (status : Status) → status ≢ ReadFault → status ≢ NoMemory → EndsWith middle now acts meant status
       → OpensForStatus before.shelf.opens middle.shelf.opens (file_count named) status → IsTrue (may_end named status)
-      → leaves_engine named status ≡ false → (status ≡ Done → HasEnded middle.shelf) → Runs before now named status None
+      → leaves_engine named status ≡ false → (status ≡ Done → HasEnded middle.shelf)
+      → RunsCommand before now named status None
   by-status status not_read not_memory tells opens allowed left ended = record {
     ends = ends-by-status before now (OnGrid name job) status None
         (λ files are. record {
@@ -250,7 +251,7 @@ module _ (before middle now : Moment) (name : List ℕ) (job : Job) (k : ℕ) (r
         (λ is. absurd (not_read is))
         (λ is. absurd (not_memory is));
     leaves = record {
-      files = ap (λ (s : Seen). s.files) tells.shelf ∙ read.only.files;
+      files = ap (λ (s : ShelfState). s.files) tells.shelf ∙ read.only.files;
       idle = λ not. tells.idle not ∙ read.only.under_way;
       no_mesh = λ text. same-meshes-then before middle now (reads-no-mesh before middle read.only)
           (tells.no_mesh (no_mesh text));
@@ -269,13 +270,13 @@ module _ (before middle now : Moment) (name : List ℕ) (job : Job) (k : ℕ) (r
     };
   }
     where
-      D : Told → Type 0
+      D : Sinks → Type 0
       D t = DoesAs t now.sinks (plain_outcome acts meant k) status
 
       O : ℕ → Type 0
       O opened = OpensForStatus before.shelf.opens opened (file_count named) status
 
-      W : Told → Type 0
+      W : Sinks → Type 0
       W t = StatusWritesHaveCause t.mesh_faults now.sinks.mesh_faults t.report_faults now.sinks.report_faults status
 
   -- a command ended with acts that are those of its outcome
@@ -283,7 +284,7 @@ module _ (before middle now : Moment) (name : List ℕ) (job : Job) (k : ℕ) (r
       → IsTrue (is_complete meant) → IsTrue (may_end named meant) → leaves_engine named meant ≡ false
       → OpensForStatus before.shelf.opens middle.shelf.opens (file_count named) meant →
       (meant ≡ Done → HasEnded middle.shelf)
-      → Runs before now named status None
+      → RunsCommand before now named status None
   acts-run status tells some within complete allowed left opens ended = elim tells.ends [
     | inl is ↦ by-status status (λ e. not-complete meant ReadFault refl complete (sym is ∙ e))
         (λ e. not-complete meant NoMemory refl complete (sym is ∙ e)) tells
@@ -323,7 +324,7 @@ pub text-runs : (before middle now : Moment) (name : List ℕ) (job : Job) (k : 
     → IsTrue (is_complete meant) → IsTrue (may_end (Some (OnGrid name job)) meant) →
     leaves_engine (Some (OnGrid name job)) meant ≡ false
     → OpensForStatus before.shelf.opens middle.shelf.opens (file_count (Some (OnGrid name job))) meant
-    → (meant ≡ Done → HasEnded middle.shelf) → Runs before now (Some (OnGrid name job)) status None
+    → (meant ≡ Done → HasEnded middle.shelf) → RunsCommand before now (Some (OnGrid name job)) status None
 text-runs before middle now name job k read text meant outcome =
     acts-run before middle now name job k read (ReportText text ∷ []) meant outcome (λ text_alone. refl)
 
@@ -332,7 +333,7 @@ pub grid-refused : (before middle now : Moment) (name : List ℕ) (job : Job) (f
     (text : List ℕ) (status : Status)
     → HasOpened before middle 1 → text ≡ grid_refusal fault
     → ((files : List NamedFile) → before.shelf.files ≡ Some files → grid_of (bytes_of files name) ≡ Err fault)
-    → TellsLast middle now text GridRefused status → Runs before now (Some (OnGrid name job)) status None
+    → TellsLast middle now text GridRefused status → RunsCommand before now (Some (OnGrid name job)) status None
 grid-refused before middle now name job fault text status read is refused tells =
     text-runs before middle now name job 1 read text GridRefused
     (λ files told. subst (λ (r : Result HeightField PgmFault).
@@ -350,7 +351,7 @@ pub job-runs : (before middle now : Moment) (name : List ℕ) (job : Job) (grid 
     → leaves_engine (Some (OnGrid name job)) Done ≡ false
     → ((files : List NamedFile) → IsJobOutcome job grid files (plain_outcome acts Done 1))
     → (IsTrue (is_of_text (Some (OnGrid name job))) → meshes_of acts ≡ [])
-    → EndsWith middle now acts Done status → Runs before now (Some (OnGrid name job)) status None
+    → EndsWith middle now acts Done status → RunsCommand before now (Some (OnGrid name job)) status None
 job-runs before middle now name job grid acts status read one left outcome no_mesh ends =
     acts-run before middle now name job 1 read.opened acts Done
     (λ files told. subst (λ (r : Result HeightField PgmFault). IsGridOutcome job r files (plain_outcome acts Done 1))
@@ -366,14 +367,14 @@ pub line-runs : (before middle now : Moment) (name : List ℕ) (job : Job) (grid
     → ReadsGrid before middle name grid → file_count (Some (OnGrid name job)) ≡ 1
     → leaves_engine (Some (OnGrid name job)) Done ≡ false
     → ((files : List NamedFile) → IsJobOutcome job grid files (text_outcome text Done 1))
-    → TellsLast middle now text Done status → Runs before now (Some (OnGrid name job)) status None
+    → TellsLast middle now text Done status → RunsCommand before now (Some (OnGrid name job)) status None
 line-runs before middle now name job grid text status read one left outcome tells =
     job-runs before middle now name job grid (ReportText text ∷ []) status read one left outcome
     (λ text_alone. refl) tells
 
 -- memory ran out behind a grid that was read
 pub spent-runs : (before now : Moment) (name : List ℕ) (job : Job) (grid : HeightField)
-    → ReadsGrid before now name grid → Runs before now (Some (OnGrid name job)) NoMemory None
+    → ReadsGrid before now name grid → RunsCommand before now (Some (OnGrid name job)) NoMemory None
 spent-runs before now name job grid read =
     grid-spent before now name job read.opened.only read.opened.opens read.opened.in_time
     read.opened.faults read.header
@@ -422,25 +423,25 @@ module _ (before middle now : Moment) (name : List ℕ) (s : Scripted) (grid : H
   -- where the script ended, or a read of it failed, the command was carried out with this status and engine
   pub script-runs : (status : Status) → (status ≡ ReadFault) ⊎ IsScriptEnd status → LeavesByScript middle now status
       → (IsSome left ↔ IsTrue (leaves_engine scripted status))
-      → ((end : Outcome) → IsTrue (is_complete status) → Leaves s.show follows end → left ≡ end.engine)
+      → ((end : Outcome) → IsTrue (is_complete status) → LeavesEngine s.show follows end → left ≡ end.engine)
       → ((files : List NamedFile) → before.shelf.files ≡ Some files → status ≢ ReadFault
       → EndsScript middle.sinks now.sinks s.show follows (first_walk s grid) (bytes_of files s.script) status)
       → (status ≡ ReadFault → (files : List NamedFile) → before.shelf.files ≡ Some files
       → StopsReading (ScriptHasCome middle.sinks now.sinks s.show (first_walk s grid))
       (bytes_of files s.script) now.shelf.rest now.shelf.ended)
-      → Runs before now scripted status left
+      → RunsCommand before now scripted status left
   script-runs status is leaves engine same does stops =
       let opened = two-opens status leaves in
       let sinks = read.opened.only.sinks in
       record {
         ends = ends-by-status before now (OnGrid name (Frames s)) status left
             (λ files are. (let told = are (omega arith) in
-            let P : Told → Type 0 =
+            let P : Sinks → Type 0 =
             λ t. CommandEnds t now.sinks before.shelf now.shelf (OnGrid name (Frames s)) files status left in
             subst P sinks (script-ends s grid middle.sinks now.sinks before.shelf now.shelf name opened files status
             follows left (read.is_grid files told)
             same (does files told))))
-            (λ fault. (let P : Told →
+            (λ fault. (let P : Sinks →
             Type 0 = λ t. CommandReadFault t now.sinks before.shelf now.shelf (OnGrid name (Frames s)) in
             subst P sinks (script-fault s grid middle.sinks now.sinks before.shelf now.shelf name opened read.is_grid
             (stops fault))))
@@ -455,13 +456,14 @@ module _ (before middle now : Moment) (name : List ℕ) (s : Scripted) (grid : H
           shelf_in_time =
               λ not_late none. leaves.shelf_in_time (read.opened.in_time not_late none) (read.opened.faults ∙ none);
           meshes_in_time = λ not_late none. leaves.meshes_in_time (read.opened.only.mesh_late ∙ not_late)
-              (ap (λ (t : Told). t.mesh_faults) sinks ∙ none);
+              (ap (λ (t : Sinks). t.mesh_faults) sinks ∙ none);
           report_in_time = λ not_late none. leaves.report_in_time (read.opened.only.report_late ∙ not_late)
-              (ap (λ (t : Told). t.report_faults) sinks ∙ none);
+              (ap (λ (t : Sinks). t.report_faults) sinks ∙ none);
         };
         allowed = script-allowed status is;
         causes =
-            subst (λ (t : Told). StatusHasCause before.shelf_faults now.shelf_faults t.mesh_faults now.sinks.mesh_faults
+            subst (λ (t : Sinks). StatusHasCause before.shelf_faults now.shelf_faults t.mesh_faults
+            now.sinks.mesh_faults
             t.report_faults now.sinks.report_faults status) sinks
             (subst (λ (k : ℕ). StatusHasCause k now.shelf_faults middle.sinks.mesh_faults now.sinks.mesh_faults
             middle.sinks.report_faults now.sinks.report_faults status) read.opened.faults leaves.causes);
@@ -469,9 +471,9 @@ module _ (before middle now : Moment) (name : List ℕ) (s : Scripted) (grid : H
 
 -- words that are no command do nothing
 pub usage-runs : (now : Moment) (said : Option Command) → said ≡ None →
-    Runs now now said Usage None
+    RunsCommand now now said Usage None
 usage-runs now said is =
-    subst (λ (c : Option Command). Runs now now c Usage None) (sym is)
+    subst (λ (c : Option Command). RunsCommand now now c Usage None) (sym is)
     (reads-run now now None Usage (reads-nothing now) (same-in-time _ _ _ refl) (λ e. cc) (λ e. cc)
     (record {
       complete = λ e files are. record {
@@ -491,7 +493,7 @@ usage-runs now said is =
 
 -- and a command has another status
 pub command-not-usage : (before now : Moment) (command : Command) (status : Status) (left : Option EngineEnd)
-    → Runs before now (Some command) status left → status ≡ Usage → ⊥
+    → RunsCommand before now (Some command) status left → status ≡ Usage → ⊥
 command-not-usage before now command status left runs is =
     not-allowed (subst (λ (s : Status). IsTrue (may_end (Some command) s)) is runs.allowed)
   where
@@ -570,7 +572,7 @@ module _ (before middle last now : Moment) (name : List ℕ) (job : Job) (grid :
       → (IsTrue (is_of_text job-command) → meshes_of acts ≡ [])
       → ((files : List NamedFile) → middle.shelf.files ≡ Some files →
       IsJobOutcome job grid files (plain_outcome acts Done (1 + more)))
-      → EndsWith last now acts Done status → Runs before now job-command status None
+      → EndsWith last now acts Done status → RunsCommand before now job-command status None
   whole-runs acts whole ended left no_mesh outcome ends =
       acts-run before last now name job (1 + more) all-opened acts Done (job-ends Done acts outcome) no_mesh status ends
       (omega arith) (omega (arith, whole)) refl refl left
@@ -584,7 +586,7 @@ module _ (before middle last now : Moment) (name : List ℕ) (job : Job) (grid :
       → leaves_engine job-command Done ≡ false
       → ((files : List NamedFile) → middle.shelf.files ≡ Some files →
       IsJobOutcome job grid files (text_outcome text Done (1 + more)))
-      → TellsLast last now text Done status → Runs before now job-command status None
+      → TellsLast last now text Done status → RunsCommand before now job-command status None
   certified-runs text whole ended left outcome tells =
       whole-runs (ReportText text ∷ []) whole ended left (λ text_alone. refl) outcome tells
 
@@ -593,7 +595,7 @@ module _ (before middle last now : Moment) (name : List ℕ) (job : Job) (grid :
       → IsTrue (is_check (OnGrid name job)) → leaves_engine job-command Rejected ≡ false
       → ((files : List NamedFile) → middle.shelf.files ≡ Some files →
       IsJobOutcome job grid files (text_outcome text Rejected (1 + more)))
-      → TellsLast last now text Rejected status → Runs before now job-command status None
+      → TellsLast last now text Rejected status → RunsCommand before now job-command status None
   rejected-runs text some most check left outcome tells =
       text-runs before last now name job (1 + more) all-opened text Rejected
       (job-ends Rejected (ReportText text ∷ []) outcome) status tells
@@ -607,7 +609,7 @@ module _ (before middle last now : Moment) (name : List ℕ) (job : Job) (grid :
       → IsTrue (may_end job-command ScriptRefused) → leaves_engine job-command ScriptRefused ≡ false
       → ((files : List NamedFile) → middle.shelf.files ≡ Some files →
       IsJobOutcome job grid files (text_outcome text ScriptRefused (1 + more)))
-      → TellsLast last now text ScriptRefused status → Runs before now job-command status None
+      → TellsLast last now text ScriptRefused status → RunsCommand before now job-command status None
   second-refused text one two allowed left outcome tells =
       text-runs before last now name job (1 + more) all-opened text ScriptRefused
       (job-ends ScriptRefused (ReportText text ∷ []) outcome) status tells

@@ -12,7 +12,7 @@ use Rattle.run_laws.specs.Walk.{Walk, limits_of, shown_by, after_line, refused_w
 use Rattle.run_laws.specs.Walk.{lines_of, HasBegun}
 use Rattle.run_words.specs.Words.{Show, Scripted}
 use Rattle.run_laws.specs.Picture.{Picture, IsPicture, ArePictures, last_members}
-use Rattle.run_laws.specs.Act.{Act, ReportText, Told, Stands, IsCutShort}
+use Rattle.run_laws.specs.Act.{Act, ReportText, Sinks, Stands, IsCutShort}
 use Rattle.run_laws.specs.ReportText.{line_refusal}
 use Rattle.run_laws.specs.Outcome.{Outcome, picture_acts, shown_acts, sum_acts, stop_acts, frames_outcome}
 use Rattle.run_laws.specs.Outcome.{IsFramesOutcome, script_walk}
@@ -111,7 +111,7 @@ states-first n (s ∷ ss) ts are = (are.0, are.1, states-first n ss ts are.2)
 -- the place that was reached
 
 -- nothing was read
-pub come-begin : (before : Told) (show : Show) (start : Walk) → start.stop ≡ None → start.frames ≡ [] →
+pub come-begin : (before : Sinks) (show : Show) (start : Walk) → start.stop ≡ None → start.frames ≡ [] →
     HasCome before before show start [] (place start [] [])
 come-begin before show start goes none = record {
   lines = [];
@@ -124,7 +124,7 @@ come-begin before show start goes none = record {
   stands = stands-nothing before;
 }
 
-module _ (before now : Told) (show : Show) (start : Walk) (read : List ℕ) (here : Place)
+module _ (before now : Sinks) (show : Show) (start : Walk) (read : List ℕ) (here : Place)
     (come : HasCome before now show start read here) where
   -- what was read, and more, leads on from the place
   walk_of-come : (more : List ℕ) → walk_of start (read ++ more) ≡ walk_of here.walk (here.begun ++ more)
@@ -190,7 +190,7 @@ module _ (before now : Told) (show : Show) (start : Walk) (read : List ℕ) (her
         ∙ ap (λ (w : Walk). walk_of w more) (after_text-read here.walk here.begun (Ok line) come.accepted is)
 
     -- an accepted line was carried out, and its frame was shown, if it is one
-    pub come-line : (now' : Told) (new : List Picture) →
+    pub come-line : (now' : Sinks) (new : List Picture) →
         ArePictures show (last_members [] here.pictures) (shown_by line here.walk.state) new
         → Stands now now' (shown_acts show (1 + length here.walk.frames) new)
         → HasCome before now' show start (read ++ 10 ∷ []) (place (after_line line here.walk) (here.pictures ++ new) [])
@@ -220,7 +220,7 @@ module _ (before now : Told) (show : Show) (start : Walk) (read : List ℕ) (her
     module _ (two : BudgetsAreTwo) (frames : FramesExist) (stays : SetsStayClosed) (n : ℕ) (range : (1 ≤ n) × (n ≤ 14))
         (keeps : KeepsStates n start) (state : State) (shows : shown_by line here.walk.state ≡ state ∷ []) where
       -- a frame was cut short: the later frames need their pictures, though they were never made
-      pub cuts-frame : (now' : Told) (files : ℕ) (p : Picture) → IsPicture show (last_members [] here.pictures) state p
+      pub cuts-frame : (now' : Sinks) (files : ℕ) (p : Picture) → IsPicture show (last_members [] here.pictures) state p
           → IsCutShort now now' (picture_acts show (1 + length here.walk.frames) p) →
           Cuts before now' show files start (read ++ 10 ∷ [])
       cuts-frame now' files p picture cut = record {
@@ -311,7 +311,7 @@ module _ (before now : Told) (show : Show) (start : Walk) (read : List ℕ) (her
           (one.0, no_end-append part byte one.1 other) is
 
   -- the refusal was written
-  pub refuses : (now' : Told) (bytes : List ℕ) (why : ScriptFault) → Settles bytes why →
+  pub refuses : (now' : Sinks) (bytes : List ℕ) (why : ScriptFault) → Settles bytes why →
       Stands now now' (refusal_acts why) → Refuses before now' show start bytes
   refuses now' bytes why settled stands = record {
     walk = refused_walk why here.walk;
@@ -326,7 +326,7 @@ module _ (before now : Told) (show : Show) (start : Walk) (read : List ℕ) (her
       is_some = refl
 
   -- the refusal was cut short
-  pub cuts-refusal : (now' : Told) (files : ℕ) (bytes : List ℕ) (why : ScriptFault) →
+  pub cuts-refusal : (now' : Sinks) (files : ℕ) (bytes : List ℕ) (why : ScriptFault) →
       ((ps : List Picture) → sum_acts show ps ≡ []) → Settles bytes why
       → IsCutShort now now' (refusal_acts why) → Cuts before now' show files start bytes
   cuts-refusal now' files bytes why no_sum settled cut = record {

@@ -1,6 +1,6 @@
 -- What a run does to the outside: a list of acts, each a whole mesh or a text at the end of the report.
 -- This project's own words.
--- Words: Act, meshes_of, report_of, Told, sinks_tell, Stands, StandsInPart, IsCutShort.
+-- Words: Act, meshes_of, report_of, Sinks, sinks_tell, Stands, StandsInPart, IsCutShort.
 use Rattle.std.specs.Prelude.{◌≡◌, ℕ, true, List, [], ◌∷◌, ◌++◌, Option, Some}
 use Rattle.roam_edge.specs.MeshSink.{WrittenMesh}
 use Rattle.roam_edge.specs.Told.{IsPrefix}
@@ -27,14 +27,14 @@ report_of (WholeMesh prefix number bytes ∷ acts) = report_of acts
 report_of (ReportText bytes ∷ acts) = bytes ++ report_of acts
 
 -- what a sink of meshes and a report tell at one moment, and how often each has failed
-pub record Told : Type 0 where
+pub record Sinks : Type 0 where
   pub meshes : Option (List WrittenMesh)
   pub report : Option (List ℕ)
   pub mesh_faults : ℕ
   pub report_faults : ℕ
 
 -- what a sink of meshes and a report tell
-abbrev pub sinks_tell : {M R : Type 0} → showing.Ghosts M → reporting.Ghosts R → M → R → Told
+abbrev pub sinks_tell : {M R : Type 0} → showing.Ghosts M → reporting.Ghosts R → M → R → Sinks
 sinks_tell m r shown written = record {
   meshes = m.meshes shown;
   report = r.contents written;
@@ -43,7 +43,7 @@ sinks_tell m r shown written = record {
 }
 
 -- These acts were added to meshes and report, in order in each of the two, and nothing else; and neither has failed.
-pub record Stands (before now : Told) (acts : List Act) : Type 0 where
+pub record Stands (before now : Sinks) (acts : List Act) : Type 0 where
   pub meshes_grow : Grows before.meshes now.meshes (meshes_of acts)
   pub report_grows : Grows before.report now.report (report_of acts)
   pub mesh_same : now.mesh_faults ≡ before.mesh_faults
@@ -51,7 +51,7 @@ pub record Stands (before now : Told) (acts : List Act) : Type 0 where
 
 -- The acts done were added, and a part of the next one: of a mesh, and then the meshes failed and the report did not;
 -- or of a text, and then the report failed and the meshes did not.
-abbrev pub StandsInPart : Told → Told → List Act → Act → Type 0
+abbrev pub StandsInPart : Sinks → Sinks → List Act → Act → Type 0
 StandsInPart before now done (WholeMesh prefix number bytes) =
     ((all : List WrittenMesh) → before.meshes ≡ Some all →
     (part : List WrittenMesh) × IsPartOfMesh prefix number bytes part
@@ -66,7 +66,7 @@ StandsInPart before now done (ReportText bytes) =
 
 -- The acts were cut short: some were added whole and in order, and of the next one a part. So a mesh that
 -- was finished stays, and an unfinished mesh or a cut text is a prefix of what was owed.
-pub record IsCutShort (before now : Told) (acts : List Act) : Type 0 where
+pub record IsCutShort (before now : Sinks) (acts : List Act) : Type 0 where
   pub done : List Act
   pub next : Act
   pub owed : List Act

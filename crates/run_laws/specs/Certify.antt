@@ -16,7 +16,7 @@ use Rattle.certificate_laws.specs.FitCertificate as fits
 use Rattle.certificate_laws.specs.Keeping.{KeptCertificate, IsKeptSound}
 use Rattle.certificate_laws.specs.Making.{HasNoneBehind}
 use Rattle.run_words.specs.Words.{Making, Checking, FitMaking, FitChecking, KeptMaking, KeptChecking}
-use Rattle.run_laws.specs.Fit.{tolerance_of, goal_of}
+use Rattle.run_laws.specs.Fit.{tolerance_of, target_of}
 
 -- what a certificate is made for: the grid seen from the camera, before any line of a script
 abbrev pub makes_at : Making → HeightField → State
@@ -42,13 +42,13 @@ IsFaultless c grid cert = IsSound grid.n c.budget (priority_in (checks_at c grid
 -- behind the mesh, and with no more reasons than triangles that may be split, 2 to 2 ^ (2n + 1) - 1.
 pub record IsFitMade (m : FitMaking) (grid : HeightField) (cert : FitCertificate) : Type 0 where
   pub triangles : List ℕ
-  pub sound : fits.IsFitSound grid.n grid.heights (goal_of grid.n m.target) cert triangles
-  pub behind : HasNoneBehind (goal_of grid.n m.target) cert.beyond
+  pub sound : fits.IsFitSound grid.n grid.heights (target_of grid.n m.goal) cert triangles
+  pub behind : HasNoneBehind (target_of grid.n m.goal) cert.beyond
   pub few : length cert.needed + length cert.beyond + 2 ≤ 2 ^ (2 * grid.n + 1)
 
 -- no part of it fails: it is a sound one of these triangles
 abbrev pub IsFitFaultless : FitChecking → HeightField → FitCertificate → List ℕ → Type 0
-IsFitFaultless c grid cert triangles = fits.IsFitSound grid.n grid.heights (goal_of grid.n c.target) cert triangles
+IsFitFaultless c grid cert triangles = fits.IsFitSound grid.n grid.heights (target_of grid.n c.goal) cert triangles
 
 -- A certificate of a fitted mesh that keeps points that may be made: a sound one for the error of the words and these
 -- points, which needs no more points than there are, and with no more reasons than triangles that may be split.

@@ -5,7 +5,7 @@ use Rattle.mesh_defs.specs.BoundingBox.{CameraAt}
 use Rattle.certificate_laws.specs.declared.reason.Reason.{Reason}
 use Rattle.certificate_laws.specs.declared.reason.Kind.TheVariants.{Want, Mate}
 use Rattle.cert_text.specs.Certificate.{Certificate}
-use Rattle.certificate_laws.specs.declared.fit_reason.Off.{Off}
+use Rattle.certificate_laws.specs.declared.fit_reason.Witness.{Witness}
 use Rattle.certificate_laws.specs.FitCertificate.{FitCertificate}
 use Rattle.certificate_laws.specs.Keeping.{KeptCertificate}
 use Rattle.run_words.specs.Words.{Make, Check, AtError, InBudget, MakeFit, CheckFit, MakeKept, CheckKept, OnGrid}
@@ -65,11 +65,11 @@ WordsOfCertify =
     ∷ (codes "look" ∷ (codes "g" ∷ (codes "m" ∷ (codes "c" ∷ (codes "2" ∷ (codes "1" ∷ []))))))) ≡ None)
 
 -- the lower half, off in the middle of nine points
-abbrev pub off_middle : Off
+abbrev pub off_middle : Witness
 off_middle = record { triangle = 2; x = 1; y = 1 }
 
 -- the two base triangles, with this tolerance and these reasons behind them
-abbrev pub halves_certificate : ℕ → List Off → Result FitCertificate ℕ
+abbrev pub halves_certificate : ℕ → List Witness → Result FitCertificate ℕ
 halves_certificate own why = Ok (record { tolerance = own; needed = []; beyond = why })
 
 -- with and without an LF at the end, with CRs, blanks and TABs, and without a reason
@@ -122,13 +122,13 @@ abbrev pub WordsOfCertifyFit : Type 0
 WordsOfCertifyFit =
     (command_of
     (codes "certify" ∷ (codes "make-fit" ∷ (codes "g" ∷ (codes "error" ∷ (codes "2.5" ∷ (codes "1" ∷ []))))))
-    ≡ Some (OnGrid (codes "g") (MakeFit (record { target = AtError 2500; spacing = 1 }))))
+    ≡ Some (OnGrid (codes "g") (MakeFit (record { goal = AtError 2500; spacing = 1 }))))
     × (command_of (codes "certify" ∷ (codes "check-fit"
     ∷ (codes "g" ∷ (codes "m" ∷ (codes "c" ∷ (codes "budget" ∷ (codes "2" ∷ (codes "1024" ∷ []))))))))
     ≡ Some (OnGrid (codes "g") (CheckFit (record {
       mesh = codes "m";
       certificate = codes "c";
-      target = InBudget 2;
+      goal = InBudget 2;
       spacing = 1024;
     }))))
     × (command_of

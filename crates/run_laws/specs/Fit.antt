@@ -1,6 +1,6 @@
 -- A mesh that is fitted to a height field, whatever it is seen from: the fewest triangles for an error, or the least
 -- error for a budget. This project's own form.
--- Words: tolerance_of, goal_of, IsFitFor, IsFitted, IsFewestFor, IsClosestFor, IsBestFit, IsKeptFor, IsKept,
+-- Words: tolerance_of, target_of, IsFitFor, IsFitted, IsFewestFor, IsClosestFor, IsBestFit, IsKeptFor, IsKept,
 -- IsFewestKeeping, fit_text.
 use Rattle.std.specs.Prelude.{◌≡◌, ℕ, ◌*◌, ◌^◌, ◌/◌, ◌≤◌, IsTrue, List, [], length, All}
 use Rattle.mesh_defs.specs.declared.point.Point.{Point}
@@ -15,10 +15,10 @@ use Rattle.fit_laws.specs.Error.{error_of}
 use Rattle.fit_laws.specs.Budget.{IsBudgetMesh}
 use Rattle.mesh_laws.specs.Vertex.{is_mesh_vertex}
 use Rattle.fit_laws.specs.Required.{IsLeastMeshWith}
-use Rattle.certificate_laws.specs.declared.fit_reason.Target.{Target as Goal}
-use Rattle.certificate_laws.specs.declared.fit_reason.Target.TheVariants as goal
+use Rattle.certificate_laws.specs.declared.fit_reason.Target.{Target}
+use Rattle.certificate_laws.specs.declared.fit_reason.Target.TheVariants as target
 use Rattle.certificate_laws.specs.Keeping.{is_centred}
-use Rattle.run_words.specs.Words.{Target, AtError, InBudget}
+use Rattle.run_words.specs.Words.{Goal, AtError, InBudget}
 
 -- The tolerance of so many thousandths of a unit of height, in units of 2 ^ -n: errors are whole in these, so rounding
 -- down loses none.
@@ -26,19 +26,19 @@ abbrev pub tolerance_of : (n thousandths : ℕ) → ℕ
 tolerance_of n thousandths = thousandths * 2 ^ n / 1000
 
 -- the target of a certificate of the mesh
-abbrev pub goal_of : ℕ → Target → Goal
-goal_of n (AtError thousandths) = goal.Error (tolerance_of n thousandths)
-goal_of n (InBudget budget) = goal.Budget budget
+abbrev pub target_of : ℕ → Goal → Target
+target_of n (AtError thousandths) = target.Error (tolerance_of n thousandths)
+target_of n (InBudget budget) = target.Budget budget
 
 -- the list is a least mesh for the error, or a mesh of the budget with the least greatest error
-abbrev pub IsFitFor : Target → HeightField → List ℕ → Type 0
+abbrev pub IsFitFor : Goal → HeightField → List ℕ → Type 0
 IsFitFor (AtError thousandths) grid triangles =
     IsLeastMesh grid.n (tolerance_of grid.n thousandths) (error_of grid.n grid.heights) triangles
 IsFitFor (InBudget budget) grid triangles = IsBudgetMesh grid.n budget (error_of grid.n grid.heights) triangles
 
 -- and its triangles stand depth first: there is one such list
-pub record IsFitted (target : Target) (grid : HeightField) (triangles : List ℕ) : Type 0 where
-  pub fit : IsFitFor target grid triangles
+pub record IsFitted (goal : Goal) (grid : HeightField) (triangles : List ℕ) : Type 0 where
+  pub fit : IsFitFor goal grid triangles
   pub in_order : leaves_of grid.n (ancestors_of triangles) ≡ triangles
 
 -- The list has the fewest triangles for an error of so many thousandths: it is conforming, at no grid point the surface
@@ -61,7 +61,7 @@ pub record IsClosestFor (budget : ℕ) (grid : HeightField) (triangles : List �
       length triangles ≤ length others
 
 -- what a mesh is that is fitted, in these words
-abbrev pub IsBestFit : Target → HeightField → List ℕ → Type 0
+abbrev pub IsBestFit : Goal → HeightField → List ℕ → Type 0
 IsBestFit (AtError thousandths) grid triangles = IsFewestFor thousandths grid triangles
 IsBestFit (InBudget budget) grid triangles = IsClosestFor budget grid triangles
 

@@ -28,7 +28,7 @@ use Rattle.run_words.specs.Words.{prefix_of, command_of}
 use Rattle.run_laws.specs.ReportText.{certified_line, fit_line, certified_fit_line}
 use Rattle.run_laws.specs.Certify.{checks_at}
 use Rattle.run_laws.specs.Fit.{IsFitFor, IsBestFit, IsKeptFor, IsFewestKeeping, fit_text}
-use Rattle.run_laws.specs.Act.{Told}
+use Rattle.run_laws.specs.Act.{Sinks}
 use Rattle.obj_write.specs.Written.{mesh_with, Grows}
 use Rattle.run_laws.specs.Outcome.{script_walk}
 use Rattle.run_laws.specs.Promise.{ends_script}
@@ -115,7 +115,7 @@ pub record IsCertifiedAs (spacing : ℕ) (grid : HeightField) (is_best is_fit : 
 -- so of the words: a best one for their error or their budget
 abbrev pub IsCertifiedFit : FitChecking → HeightField → List ℕ → List ℕ → Type 0
 IsCertifiedFit c grid mesh line =
-    IsCertifiedAs c.spacing grid (IsBestFit c.target grid) (IsFitFor c.target grid) mesh line
+    IsCertifiedAs c.spacing grid (IsBestFit c.goal grid) (IsFitFor c.goal grid) mesh line
 
 -- and of words that keep these points: the fewest triangles for their error that have the points as vertices
 abbrev pub IsCertifiedKept : KeptChecking → List Point → HeightField → List ℕ → List ℕ → Type 0
@@ -135,7 +135,7 @@ pub record IsOneMeshOf (begin : List ℕ) (spacing : ℕ) (grid : HeightField) (
 -- run is done it came, and the report got its line: how many triangles and vertices it has, and how far the surface is
 -- from it.
 pub record KeepsOneMesh (begin : List ℕ) (spacing : ℕ) (grid : HeightField) (is_best is_fit : List ℕ → Type 0)
-    (before now : Told) (all : List WrittenMesh) (status : Status) : Type 0 where
+    (before now : Sinks) (all : List WrittenMesh) (status : Status) : Type 0 where
   pub added : List WrittenMesh
   pub behind : now.meshes ≡ Some (all ++ added)
   pub one : length added ≤ 1
@@ -146,12 +146,12 @@ pub record KeepsOneMesh (begin : List ℕ) (spacing : ℕ) (grid : HeightField) 
       × Grows before.report now.report (fit_line grid triangles)
 
 -- so of the words: a best mesh for their error or their budget
-abbrev pub KeepsFitMesh : Fitting → HeightField → Told → Told → List WrittenMesh → Status → Type 0
+abbrev pub KeepsFitMesh : Fitting → HeightField → Sinks → Sinks → List WrittenMesh → Status → Type 0
 KeepsFitMesh f grid before now all status =
-    KeepsOneMesh f.prefix f.spacing grid (IsBestFit f.target grid) (IsFitFor f.target grid) before now all status
+    KeepsOneMesh f.prefix f.spacing grid (IsBestFit f.goal grid) (IsFitFor f.goal grid) before now all status
 
 -- and of words that keep these points: the fewest triangles for their error that have the points as vertices
-abbrev pub KeepsKeptMesh : Keeping → List Point → HeightField → Told → Told → List WrittenMesh → Status → Type 0
+abbrev pub KeepsKeptMesh : Keeping → List Point → HeightField → Sinks → Sinks → List WrittenMesh → Status → Type 0
 KeepsKeptMesh k points grid before now all status =
     KeepsOneMesh k.prefix k.spacing grid (IsFewestKeeping k.thousandths points grid)
     (IsKeptFor k.thousandths points grid) before now all status

@@ -37,16 +37,16 @@ use Rattle.cert_text.specs.KeptCert.{kept_cert_text}
 use Rattle.cert_text.specs.KeptLaws.{IsKeptCertificateOf}
 use Rattle.certificate_laws.specs.Keeping.{KeptCertificate}
 use Rattle.run_laws.specs.CertFile.{fit_cert_in, kept_cert_in}
-use Rattle.run_words.specs.Words.{Show, Scripted, Making, Checking, Target, Fitting, Keeping, FitChecking, Frames}
+use Rattle.run_words.specs.Words.{Show, Scripted, Making, Checking, Goal, Fitting, Keeping, FitChecking, Frames}
 use Rattle.run_words.specs.Words.{Make, Check, FitMaking, Fit, Keep, MakeFit, CheckFit, KeptMaking, KeptChecking}
 use Rattle.run_words.specs.Words.{MakeKept, CheckKept, OnGrid, prefix_of, command_of}
 use Rattle.run_laws.specs.Certify.{makes_at, IsMade, IsFitMade, IsKeptMade}
-use Rattle.run_laws.specs.Act.{Told}
+use Rattle.run_laws.specs.Act.{Sinks}
 use Rattle.run_laws.specs.Picture.{Picture, ArePictures, IsCertified, last_members}
 use Rattle.run_laws.specs.Turns.{left_turns, right_turns}
 use Rattle.run_laws.specs.Outcome.{Outcome, IsOutcome}
 use Rattle.run_words.specs.Jobs.{MakesNoCertificate}
-use Rattle.run_laws.specs.Promise.{Seen, EndsRight, LeavesAtReadFault, LeavesAtNoMemory, IsAcceptedCheck}
+use Rattle.run_laws.specs.Promise.{ShelfState, EndsRight, LeavesAtReadFault, LeavesAtNoMemory, IsAcceptedCheck}
 use Rattle.run_laws.specs.Promise.{IsAcceptedFitCheck, IsAcceptedKeptCheck, IsAccepted}
 use Rattle.run_laws.specs.Headline.{IsRunOf, KeepsGoodMeshes, IsCertifiedMesh, IsCertifiedFit, KeepsFitMesh}
 use Rattle.run_laws.specs.Headline.{IsCertifiedKept, KeepsKeptMesh}
@@ -146,8 +146,8 @@ TurnsAreCounted = (n lefts rights : ℕ) (has : ℕ → Bool) → IsClosed n has
 -- at its frame line
 abbrev pub HeadlineFollows : Type 0
 HeadlineFollows =
-    (words : List (List ℕ)) (files : List NamedFile) (s : Scripted) (grid : HeightField) (before now : Told)
-    (old new : Seen) (all : List WrittenMesh) (status : Status)
+    (words : List (List ℕ)) (files : List NamedFile) (s : Scripted) (grid : HeightField) (before now : Sinks)
+    (old new : ShelfState) (all : List WrittenMesh) (status : Status)
     → IsRunOf words files (Frames s) grid → IsSome (prefix_of s.show) → old.files ≡ Some files →
     before.meshes ≡ Some all → EndsRight before now old new words files status
     → (status ≡ ReadFault → LeavesAtReadFault before now old new words) →
@@ -157,24 +157,24 @@ HeadlineFollows =
 -- where a check is done, the report got a line by which its mesh is certified
 abbrev pub CertifiedFollows : Type 0
 CertifiedFollows =
-    (words : List (List ℕ)) (files : List NamedFile) (c : Checking) (grid : HeightField) (before now : Told)
-    (old new : Seen) (status : Status)
+    (words : List (List ℕ)) (files : List NamedFile) (c : Checking) (grid : HeightField) (before now : Sinks)
+    (old new : ShelfState) (status : Status)
     → IsRunOf words files (Check c) grid → EndsRight before now old new words files status → status ≡ Done
     → (line : List ℕ) × Grows before.report now.report line × IsCertifiedMesh c grid (bytes_of files c.mesh) line
 
 -- the same of a check of a fitted mesh
 abbrev pub FitCertifiedFollows : Type 0
 FitCertifiedFollows =
-    (words : List (List ℕ)) (files : List NamedFile) (c : FitChecking) (grid : HeightField) (before now : Told)
-    (old new : Seen) (status : Status)
+    (words : List (List ℕ)) (files : List NamedFile) (c : FitChecking) (grid : HeightField) (before now : Sinks)
+    (old new : ShelfState) (status : Status)
     → IsRunOf words files (CheckFit c) grid → EndsRight before now old new words files status → status ≡ Done
     → (line : List ℕ) × Grows before.report now.report line × IsCertifiedFit c grid (bytes_of files c.mesh) line
 
 -- the same of one that keeps points, whose file is then a text of points
 abbrev pub KeptCertifiedFollows : Type 0
 KeptCertifiedFollows =
-    (words : List (List ℕ)) (files : List NamedFile) (c : KeptChecking) (grid : HeightField) (before now : Told)
-    (old new : Seen) (status : Status)
+    (words : List (List ℕ)) (files : List NamedFile) (c : KeptChecking) (grid : HeightField) (before now : Sinks)
+    (old new : ShelfState) (status : Status)
     → IsRunOf words files (CheckKept c) grid → EndsRight before now old new words files status → status ≡ Done
     → (points : List Point) × (points_in grid.n (bytes_of files c.points) ≡ Ok points) × (line : List ℕ)
     × Grows before.report now.report line × IsCertifiedKept c points grid (bytes_of files c.mesh) line
@@ -197,14 +197,14 @@ TolerancesAreExact =
 -- a mesh that is fitted is a best one, in the words of distances from the surface
 abbrev pub FitsAreBest : Type 0
 FitsAreBest =
-    (target : Target) (grid : HeightField) (triangles : List ℕ) → IsFitFor target grid triangles →
-    IsBestFit target grid triangles
+    (goal : Goal) (grid : HeightField) (triangles : List ℕ) → IsFitFor goal grid triangles →
+    IsBestFit goal grid triangles
 
 -- the headline of a fit: whatever the status, from what stands after each, the mesh is a best one if it is finished
 abbrev pub FittedFollows : Type 0
 FittedFollows =
-    (words : List (List ℕ)) (files : List NamedFile) (f : Fitting) (grid : HeightField) (before now : Told)
-    (old new : Seen) (all : List WrittenMesh) (status : Status)
+    (words : List (List ℕ)) (files : List NamedFile) (f : Fitting) (grid : HeightField) (before now : Sinks)
+    (old new : ShelfState) (all : List WrittenMesh) (status : Status)
     → IsRunOf words files (Fit f) grid → before.meshes ≡ Some all → EndsRight before now old new words files status
     → (status ≡ ReadFault → LeavesAtReadFault before now old new words) →
     (status ≡ NoMemory → LeavesAtNoMemory before now old new words)
@@ -221,7 +221,7 @@ KeptAreBest =
 abbrev pub KeptFollows : Type 0
 KeptFollows =
     (words : List (List ℕ)) (files : List NamedFile) (k : Keeping) (grid : HeightField) (points : List Point)
-    (before now : Told) (old new : Seen) (all : List WrittenMesh) (status : Status)
+    (before now : Sinks) (old new : ShelfState) (all : List WrittenMesh) (status : Status)
     → IsRunOf words files (Keep k) grid → points_in grid.n (bytes_of files k.points) ≡ Ok points
     → before.meshes ≡ Some all → EndsRight before now old new words files status
     → (status ≡ ReadFault → LeavesAtReadFault before now old new words) →
@@ -246,7 +246,7 @@ FitMadeIsAccepted =
     (words : List (List ℕ)) (name : List ℕ) (m : FitMaking) (grid : HeightField) (cert : FitCertificate)
     (c : FitChecking) (files : List NamedFile) (triangles : List ℕ)
     → command_of words ≡ Some (OnGrid name (MakeFit m)) → IsHeightField grid → grid.n ≤ GREATEST_FILE_LEVEL →
-    IsFitMade m grid cert → c.target ≡ m.target → IsFitted m.target grid triangles
+    IsFitMade m grid cert → c.goal ≡ m.goal → IsFitted m.goal grid triangles
     → bytes_of files c.certificate ≡ fit_cert_text cert → bytes_of files c.mesh ≡ fit_text c.spacing grid triangles →
     IsAcceptedFitCheck c grid files
 

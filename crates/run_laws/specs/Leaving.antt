@@ -1,6 +1,6 @@
 -- How a command is carried out: how it ends, what its engine tells then, and what reading its files and telling its end
 -- come to.
--- Words: CommandEnds, Runs, HasOpened, HasFailed, MeshHasRead, ReadsGrid, KeepsPoints, ReadsPoints, EndsWith,
+-- Words: CommandEnds, RunsCommand, HasOpened, HasFailed, MeshHasRead, ReadsGrid, KeepsPoints, ReadsPoints, EndsWith,
 -- TellsLast, LeavesByScript.
 use Rattle.std.specs.Prelude.{◌≡◌, ◌≢◌, ◌⊎◌, ℕ, ◌+◌, ◌^◌, ◌≤◌, false, IsTrue, All, List, [], ◌∷◌, length, slice_get}
 use Rattle.std.specs.Prelude.{Option, Some, Ok, Err}
@@ -19,10 +19,10 @@ use Rattle.run_words.specs.Jobs.{names_of, file_count}
 use Rattle.run_laws.specs.Walk.{Refusal}
 use Rattle.run_laws.specs.PointFile.{points_in, PointsHaveRead}
 use Rattle.run_laws.specs.ReportText.{line_refusal}
-use Rattle.run_laws.specs.Act.{Act, ReportText, Told, meshes_of}
+use Rattle.run_laws.specs.Act.{Act, ReportText, Sinks, meshes_of}
 use Rattle.run_laws.specs.Cause.{StatusHasCause, StatusWritesHaveCause}
 use Rattle.run_laws.specs.Outcome.{Outcome, EngineEnd, IsJobOutcome, IsCommandOutcome, plain_outcome, text_outcome}
-use Rattle.run_laws.specs.Promise.{Seen, EndsAs, HasEnded, JobHasRead, HasReadHeader, is_complete, may_end}
+use Rattle.run_laws.specs.Promise.{ShelfState, EndsAs, HasEnded, JobHasRead, HasReadHeader, is_complete, may_end}
 use Rattle.run_laws.specs.Promise.{leaves_engine}
 use Rattle.run_laws.specs.FileStop.{StopsReading}
 use Rattle.run_laws.specs.Maker.{DoesAs}
@@ -30,7 +30,7 @@ use Rattle.run_laws.specs.Moment.{Moment, OnlyReads, SameMeshes}
 use Rattle.run_laws.specs.Statement.{EndsByStatus, LeavesOutside}
 
 -- unless memory ran out or a read failed, the command ends as its outcome, and leaves its engine
-pub record CommandEnds (before now : Told) (old new : Seen) (command : Command)
+pub record CommandEnds (before now : Sinks) (old new : ShelfState) (command : Command)
     (files : List NamedFile) (status : Status)
     (left : Option EngineEnd) : Type 0 where
   pub ends : status ≢ NoMemory → status ≢ ReadFault
@@ -39,7 +39,7 @@ pub record CommandEnds (before now : Told) (old new : Seen) (command : Command)
 
 -- This command was carried out, or the words are none: what stands by the status, how the outside and the engine are
 -- left, and that the status has its cause. Every function that carries a command out promises this.
-pub record Runs (before now : Moment) (command : Option Command) (status : Status)
+pub record RunsCommand (before now : Moment) (command : Option Command) (status : Status)
     (left : Option EngineEnd) : Type 0 where
   pub ends : EndsByStatus before now command status left
   pub leaves : LeavesOutside before now command status left

@@ -6,15 +6,15 @@ use Rattle.roam_edge.specs.declared.shelf.Shelf as reading
 use Rattle.roam_edge.specs.declared.mesh_sink.MeshSink as showing
 use Rattle.roam_edge.specs.declared.sink.Sink as reporting
 use Rattle.roam_edge.specs.Fault.{IsInTime}
-use Rattle.run_laws.specs.Act.{Act, Told, sinks_tell, Stands, IsCutShort, meshes_of}
+use Rattle.run_laws.specs.Act.{Act, Sinks, sinks_tell, Stands, IsCutShort, meshes_of}
 use Rattle.run_laws.specs.Cause.{WritesHaveCause}
-use Rattle.run_laws.specs.Promise.{Seen, shelf_tells}
+use Rattle.run_laws.specs.Promise.{ShelfState, shelf_tells}
 
 -- what the shelf tells; what the two sinks tell, and how often each of them has failed; whether a mesh is begun and not
 -- finished; how often the shelf has failed; and whether each of the three is late: called after a call of it had failed
 pub record Moment : Type 0 where
-  pub shelf : Seen
-  pub sinks : Told
+  pub shelf : ShelfState
+  pub sinks : Sinks
   pub under_way : Bool
   pub shelf_faults : ℕ
   pub shelf_late : Bool

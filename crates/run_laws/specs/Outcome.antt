@@ -34,7 +34,7 @@ use Rattle.run_words.specs.Words.{Command, OnGrid, Generated}
 use Rattle.run_laws.specs.CertFile.{cert_in, fit_cert_in, kept_cert_in}
 use Rattle.run_laws.specs.PointFile.{points_in}
 use Rattle.run_laws.specs.Certify.{checks_at, IsMade, IsFitMade, IsKeptMade, IsFirstDifference}
-use Rattle.run_laws.specs.Fit.{tolerance_of, goal_of, IsFitted, IsKept, fit_text}
+use Rattle.run_laws.specs.Fit.{tolerance_of, target_of, IsFitted, IsKept, fit_text}
 use Rattle.run_laws.specs.Act.{Act, WholeMesh, ReportText}
 use Rattle.run_laws.specs.Picture.{Picture, shown_triangles, ArePictures, last_members}
 use Rattle.run_laws.specs.ReportText.{mesh_line, measure_line, fit_line, try_line, info_line, grid_refusal}
@@ -220,12 +220,12 @@ IsJobOutcome (Make m) grid files end =
 IsJobOutcome (Check c) grid files end =
     IsCheckOutcome c grid (cert_in grid.n (bytes_of files c.certificate)) (bytes_of files c.mesh) end
 IsJobOutcome (Fit f) grid files end =
-    (triangles : List ℕ) × IsFitted f.target grid triangles × (end ≡ plain_outcome (fit_acts f grid triangles) Done 1)
+    (triangles : List ℕ) × IsFitted f.goal grid triangles × (end ≡ plain_outcome (fit_acts f grid triangles) Done 1)
 IsJobOutcome (Keep k) grid files end = IsKeepOutcome k grid (points_in grid.n (bytes_of files k.points)) end
 IsJobOutcome (MakeFit m) grid files end =
     (cert : FitCertificate) × IsFitMade m grid cert × (end ≡ text_outcome (fit_cert_text cert) Done 1)
 IsJobOutcome (CheckFit c) grid files end =
-    IsFitCheckOutcome 2 c.spacing grid (IsVerdictOf grid.n grid.heights (goal_of grid.n c.target))
+    IsFitCheckOutcome 2 c.spacing grid (IsVerdictOf grid.n grid.heights (target_of grid.n c.goal))
     (fit_cert_in grid.n (bytes_of files c.certificate)) (bytes_of files c.mesh) end
 IsJobOutcome (MakeKept m) grid files end = IsKeptMakeOutcome m grid (points_in grid.n (bytes_of files m.points)) end
 IsJobOutcome (CheckKept c) grid files end =

@@ -1,8 +1,8 @@
 -- What a run of `roam` promises, by its status.
--- Words: Seen, seen, shelf_tells, AreFiles, is_complete, ends_script, EndsAs, EndsRight, HasEnded, may_end,
--- OpensForStatus, IsUndecided, ScriptHasRead, CheckHasRead, FitCheckHasRead, KeptCheckHasRead, JobHasRead, HasRead,
--- FileReadFault, CommandReadFault, LeavesAtReadFault, HasReadHeader, JobHasCome, CommandNoMemory, LeavesAtNoMemory,
--- IsAcceptedCheck, IsAcceptedFitCheck, IsAcceptedKeptCheck, IsAcceptedJob, IsAccepted, leaves_engine.
+-- Words: ShelfState, shelf_state, shelf_tells, AreFiles, is_complete, ends_script, EndsAs, EndsRight, HasEnded,
+-- may_end, OpensForStatus, IsUndecided, ScriptHasRead, CheckHasRead, FitCheckHasRead, KeptCheckHasRead, JobHasRead,
+-- HasRead, FileReadFault, CommandReadFault, LeavesAtReadFault, HasReadHeader, JobHasCome, CommandNoMemory,
+-- LeavesAtNoMemory, IsAcceptedCheck, IsAcceptedFitCheck, IsAcceptedKeptCheck, IsAcceptedJob, IsAccepted, leaves_engine.
 use Rattle.std.specs.Prelude.{◌≡◌, ◌≢◌, ⊤, ℕ, zero, suc, ◌+◌, ◌<◌, ◌≤◌, Bool, true, false, ◌&&◌, ◌||◌, nat_lt, IsTrue}
 use Rattle.std.specs.Prelude.{List, [], ◌++◌, length, Option, Some, None, Ok, Err, slice_get}
 use Rattle.mesh_defs.specs.declared.point.Point.{Point}
@@ -32,22 +32,22 @@ use Rattle.run_laws.specs.PointFile.{points_in, PointsHaveRead}
 use Rattle.run_laws.specs.Certify.{checks_at, IsFaultless, IsFitFaultless, IsKeptFaultless}
 use Rattle.run_laws.specs.Fit.{fit_text}
 use Rattle.run_laws.specs.Picture.{Picture, ArePictures}
-use Rattle.run_laws.specs.Act.{Act, Told, Stands, IsCutShort}
+use Rattle.run_laws.specs.Act.{Act, Sinks, Stands, IsCutShort}
 use Rattle.run_laws.specs.Outcome.{Outcome, shown_acts, script_walk, IsOutcome}
 
 -- what a shelf tells at one moment: its files, what is unread of the file that was opened last, how often files were
 -- opened, and whether the end of the last one was read; so too where no file is open, as after an opening that failed
-pub record Seen : Type 0 where
+pub record ShelfState : Type 0 where
   pub files : Option (List NamedFile)
   pub rest : Option (List ℕ)
   pub opens : ℕ
   pub ended : Bool
 
-abbrev pub seen : Option (List NamedFile) → Option (List ℕ) → ℕ → Bool → Seen
-seen all unread count at_end = record { files = all; rest = unread; opens = count; ended = at_end }
+abbrev pub shelf_state : Option (List NamedFile) → Option (List ℕ) → ℕ → Bool → ShelfState
+shelf_state all unread count at_end = record { files = all; rest = unread; opens = count; ended = at_end }
 
 -- what this shelf tells
-abbrev pub shelf_tells : {F : Type 0} → reading.Ghosts F → F → Seen
+abbrev pub shelf_tells : {F : Type 0} → reading.Ghosts F → F → ShelfState
 shelf_tells f shelf = record {
   files = f.files shelf;
   rest = f.rest shelf;
@@ -78,20 +78,20 @@ ends_script _ = false
 
 -- The files of the outcome were opened. A complete run did all of the outcome and has its status; where a
 -- write failed, what was owed was cut short.
-pub record EndsAs (before now : Told) (old new : Seen) (end : Outcome) (status : Status) : Type 0 where
+pub record EndsAs (before now : Sinks) (old new : ShelfState) (end : Outcome) (status : Status) : Type 0 where
   pub opened : new.opens ≡ old.opens + end.opened
   pub complete : IsTrue (is_complete status) → Stands before now end.acts × (status ≡ end.status)
   pub cut_short : status ≡ WriteFault → IsCutShort before now end.acts
 
 -- Unless memory ran out or a read failed, the run ends as an outcome of its words and files.
-pub record EndsRight (before now : Told) (old new : Seen) (words : List (List ℕ)) (files : List NamedFile)
+pub record EndsRight (before now : Sinks) (old new : ShelfState) (words : List (List ℕ)) (files : List NamedFile)
     (status : Status) : Type 0 where
   pub ends : status ≢ NoMemory → status ≢ ReadFault →
       (end : Outcome) × IsOutcome (command_of words) files end × EndsAs before now old new end status
 
 -- the end of the file was read: nothing is unread where the shelf tells its files, and nothing where it tells what is
 -- unread
-pub record HasEnded (now : Seen) : Type 0 where
+pub record HasEnded (now : ShelfState) : Type 0 where
   pub at_end : now.ended ≡ true
   pub nothing_left : (all : List NamedFile) → now.files ≡ Some all → now.rest ≡ Some []
   pub nothing_unread : (unread : List ℕ) → now.rest ≡ Some unread → unread ≡ []
@@ -187,7 +187,7 @@ HasRead (Generated n seed) files k read acts = ⊥
 
 -- A read of the command's file at this place failed, or its opening. If its opening failed none of it was read, and the
 -- shelf tells that nothing is left to read. What the run has done by then stands, and nothing else.
-pub record FileReadFault (before now : Told) (new : Seen) (command : Command)
+pub record FileReadFault (before now : Sinks) (new : ShelfState) (command : Command)
     (files : List NamedFile) (k : ℕ) : Type 0 where
   pub name : List ℕ
   pub read : List ℕ
@@ -202,14 +202,14 @@ pub record FileReadFault (before now : Told) (new : Seen) (command : Command)
 
 -- A read failed, at one of the command's files, counted from 0. Unless it was a script, which is file 1 of a command
 -- with one, nothing was done, whether the shelf tells its files or not.
-pub record CommandReadFault (before now : Told) (old new : Seen) (command : Command) : Type 0 where
+pub record CommandReadFault (before now : Sinks) (old new : ShelfState) (command : Command) : Type 0 where
   pub file : ℕ
   pub opened : new.opens ≡ old.opens + (file + 1)
   pub before_script : (IsTrue (has_script command) → file ≡ 0) → Stands before now []
   pub at_file : (files : List NamedFile) → old.files ≡ Some files → FileReadFault before now new command files file
 
 -- so of the command that the words are
-pub record LeavesAtReadFault (before now : Told) (old new : Seen) (words : List (List ℕ)) : Type 0 where
+pub record LeavesAtReadFault (before now : Sinks) (old new : ShelfState) (words : List (List ℕ)) : Type 0 where
   pub command : Command
   pub is_command : command_of words ≡ Some command
   pub leaves : CommandReadFault before now old new command
@@ -239,7 +239,7 @@ JobHasCome job grid files opened = ⊤
 -- Memory ran out. Nothing was written, and no script was opened, nor points that a mesh is fitted to; if the command
 -- names a grid, a whole accepted header of it was read; and a later file was opened only after accepted ones. Where
 -- this holds nothing forbids the status.
-pub record CommandNoMemory (before now : Told) (old new : Seen) (command : Command) : Type 0 where
+pub record CommandNoMemory (before now : Sinks) (old new : ShelfState) (command : Command) : Type 0 where
   pub opened : ℕ
   pub count : new.opens ≡ old.opens + opened
   pub least : 0 < file_count (Some command) → 1 ≤ opened
@@ -252,7 +252,7 @@ pub record CommandNoMemory (before now : Told) (old new : Seen) (command : Comma
       → (grid : HeightField) × (grid_of (bytes_of files name) ≡ Ok grid) × JobHasCome job grid files opened
 
 -- so only for words of a command
-pub record LeavesAtNoMemory (before now : Told) (old new : Seen) (words : List (List ℕ)) : Type 0 where
+pub record LeavesAtNoMemory (before now : Sinks) (old new : ShelfState) (words : List (List ℕ)) : Type 0 where
   pub command : Command
   pub is_command : command_of words ≡ Some command
   pub leaves : CommandNoMemory before now old new command

@@ -4,7 +4,7 @@ use Rattle.std.specs.Prelude.{◌≡◌, ℕ, List, [], ◌++◌, None, IsSome}
 use Rattle.run_laws.specs.Walk.{Walk, walk_of, AreWhole, HasBegun}
 use Rattle.run_words.specs.Words.{Show}
 use Rattle.run_laws.specs.Picture.{Picture, ArePictures}
-use Rattle.run_laws.specs.Act.{Told, Stands, IsCutShort}
+use Rattle.run_laws.specs.Act.{Sinks, Stands, IsCutShort}
 use Rattle.run_laws.specs.Outcome.{Outcome, shown_acts, stop_acts, IsFramesOutcome}
 
 -- how far a script was carried out: its walk, the pictures of its frames, and the bytes of the line that has begun
@@ -15,7 +15,7 @@ pub record Place : Type 0 where
 
 -- The place was reached by these bytes of a script: its whole lines are accepted, what their frames do stands,
 -- and no byte of the line that has begun is refused.
-pub record HasCome (before now : Told) (show : Show) (start : Walk) (read : List ℕ) (here : Place) : Type 0 where
+pub record HasCome (before now : Sinks) (show : Show) (start : Walk) (read : List ℕ) (here : Place) : Type 0 where
   pub lines : List ℕ
   pub cut : read ≡ lines ++ here.begun
   pub whole : AreWhole lines
@@ -26,7 +26,7 @@ pub record HasCome (before now : Told) (show : Show) (start : Walk) (read : List
   pub stands : Stands before now (shown_acts show 1 here.pictures)
 
 -- a line that was read is refused, whatever follows, and all that the script does stands
-pub record Refuses (before now : Told) (show : Show) (start : Walk) (read : List ℕ) : Type 0 where
+pub record Refuses (before now : Sinks) (show : Show) (start : Walk) (read : List ℕ) : Type 0 where
   pub walk : Walk
   pub pictures : List Picture
   pub settled : (more : List ℕ) → walk_of start (read ++ more) ≡ walk
@@ -36,6 +36,6 @@ pub record Refuses (before now : Told) (show : Show) (start : Walk) (read : List
 
 -- what the script does, whatever follows, was cut short: so its later frames need their pictures, though they
 -- were never made
-pub record Cuts (before now : Told) (show : Show) (files : ℕ) (start : Walk) (read : List ℕ) : Type 0 where
+pub record Cuts (before now : Sinks) (show : Show) (files : ℕ) (start : Walk) (read : List ℕ) : Type 0 where
   pub short : (more : List ℕ) →
       (end : Outcome) × IsFramesOutcome show files (walk_of start (read ++ more)) end × IsCutShort before now end.acts

@@ -7,7 +7,7 @@ use Rattle.run_laws.specs.declared.status.Status.TheVariants as ends
 use Rattle.run_laws.specs.Walk.{Refusal, Walk, walk_of}
 use Rattle.run_words.specs.Words.{Show}
 use Rattle.run_laws.specs.Picture.{Picture, ArePictures}
-use Rattle.run_laws.specs.Act.{Act, Told, Stands, IsCutShort}
+use Rattle.run_laws.specs.Act.{Act, Sinks, Stands, IsCutShort}
 use Rattle.run_laws.specs.Outcome.{Outcome, shown_acts, sum_acts, stop_acts, stop_status, engine_for, frames_outcome}
 use Rattle.run_laws.specs.Outcome.{IsFramesOutcome}
 use Rattle.run_laws.proofs.StepLemmas.{place, come-begin, walk_of-end, walk_of-empty}
@@ -15,7 +15,7 @@ use Rattle.run_laws.specs.Promise.{is_complete}
 use Rattle.run_meshes.specs.declared.stage.Stage.{Stage}
 use Rattle.run_meshes.specs.declared.script.Stop.{Stop}
 use Rattle.run_meshes.specs.declared.script.Stop.TheVariants.{Refused, Failed}
-use Rattle.run_laws.specs.Maker.{TellsFrames, Begins, DoesAs, Leaves, EndsScript}
+use Rattle.run_laws.specs.Maker.{TellsFrames, Begins, DoesAs, LeavesEngine, EndsScript}
 use Rattle.run_meshes.specs.StageView.{IsScriptAt}
 use Rattle.run_laws.proofs.FileLemmas.{IsOfFile, file-cut, read-all}
 use Rattle.run_meshes.specs.Taking.{status_for, TakesBytes}
@@ -28,11 +28,11 @@ stop-refused None is = absurd (not_true is)
     not_true e = cc
 stop-refused (Some refusal) is = refl
 
-module _ (before now : Told) (show : Show) (follows : Show → Walk → List Picture → Type 0) (start : Walk) where
+module _ (before now : Sinks) (show : Show) (follows : Show → Walk → List Picture → Type 0) (start : Walk) where
   -- what the outcome of a walk says stands, and what makes the frames has come to its end
   abbrev Does : Status → Walk → Type 0
   Does status walk = (end : Outcome) × IsFramesOutcome show 2 walk end × DoesAs before now end status
-      × (IsTrue (is_complete status) → Leaves show follows end)
+      × (IsTrue (is_complete status) → LeavesEngine show follows end)
 
   -- nothing is told behind the frames but a refusal
   no-sum : TellsFrames show → (walk : Walk) (ps : List Picture) →
@@ -106,20 +106,20 @@ module _ (before now : Told) (show : Show) (follows : Show → Walk → List Pic
       subst P (sym same) is
 
 -- the last line ends with the script as with an LF
-pub last-line : (before now : Told) (show : Show) (follows : Show → Walk → List Picture → Type 0) (start : Walk)
+pub last-line : (before now : Sinks) (show : Show) (follows : Show → Walk → List Picture → Type 0) (start : Walk)
     (read : List ℕ) (stage : Stage) (at : IsScriptAt before now show follows start read stage)
     → stage.part.items ≢ [] → walk_of start read ≡ walk_of start (read ++ 10 ∷ [])
 last-line before now show follows start read stage at some =
     walk_of-end before now show start read at.here at.come (λ e. some (at.shows.begun ∙ e))
 
 -- Some bytes of the script were read of the named file, and carried out.
-pub record IsCarried (before now : Told) (show : Show) (follows : Show → Walk → List Picture → Type 0) (start : Walk)
+pub record IsCarried (before now : Sinks) (show : Show) (follows : Show → Walk → List Picture → Type 0) (start : Walk)
     (stage : Stage) (files : Option (List NamedFile)) (rest : Option (List ℕ)) (name bytes : List ℕ) : Type 0 where
   pub place : IsScriptAt before now show follows start bytes stage
   pub in_file : IsOfFile files rest name bytes
 
 -- a walk that begins is at its first place
-pub begins-at : (before : Told) (show : Show) (follows : Show → Walk → List Picture →
+pub begins-at : (before : Sinks) (show : Show) (follows : Show → Walk → List Picture →
     Type 0) (start : Walk) (stage : Stage) → Begins show follows start → stage.lines ≡ 0 → stage.part.items ≡ []
     → IsScriptAt before before show follows start [] stage
 begins-at before show follows start stage begins lines part = record {
@@ -130,7 +130,7 @@ begins-at before show follows start stage begins lines part = record {
 }
 
 -- a file that was read to its end is what was read
-pub ended-file : (before now : Told) (show : Show) (follows : Show → Walk → List Picture → Type 0) (start : Walk)
+pub ended-file : (before now : Sinks) (show : Show) (follows : Show → Walk → List Picture → Type 0) (start : Walk)
     (stage : Stage) (files : Option (List NamedFile)) (rest : Option (List ℕ)) (name bytes : List ℕ)
     → IsCarried before now show follows start stage files rest name bytes →
     ((unread : List ℕ) → rest ≡ Some unread → unread ≡ [])
@@ -139,7 +139,7 @@ ended-file before now show follows start stage files rest name bytes carried =
     read-all files rest name bytes carried.in_file
 
 -- the same file, cut behind a piece
-pub piece-file : (before now : Told) (show : Show) (follows : Show → Walk → List Picture → Type 0) (start : Walk)
+pub piece-file : (before now : Sinks) (show : Show) (follows : Show → Walk → List Picture → Type 0) (start : Walk)
     (stage : Stage) (files : Option (List NamedFile)) (rest : Option (List ℕ)) (name bytes piece : List ℕ) (count : ℕ)
     → IsCarried before now show follows start stage files rest name bytes →
     ((unread : List ℕ) → rest ≡ Some unread → piece ≡ take count unread)

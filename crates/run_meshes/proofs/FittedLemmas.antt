@@ -1,4 +1,4 @@
--- A frame is the mesh of its target; and that mesh, written or cut short, ends the command.
+-- A frame is the mesh of its goal; and that mesh, written or cut short, ends the command.
 use Rattle.std.proofs.Common.{◌≡◌, ℕ, ◌-◌, ◌^◌, ◌<◌, ◌≤◌, List, [], ◌∷◌, length, None, Some, inl, inr, refl}
 use Rattle.std.proofs.Common.{sym, ◌∙◌, ap, subst, arith, lit<}
 use Rattle.std.proofs.Math.Nat.{pow-le-pow_right}
@@ -17,12 +17,12 @@ use Rattle.fit_laws.proofs.FitLemmas.{fit_found, fit_mesh}
 use Rattle.fit_laws.proofs.ErrorLemmas.{error-finest, worst-deviation}
 use Rattle.run_laws.specs.declared.status.Status.{Status}
 use Rattle.run_laws.specs.declared.status.Status.TheVariants.{Done}
-use Rattle.run_words.specs.Words.{Target, AtError, InBudget, Fitting, Fit, OnGrid}
+use Rattle.run_words.specs.Words.{Goal, AtError, InBudget, Fitting, Fit, OnGrid}
 use Rattle.run_laws.specs.Fit.{tolerance_of, IsFitFor, fit_text}
 use Rattle.run_laws.specs.Act.{Act, WholeMesh, ReportText}
 use Rattle.run_laws.specs.Outcome.{plain_outcome, fit_acts}
 use Rattle.run_laws.specs.Moment.{Moment}
-use Rattle.run_laws.specs.Leaving.{Runs, ReadsGrid, EndsWith}
+use Rattle.run_laws.specs.Leaving.{RunsCommand, ReadsGrid, EndsWith}
 use Rattle.run_laws.proofs.RunLemmas.{job-runs}
 use Rattle.run_meshes.specs.declared.fitted.Fitted.{Fitted}
 use Rattle.run_meshes.specs.FittedSeen.{tolerance_for, budget_for, IsFittedTo, fit_numbers, fitted_acts}
@@ -71,9 +71,9 @@ module _ (f : Fitted) (grid : HeightField) (low : grid.n ≤ 14) where
         least = subst P worst is.least;
       }
 
-  -- so it is the mesh of its target
-  frame-fits : (target : Target) → IsFramed f grid (tolerance_for grid.n target) (budget_for target) →
-      IsFitFor target grid f.fit.leaves
+  -- so it is the mesh of its goal
+  frame-fits : (goal : Goal) → IsFramed f grid (tolerance_for grid.n goal) (budget_for goal) →
+      IsFitFor goal grid f.fit.leaves
   frame-fits (AtError thousandths) is =
       let tolerance : ℕ = tolerance_of grid.n thousandths in
       elim (cases_lt tolerance f.note.deviation) [
@@ -86,20 +86,20 @@ module _ (f : Fitted) (grid : HeightField) (low : grid.n ≤ 14) where
         | inr none ↦ no-error budget is none
       ]
 
--- of the grid that was read, at the tolerance and the budget of the target
-pub framed-fitted : (f : Fitted) (target : Target) (grid seen : HeightField) (tolerance budget : ℕ) → grid.n ≤ 14 →
+-- of the grid that was read, at the tolerance and the budget of the goal
+pub framed-fitted : (f : Fitted) (goal : Goal) (grid seen : HeightField) (tolerance budget : ℕ) → grid.n ≤ 14 →
     seen ≡ grid → f.grid ≡ grid → f.fit.n ≡ grid.n
-    → tolerance ≡ tolerance_for grid.n target → budget ≡ budget_for target → IsFramed f seen tolerance budget →
-    IsFittedTo f target grid
-framed-fitted f target grid seen tolerance budget low same grid_is level tolerance_is budget_is framed =
+    → tolerance ≡ tolerance_for grid.n goal → budget ≡ budget_for goal → IsFramed f seen tolerance budget →
+    IsFittedTo f goal grid
+framed-fitted f goal grid seen tolerance budget low same grid_is level tolerance_is budget_is framed =
     let P : HeightField → Type 0 = λ g. IsFramed f g tolerance budget in
     let Q : ℕ → Type 0 = λ k. IsFramed f grid k budget in
-    let R : ℕ → Type 0 = λ k. IsFramed f grid (tolerance_for grid.n target) k in
+    let R : ℕ → Type 0 = λ k. IsFramed f grid (tolerance_for grid.n goal) k in
     let is = subst R budget_is (subst Q tolerance_is (subst P same framed)) in
     record {
       same_grid = grid_is;
       level = level;
-      fitted = record { fit = frame-fits f grid low target is; in_order = is.in_order };
+      fitted = record { fit = frame-fits f grid low goal is; in_order = is.in_order };
       triangles = is.triangles;
       vertices = is.vertices;
       deviation = is.deviation;
@@ -123,9 +123,9 @@ acts-fitted w f grid same_grid triangles_is vertices_is deviation_is =
 -- the mesh and its line end the command, written or cut short
 pub fitted-runs : (before middle now : Moment) (name : List ℕ) (w : Fitting) (grid : HeightField)
     (f : Fitted) (status : Status)
-    → ReadsGrid before middle name grid → IsFittedTo f w.target grid
+    → ReadsGrid before middle name grid → IsFittedTo f w.goal grid
     → EndsWith middle now (fitted_acts w.prefix w.spacing f) Done status
-    → Runs before now (Some (OnGrid name (Fit w))) status None
+    → RunsCommand before now (Some (OnGrid name (Fit w))) status None
 fitted-runs before middle now name w grid f status read is ends =
     job-runs before middle now name (Fit w) grid (fitted_acts w.prefix w.spacing f) status read refl refl
     (λ files. (

@@ -26,7 +26,7 @@ use Rattle.run_laws.specs.Fit.{tolerance_of, IsKeptFor}
 use Rattle.run_laws.specs.Act.{Act}
 use Rattle.run_laws.specs.Promise.{HasEnded}
 use Rattle.run_laws.specs.Moment.{Moment}
-use Rattle.run_laws.specs.Leaving.{Runs, ReadsGrid, HasOpened, EndsWith}
+use Rattle.run_laws.specs.Leaving.{RunsCommand, ReadsGrid, HasOpened, EndsWith}
 use Rattle.run_laws.proofs.VertexLemmas.{centre-above}
 use Rattle.run_laws.proofs.KeepRunLemmas.{points-told, kept-runs}
 use Rattle.run_meshes.specs.declared.fitted.Fitted.{Fitted}
@@ -135,7 +135,7 @@ pub kept-on-runs : (before middle last now : Moment) (name : List ℕ) (k : Keep
     points_in grid.n (bytes_of files k.points) ≡ Ok points)
     → IsKeptOn f k.thousandths points grid
     → EndsWith last now (fitted_acts k.prefix k.spacing f) Done status →
-    Runs before now (Some (OnGrid name (Keep k))) status None
+    RunsCommand before now (Some (OnGrid name (Keep k))) status None
 kept-on-runs before middle last now name k grid points f status read opened ended found is ends =
     kept-runs before middle last now name k grid status read opened points f.fit.leaves ended found is.kept
     (subst (λ (acts : List Act). EndsWith last now acts Done status)
@@ -183,7 +183,7 @@ module _ (before middle last now : Moment) (name : List ℕ) (k : Keeping) (grid
       points_in n (bytes_of files k.points) ≡ Ok points)
       → IsKeptOn f k.thousandths listed grid
       → EndsWith last now (fitted_acts k.prefix k.spacing f) Done status →
-      Runs before now (Some (OnGrid name (Keep k))) status None
+      RunsCommand before now (Some (OnGrid name (Keep k))) status None
   fit-ends points listed f listed_is opened ended found is ends =
       kept-on-runs before middle last now name k grid points f status read opened ended
       (points-told n grid middle k.points (Ok points) n_is found)

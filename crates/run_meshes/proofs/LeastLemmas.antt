@@ -9,14 +9,14 @@ use Rattle.mesh_laws.proofs.ClosureLemmas.{leaves_of-same, IsLeastClosed-same}
 use Rattle.mesh_laws.proofs.SetListLemmas.{list_of, ascending-list_of, among-list_of}
 use Rattle.mesh_laws.specs.Least.{is_worse, IsLeastList}
 use Rattle.least_mesh.specs.declared.least.LeastNote.{LeastNote}
-use Rattle.run_laws.specs.Act.{Act, WholeMesh, ReportText, Told, Stands, IsCutShort}
+use Rattle.run_laws.specs.Act.{Act, WholeMesh, ReportText, Sinks, Stands, IsCutShort}
 use Rattle.run_laws.specs.Walk.{Walk}
 use Rattle.run_words.specs.Words.{Show, as_least}
 use Rattle.run_laws.specs.Picture.{Picture, IsPicture, last_members}
 use Rattle.run_laws.specs.Outcome.{Outcome, picture_acts}
 use Rattle.run_meshes.specs.declared.least_frames.LeastFrames.{LeastFrames}
 use Rattle.run_meshes.specs.LeastSeen.{state_seen, LeastFollows, IsLeastNoted, least_acts, least_numbers}
-use Rattle.run_laws.specs.Maker.{TakesFrame, Leaves}
+use Rattle.run_laws.specs.Maker.{TakesFrame, LeavesEngine}
 
 module _ (old new : LeastFrames) (prefix : new.prefix.now ≡ old.prefix.now)
     (tolerance : new.tolerance ≡ old.tolerance) where
@@ -29,7 +29,7 @@ module _ (old new : LeastFrames) (prefix : new.prefix.now ≡ old.prefix.now)
   module _ (state : state_seen new ≡ state_seen old) (most : new.most ≡ old.most)
       (frames : new.frames ≡ old.frames + 1) where
     -- the least mesh was made, and is shown or cut short, as the picture of the walk's state
-    pub least-takes : {T E : Type 0} (before now : Told) (note : LeastNote) (answer : Result T E)
+    pub least-takes : {T E : Type 0} (before now : Sinks) (note : LeastNote) (answer : Result T E)
         → IsLeastList old.outlook.grid.n old.tolerance (priority_in (state_seen old)) new.least.leaves
         → note.worst ≡ worst_of (priority_in (state_seen old)) new.least.leaves → IsLeastNoted new note
         → OnOk answer (Stands before now (least_acts new note)) →
@@ -99,5 +99,5 @@ module _ (old new : LeastFrames) (prefix : new.prefix.now ≡ old.prefix.now)
 
 -- the meshes of a tolerance leave none
 pub least-leaves : (prefix : List ℕ) (tolerance : ℕ) (follows : Show → Walk → List Picture → Type 0) (end : Outcome)
-    → Leaves (as_least prefix tolerance) follows end → None ≡ end.engine
+    → LeavesEngine (as_least prefix tolerance) follows end → None ≡ end.engine
 least-leaves prefix tolerance follows end leaves = leaves.left

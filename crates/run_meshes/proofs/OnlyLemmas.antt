@@ -4,9 +4,9 @@ use Rattle.std.proofs.Common.{sym, ◌∙◌, ap, subst}
 use Rattle.roam_edge.specs.Fault.{Rose, IsInTime, next_count}
 use Rattle.run_laws.specs.declared.status.Status.{Status}
 use Rattle.run_laws.specs.declared.status.Status.TheVariants as ends
-use Rattle.run_laws.specs.Act.{Told}
+use Rattle.run_laws.specs.Act.{Sinks}
 use Rattle.run_laws.specs.Cause.{NoFault, WriteFaults, StatusWritesHaveCause, StatusHasCause}
-use Rattle.run_laws.specs.Promise.{HasEnded, Seen}
+use Rattle.run_laws.specs.Promise.{HasEnded, ShelfState}
 use Rattle.run_laws.specs.Maker.{IsScriptEnd}
 use Rattle.run_laws.specs.Moment.{Moment, OnlyReads, OnlyWrites}
 use Rattle.run_laws.specs.Leaving.{LeavesByScript}
@@ -102,11 +102,11 @@ ends-stopped before now Failed takes = record {
   report_in_time = takes.report_in_time;
 }
 
-none-failed : (before now : Told) → now ≡ before →
+none-failed : (before now : Sinks) → now ≡ before →
     NoFault before.mesh_faults now.mesh_faults before.report_faults now.report_faults
 none-failed before now same = record {
-  meshes_same = ap (λ (t : Told). t.mesh_faults) same;
-  report_same = ap (λ (t : Told). t.report_faults) same;
+  meshes_same = ap (λ (t : Sinks). t.mesh_faults) same;
+  report_same = ap (λ (t : Sinks). t.report_faults) same;
 }
 
 -- the script was opened
@@ -151,8 +151,8 @@ module _ (before middle : Moment) (goes : GoesOn before middle) where
   goes-taken now takes =
       let none = takes.faults.others (λ e. cc) in
       record {
-        files = ap (λ (s : Seen). s.files) takes.shelf ∙ goes.files;
-        opens = ap (λ (s : Seen). s.opens) takes.shelf ∙ goes.opens;
+        files = ap (λ (s : ShelfState). s.files) takes.shelf ∙ goes.files;
+        opens = ap (λ (s : ShelfState). s.opens) takes.shelf ∙ goes.opens;
         shelf_faults = takes.shelf_faults ∙ goes.shelf_faults;
         idle = takes.idle (λ e. cc) ∙ goes.idle;
         faults = record {
@@ -171,8 +171,8 @@ module _ (before middle : Moment) (goes : GoesOn before middle) where
       (status ≡ ends.Done → HasEnded middle.shelf)
       → LeavesByScript before now status
   goes-ended now status is only ended = record {
-    files = ap (λ (s : Seen). s.files) only.shelf ∙ goes.files;
-    opens = ap (λ (s : Seen). s.opens) only.shelf ∙ goes.opens;
+    files = ap (λ (s : ShelfState). s.files) only.shelf ∙ goes.files;
+    opens = ap (λ (s : ShelfState). s.opens) only.shelf ∙ goes.opens;
     read_out = λ done. subst HasEnded (sym only.shelf) (ended done);
     idle = λ not. only.idle not ∙ goes.idle;
     causes = record {

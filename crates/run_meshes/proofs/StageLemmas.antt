@@ -11,7 +11,7 @@ use Rattle.roam_script.specs.LineText.{line_in}
 use Rattle.run_laws.specs.Walk.{Walk, limits_of, shown_by, after_line, refused_walk, walk_of}
 use Rattle.run_words.specs.Words.{Show}
 use Rattle.run_laws.specs.Picture.{Picture, IsPicture, ArePictures, last_members}
-use Rattle.run_laws.specs.Act.{Act, ReportText, Told, Stands, IsCutShort}
+use Rattle.run_laws.specs.Act.{Act, ReportText, Sinks, Stands, IsCutShort}
 use Rattle.run_laws.specs.ReportText.{line_refusal}
 use Rattle.run_laws.specs.Outcome.{Outcome, picture_acts, shown_acts, engine_for, IsFramesOutcome}
 use Rattle.run_laws.specs.Step.{Place}
@@ -32,7 +32,7 @@ same-left : (show : Show) (why : ScriptFault) (walk : Walk) (pictures : List Pic
     engine_for show (refused_walk why walk) pictures ≡ engine_for show walk pictures
 same-left show why walk pictures = refl
 
-module _ (before middle : Told) (show : Show) (follows : Show → Walk → List Picture → Type 0) (start : Walk)
+module _ (before middle : Sinks) (show : Show) (follows : Show → Walk → List Picture → Type 0) (start : Walk)
     (read : List ℕ) (old : Stage) (at : IsScriptAt before middle show follows start read old) where
   abbrev here : Place
   here = at.here
@@ -70,7 +70,7 @@ module _ (before middle : Told) (show : Show) (follows : Show → Walk → List 
     -- a frame was made and shown
     pub takes-shown : line_in (limits_of here.walk) here.begun ≡ Ok Frame → (p : Picture) →
         IsPicture show (last_members [] here.pictures) here.walk.state p
-        → follows' show (after_line Frame here.walk) (here.pictures ++ p ∷ []) → (now : Told) →
+        → follows' show (after_line Frame here.walk) (here.pictures ++ p ∷ []) → (now : Sinks) →
         Stands middle now (picture_acts show (1 + length here.walk.frames) p)
         → IsScriptAt before now show follows' start (read ++ 10 ∷ []) new
     takes-shown is p is_picture followed now stands =
@@ -93,7 +93,7 @@ module _ (before middle : Told) (show : Show) (follows : Show → Walk → List 
     pub takes-frame-cut : BudgetsAreTwo → FramesExist → SetsStayClosed → Starts start →
         line_in (limits_of here.walk) here.begun ≡ Ok Frame
         → (p : Picture) → IsPicture show (last_members [] here.pictures) here.walk.state p
-        → (now : Told) → IsCutShort middle now (picture_acts show (1 + length here.walk.frames) p)
+        → (now : Sinks) → IsCutShort middle now (picture_acts show (1 + length here.walk.frames) p)
         → TakesBytes {T = Unit {0}} before now show follows' start (read ++ 10 ∷ []) new (Err Failed)
     takes-frame-cut two exist stays starts is p is_picture now cut = record {
       ok = tt;
@@ -114,7 +114,7 @@ module _ (before middle : Told) (show : Show) (follows : Show → Walk → List 
   module _ (bytes : List ℕ) (why : ScriptFault)
       (settled : (more : List ℕ) → walk_of start (bytes ++ more) ≡ refused_walk why here.walk) (new : Stage) where
     -- a refusal was written
-    pub takes-refusal : (now : Told) → Stands middle now (refused_acts why) →
+    pub takes-refusal : (now : Sinks) → Stands middle now (refused_acts why) →
         TakesBytes {T = Unit {0}} before now show follows start bytes new (Err Refused)
     takes-refusal now stands = record {
       ok = tt;
@@ -140,7 +140,7 @@ module _ (before middle : Told) (show : Show) (follows : Show → Walk → List 
         is_some = refl
 
     -- a refusal was cut short
-    pub takes-cut : (now : Told) → IsCutShort middle now (refused_acts why) →
+    pub takes-cut : (now : Sinks) → IsCutShort middle now (refused_acts why) →
         TakesBytes {T = Unit {0}} before now show follows start bytes new (Err Failed)
     takes-cut now cut = record {
       ok = tt;
@@ -186,7 +186,7 @@ module _ (before middle : Told) (show : Show) (follows : Show → Walk → List 
       ∙ refused (limits_of here.walk) byte tail (ap (λ (k : ℕ). k + 1) (sym at.shows.lines)))
 
 -- a stop stays one with more bytes
-pub takes-longer : (before now : Told) (show : Show) (follows : Show → Walk → List Picture →
+pub takes-longer : (before now : Sinks) (show : Show) (follows : Show → Walk → List Picture →
     Type 0) (start : Walk) (bytes rest all : List ℕ) (old new : Stage) (stop : Stop) → all ≡ bytes ++ rest
     → TakesBytes {T = Unit {0}} before now show follows start bytes old (Err stop) →
     TakesBytes {T = Unit {0}} before now show follows start all new (Err stop)

@@ -13,7 +13,7 @@ use Rattle.mesh_laws.specs.Ancestors.{ancestors_of}
 use Rattle.roam_script.specs.PointText.{most_points}
 use Rattle.fit_laws.specs.PlaneHeight.{deviation_of}
 use Rattle.roam_num.specs.Places.{exact_decimal}
-use Rattle.run_words.specs.Words.{Target, AtError, InBudget}
+use Rattle.run_words.specs.Words.{Goal, AtError, InBudget}
 use Rattle.certificate_laws.specs.Keeping.{is_centred}
 use Rattle.run_laws.specs.Fit.{tolerance_of, IsFitted, IsKept, fit_text}
 use Rattle.run_laws.specs.Act.{Act, WholeMesh, ReportText}
@@ -21,19 +21,19 @@ use Rattle.run_meshes.specs.declared.fitted.Fitted.{Fitted}
 use Rattle.run_meshes.specs.declared.room.KeepRoom.{KeepRoom}
 
 -- the tolerance and the budget of a frame that leads to the mesh: one of them is no bound
-abbrev pub tolerance_for : ℕ → Target → ℕ
+abbrev pub tolerance_for : ℕ → Goal → ℕ
 tolerance_for n (AtError thousandths) = tolerance_of n thousandths
 tolerance_for n (InBudget budget) = 0
 
-abbrev pub budget_for : Target → ℕ
+abbrev pub budget_for : Goal → ℕ
 budget_for (AtError thousandths) = 2 ^ 32 - 1
 budget_for (InBudget budget) = budget
 
 -- the mesh was fitted to this grid, and the note has its counts and its deviation
-pub record IsFittedTo (f : Fitted) (target : Target) (grid : HeightField) : Type 0 where
+pub record IsFittedTo (f : Fitted) (goal : Goal) (grid : HeightField) : Type 0 where
   pub same_grid : f.grid ≡ grid
   pub level : f.fit.n ≡ grid.n
-  pub fitted : IsFitted target grid f.fit.leaves
+  pub fitted : IsFitted goal grid f.fit.leaves
   pub triangles : f.note.triangles ≡ length f.fit.leaves
   pub vertices : f.note.vertices ≡ length (vertices_of grid.n f.fit.leaves)
   pub deviation : f.note.deviation ≡ deviation_of grid.n grid.heights f.fit.leaves

@@ -5,7 +5,7 @@ use Rattle.roam_script.specs.declared.limits.TheConstants.{MOST_LINES, MOST_LINE
 use Rattle.run_laws.specs.Walk.{Walk}
 use Rattle.run_words.specs.Words.{Show}
 use Rattle.run_laws.specs.Picture.{Picture}
-use Rattle.run_laws.specs.Act.{Told}
+use Rattle.run_laws.specs.Act.{Sinks}
 use Rattle.run_laws.specs.Step.{Place, HasCome}
 use Rattle.run_laws.specs.Maker.{TellsFrames}
 use Rattle.run_meshes.specs.declared.stage.Stage.{Stage}
@@ -23,7 +23,7 @@ pub record Shows (show : Show) (follows : Show → Walk → List Picture → Typ
   pub begun : stage.part.items ≡ here.begun
 
 -- a script was carried out as far as it was read, and the stage shows the place that was reached
-pub record IsScriptAt (before now : Told) (show : Show) (follows : Show → Walk → List Picture → Type 0) (start : Walk)
+pub record IsScriptAt (before now : Sinks) (show : Show) (follows : Show → Walk → List Picture → Type 0) (start : Walk)
     (read : List ℕ) (stage : Stage) : Type 0 where
   pub here : Place
   pub come : HasCome before now show start read here

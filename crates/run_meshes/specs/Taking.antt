@@ -6,7 +6,7 @@ use Rattle.run_laws.specs.declared.status.Status.{Status}
 use Rattle.run_laws.specs.declared.status.Status.TheVariants as ends
 use Rattle.run_laws.specs.Walk.{Walk}
 use Rattle.run_words.specs.Words.{Show}
-use Rattle.run_laws.specs.Act.{Told}
+use Rattle.run_laws.specs.Act.{Sinks}
 use Rattle.run_laws.specs.Cause.{NoFault, WriteFaults, StatusWritesHaveCause}
 use Rattle.run_laws.specs.Moment.{Moment}
 use Rattle.run_laws.specs.Picture.{Picture}
@@ -66,7 +66,7 @@ pub record GoesOn (before now : Moment) : Type 0 where
 
 -- A line that was read is refused, whatever follows. What makes the frames has followed the walk of the lines before
 -- it, behind which the same engine is left.
-pub record IsRefused (before now : Told) (show : Show) (follows : Show → Walk → List Picture → Type 0) (start : Walk)
+pub record IsRefused (before now : Sinks) (show : Show) (follows : Show → Walk → List Picture → Type 0) (start : Walk)
     (read : List ℕ) : Type 0 where
   pub refuses : Refuses before now show start read
   pub gone : Walk
@@ -74,7 +74,7 @@ pub record IsRefused (before now : Told) (show : Show) (follows : Show → Walk 
   pub same_end : engine_for show refuses.walk refuses.pictures ≡ engine_for show gone refuses.pictures
 
 -- what taking bytes does, by its answer
-pub record TakesBytes {T : Type 0} (before now : Told) (show : Show) (follows : Show → Walk → List Picture → Type 0)
+pub record TakesBytes {T : Type 0} (before now : Sinks) (show : Show) (follows : Show → Walk → List Picture → Type 0)
     (start : Walk) (read : List ℕ) (stage : Stage) (answer : Result T Stop) : Type 0 where
   pub ok : OnOk answer (IsScriptAt before now show follows start read stage)
   pub refused : answer ≡ Err Refused → IsRefused before now show follows start read

@@ -5,7 +5,7 @@ ghost use Rattle.mesh_defs.specs.declared.level.TheConstants.{GREATEST_LEVEL};
 ghost use Rattle.bintree_laws.specs.Corners.{IsInSquare};
 ghost use Rattle.run_words.specs.Words.{greatest_error};
 ghost use Rattle.run_laws.specs.Fit.{tolerance_of};
-ghost use Rattle.run_words.specs.FitView.{target_seen, IsTarget};
+ghost use Rattle.run_words.specs.FitView.{goal_seen, IsGoal};
 ghost use Rattle.run_meshes.specs.FittedSeen.{IsFittedTo, IsKeptOn, tolerance_for, budget_for};
 
 use crate::required::list_required;
@@ -13,7 +13,7 @@ use bintree_addr::{Point, Tri};
 use fit_mesh::{Fit, FitNote};
 use pgm_grid::Grid;
 use roam_edge::NoMemory;
-use run_words::Target;
+use run_words::Goal;
 use std::alloc::Global;
 
 /// A grid, the mesh that was fitted to it, and what is told of that mesh.
@@ -26,13 +26,13 @@ pub(crate) struct Fitted {
 
 impl Fitted {
     /// Fits a mesh to a grid. All memory is taken here.
-    pub(crate) fn make(alloc: Global, grid: Grid, target: Target) -> Result<Fitted, NoMemory>
-        requires target { IsTarget target }
-        ensures fitted { IfOk result (λ f. IsFittedTo f (target_seen target) grid) }
+    pub(crate) fn make(alloc: Global, grid: Grid, goal: Goal) -> Result<Fitted, NoMemory>
+        requires goal { IsGoal goal }
+        ensures fitted { IfOk result (λ f. IsFittedTo f (goal_seen goal) grid) }
     {
         let n = grid.n();
-        let mut fit = Fit::make(alloc, n, budget_of(target))?;
-        let note = fit.frame(&grid, tolerance_in(target, n));
+        let mut fit = Fit::make(alloc, n, budget_of(goal))?;
+        let note = fit.frame(&grid, tolerance_in(goal, n));
         Ok(Fitted { grid, fit, note })
     }
 }
@@ -60,26 +60,26 @@ pub(crate) fn fit_kept(
 }
 
 /// The most triangles that a mesh may have; for an error there is no bound.
-fn budget_of(target: Target) -> u32
-    requires target { IsTarget target }
-    ensures value { result ≡ budget_for (target_seen target) }
+fn budget_of(goal: Goal) -> u32
+    requires goal { IsGoal goal }
+    ensures value { result ≡ budget_for (goal_seen goal) }
     ensures some { 2 ≤ result }
 {
-    match target {
-        Target::AtError(_) => u32::MAX,
-        Target::InBudget(budget) => budget,
+    match goal {
+        Goal::AtError(_) => u32::MAX,
+        Goal::InBudget(budget) => budget,
     }
 }
 
 /// The greatest error that a triangle may have, in units of height, times 2^n; for a budget it may have none.
-fn tolerance_in(target: Target, n: u32) -> u32
-    requires target { IsTarget target }
+fn tolerance_in(goal: Goal, n: u32) -> u32
+    requires goal { IsGoal goal }
     requires in_grid { n ≤ GREATEST_LEVEL }
-    ensures { result ≡ tolerance_for n (target_seen target) }
+    ensures { result ≡ tolerance_for n (goal_seen goal) }
 {
-    match target {
-        Target::AtError(thousandths) => tolerance(thousandths, n),
-        Target::InBudget(_) => 0,
+    match goal {
+        Goal::AtError(thousandths) => tolerance(thousandths, n),
+        Goal::InBudget(_) => 0,
     }
 }
 

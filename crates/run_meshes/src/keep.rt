@@ -4,7 +4,7 @@ ghost use Rattle.std.specs.Prelude.{◌≡◌, ◌^◌, ◌+◌, ◌≤◌, None
 ghost use Rattle.mesh_defs.specs.HeightField.{HeightField};
 ghost use Rattle.run_words.specs.Words.{OnGrid, Keep};
 ghost use Rattle.run_laws.specs.Moment.{Moment};
-ghost use Rattle.run_laws.specs.Leaving.{Runs, ReadsGrid};
+ghost use Rattle.run_laws.specs.Leaving.{RunsCommand, ReadsGrid};
 ghost use Rattle.run_words.specs.FitView.{keeping_seen, IsKeeping};
 ghost use Rattle.run_meshes.specs.FittedSeen.{IsRoomFor};
 
@@ -27,7 +27,7 @@ pub fn run_keep<O: Outside>(alloc: Global, words: &KeepWords<'_>, outside: &mut 
     requires accepted { IsKeeping words.now }
     requires opens { (O.moment outside.old).shelf.opens ≤ 2 ^ 63 }
     ensures same { O.is_same outside.old outside.new }
-    ensures runs { Runs (O.moment outside.old) (O.moment outside.new)
+    ensures runs { RunsCommand (O.moment outside.old) (O.moment outside.new)
         (Some (OnGrid words.now.grid.now (Keep (keeping_seen words.now)))) result None }
 {
     match grid_or_end(alloc, words.grid, outside) {
@@ -48,7 +48,7 @@ fn keep_points<O: Outside>(room: KeepRoom, words: &KeepWords<'_>, outside: &mut 
     ensures same { O.is_same outside.old outside.new }
     // For the moment before the grid was read.
     ensures runs { (before : Moment) → ReadsGrid before (O.moment outside.old) words.now.grid.now room.grid →
-        Runs before (O.moment outside.new)
+        RunsCommand before (O.moment outside.new)
         (Some (OnGrid words.now.grid.now (Keep (keeping_seen words.now)))) result None }
 {
     let n = room.grid.n();

@@ -182,7 +182,7 @@ impl<'a> FrameMaker for LeastFrames<'a> {
         }
     }
 
-    fn carry_out(&mut self, line: Line) {
+    fn apply_line(&mut self, line: Line) {
         self.change(line);
     }
 

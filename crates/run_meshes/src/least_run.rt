@@ -2,7 +2,7 @@
 
 ghost use Rattle.std.specs.Prelude.{◌≡◌, ◌^◌, ◌≤◌, None, Some, false};
 ghost use Rattle.run_words.specs.Words.{OnGrid, Frames, as_least};
-ghost use Rattle.run_laws.specs.Leaving.{Runs};
+ghost use Rattle.run_laws.specs.Leaving.{RunsCommand};
 ghost use Rattle.run_words.specs.ShowView.{IsPrefixLength};
 ghost use Rattle.run_words.specs.WordView.{show_for, scripted_seen, IsFrameCommand};
 
@@ -30,7 +30,7 @@ pub fn run_least<O: Outside>(
     requires shown { show_for command.now.meshing ≡ as_least prefix.now tolerance }
     requires opens { (O.moment outside.old).shelf.opens ≤ 2 ^ 63 }
     ensures same { O.is_same outside.old outside.new }
-    ensures runs { Runs (O.moment outside.old) (O.moment outside.new)
+    ensures runs { RunsCommand (O.moment outside.old) (O.moment outside.new)
         (Some (OnGrid command.now.grid.now (Frames (scripted_seen command.now)))) result None }
 {
     state_laws();

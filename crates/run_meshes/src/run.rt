@@ -3,7 +3,7 @@
 ghost use Rattle.std.specs.Prelude.{◌≡◌, ◌^◌, ◌≤◌, None, Some, false};
 ghost use Rattle.run_words.specs.Words.{OnGrid, Fit};
 ghost use Rattle.run_laws.specs.Moment.{Does};
-ghost use Rattle.run_laws.specs.Leaving.{Runs};
+ghost use Rattle.run_laws.specs.Leaving.{RunsCommand};
 ghost use Rattle.wedgie_tree.specs.declared.wedges.TheConstants.{GREATEST_SPACING};
 ghost use Rattle.run_words.specs.ShowView.{IsPrefixLength};
 ghost use Rattle.run_words.specs.FitView.{fitting_seen, IsFitting};
@@ -28,11 +28,11 @@ pub fn run_fit<O: Outside>(alloc: Global, words: &FitWords<'_>, outside: &mut O)
     requires accepted { IsFitting words.now }
     requires opens { (O.moment outside.old).shelf.opens ≤ 2 ^ 63 }
     ensures same { O.is_same outside.old outside.new }
-    ensures runs { Runs (O.moment outside.old) (O.moment outside.new)
+    ensures runs { RunsCommand (O.moment outside.old) (O.moment outside.new)
         (Some (OnGrid words.now.grid.now (Fit (fitting_seen words.now)))) result None }
 {
     match grid_or_end(alloc, words.grid, outside) {
-        Ok(grid) => match Fitted::make(alloc, grid, words.target) {
+        Ok(grid) => match Fitted::make(alloc, grid, words.goal) {
             Ok(fitted) => match show(&fitted, words.prefix, words.spacing, outside) {
                 Ok(()) => Status::Done,
                 Err(_) => Status::WriteFault,

@@ -5,7 +5,7 @@ ghost use Rattle.std.specs.Prelude.{OnOk};
 ghost use Rattle.roam_edge.specs.Shelf.{NamedFile, bytes_of};
 ghost use Rattle.run_laws.specs.Walk.{Walk};
 ghost use Rattle.run_words.specs.Words.{Show};
-ghost use Rattle.run_laws.specs.Act.{ReportText, Told};
+ghost use Rattle.run_laws.specs.Act.{ReportText, Sinks};
 ghost use Rattle.run_laws.specs.Moment.{Does};
 ghost use Rattle.run_laws.specs.Leaving.{LeavesByScript};
 ghost use Rattle.run_laws.specs.ReportText.{line_refusal};
@@ -47,7 +47,7 @@ fn take_line<K: FrameMaker, O: Outside>(
     requires idle { (O.moment outside.old).under_way ≡ false }
     requires ready { K.is_ready frames.old stage.old.lines }
     requires stage { IsScriptStage stage.old }
-    ensures outcome { (before : Told) (show : Show) (start : Walk) (read : List ℕ) → Starts start →
+    ensures outcome { (before : Sinks) (show : Show) (start : Walk) (read : List ℕ) → Starts start →
         IsScriptAt before (O.moment outside.old).sinks
         show (K.follows frames.old) start read stage.old →
         TakesBytes before (O.moment outside.new).sinks
@@ -71,7 +71,7 @@ fn take_line<K: FrameMaker, O: Outside>(
             Err(_) => Err(Stop::Failed),
         },
         Ok(line) => {
-            frames.carry_out(line);
+            frames.apply_line(line);
             stage.end_line();
             Ok(())
         }
@@ -93,7 +93,7 @@ fn take_byte<K: FrameMaker, O: Outside>(
     requires idle { (O.moment outside.old).under_way ≡ false }
     requires ready { K.is_ready frames.old stage.old.lines }
     requires stage { IsScriptStage stage.old }
-    ensures outcome { (before : Told) (show : Show) (start : Walk) (read : List ℕ) → Starts start →
+    ensures outcome { (before : Sinks) (show : Show) (start : Walk) (read : List ℕ) → Starts start →
         IsScriptAt before (O.moment outside.old).sinks
         show (K.follows frames.old) start read stage.old →
         TakesBytes before (O.moment outside.new).sinks
@@ -131,7 +131,7 @@ fn take_piece<K: FrameMaker, O: Outside>(
     requires idle { (O.moment outside.old).under_way ≡ false }
     requires ready { K.is_ready frames.old stage.old.lines }
     requires stage { IsScriptStage stage.old }
-    ensures outcome { (before : Told) (show : Show) (start : Walk) (read : List ℕ) → Starts start →
+    ensures outcome { (before : Sinks) (show : Show) (start : Walk) (read : List ℕ) → Starts start →
         IsScriptAt before (O.moment outside.old).sinks
         show (K.follows frames.old) start read stage.old →
         TakesBytes before (O.moment outside.new).sinks
@@ -169,7 +169,7 @@ fn end_script<K: FrameMaker, O: Outside>(
     requires idle { (O.moment outside.old).under_way ≡ false }
     requires ready { K.is_ready frames.old stage.old.lines }
     requires stage { IsScriptStage stage.old }
-    ensures ends { (before : Told) (show : Show) (start : Walk) (read : List ℕ) → Starts start →
+    ensures ends { (before : Sinks) (show : Show) (start : Walk) (read : List ℕ) → Starts start →
         IsScriptAt before (O.moment outside.old).sinks
         show (K.follows frames.old) start read stage.old →
         EndsScript before (O.moment outside.new).sinks

@@ -7,7 +7,7 @@ use Rattle.run_words.specs.Words.{least_budget, greatest_budget, greatest_error}
 use Rattle.run_words.specs.Words as words
 use Rattle.run_words.specs.declared.found.Found.{Found}
 use Rattle.run_words.specs.ShowView.{IsPrefixLength}
-use Rattle.run_words.specs.FitView.{target_seen, IsTarget}
+use Rattle.run_words.specs.FitView.{goal_seen, IsGoal}
 
 abbrev pub found_seen : Found → words.Found
 found_seen f = record {
@@ -24,7 +24,7 @@ found_seen f = record {
   budget = f.budget;
   tolerance = f.tolerance;
   thousandths = f.thousandths;
-  target = target_seen f.target;
+  goal = goal_seen f.goal;
   spacing = f.spacing;
 }
 
@@ -39,6 +39,6 @@ pub record IsFound (f : Found) : Type 0 where
   pub budget_low : least_budget ≤ f.budget
   pub budget_high : f.budget ≤ greatest_budget
   pub error_high : f.thousandths ≤ greatest_error
-  pub bound : IsTarget f.target
+  pub bound : IsGoal f.goal
   pub spacing_low : 1 ≤ f.spacing
   pub spacing_high : f.spacing ≤ GREATEST_SPACING

@@ -1,6 +1,6 @@
 -- The words of a command line that are a command. This project's own.
 -- Words: Criterion, TriangleOrder, Output, Show, as_meshes, as_strips, as_least, as_measures, as_sums, Scripted,
--- Making, Checking, Target, Fitting, Keeping, fitting_of, FitMaking, FitChecking, KeptMaking, KeptChecking, Job,
+-- Making, Checking, Goal, Fitting, Keeping, fitting_of, FitMaking, FitChecking, KeptMaking, KeptChecking, Job,
 -- Command, is_of_engine, prefix_of, is_prefix, within, number_word, least_budget, greatest_budget, greatest_tolerance, greatest_error,
 -- greatest_spacing, greatest_level, greatest_seed, greatest_coordinate, is_coordinate, budget_word, spacing_word,
 -- tolerance_word, error_word, in_reach, coordinate_word, Found, nothing, fill, State, state, chosen, next, is_fit,
@@ -86,14 +86,14 @@ pub record Checking : Type 0 where
   pub spacing : ℕ
 
 -- what a mesh is fitted to: an error of at most so many thousandths of a unit of height, or a budget of triangles
-pub data Target : Type 0 where
-  AtError : (thousandths : ℕ) → Target
-  InBudget : (budget : ℕ) → Target
+pub data Goal : Type 0 where
+  AtError : (thousandths : ℕ) → Goal
+  InBudget : (budget : ℕ) → Goal
 
 -- a mesh is fitted: what its name begins with, what it is fitted to, and how many world units a grid step has
 pub record Fitting : Type 0 where
   pub prefix : List ℕ
-  pub target : Target
+  pub goal : Goal
   pub spacing : ℕ
 
 -- a mesh is fitted that keeps points: what its name begins with, the error of at most so many thousandths of a unit of
@@ -106,11 +106,11 @@ pub record Keeping : Type 0 where
 
 -- the same without its points
 abbrev pub fitting_of : Keeping → Fitting
-fitting_of k = record { prefix = k.prefix; target = AtError k.thousandths; spacing = k.spacing }
+fitting_of k = record { prefix = k.prefix; goal = AtError k.thousandths; spacing = k.spacing }
 
 -- a certificate of a fitted mesh is made: what the mesh is fitted to, and how many world units a grid step has
 pub record FitMaking : Type 0 where
-  pub target : Target
+  pub goal : Goal
   pub spacing : ℕ
 
 -- a fitted mesh is checked by a certificate: the names of both files, what it is fitted to, and how many world units a
@@ -118,7 +118,7 @@ pub record FitMaking : Type 0 where
 pub record FitChecking : Type 0 where
   pub mesh : List ℕ
   pub certificate : List ℕ
-  pub target : Target
+  pub goal : Goal
   pub spacing : ℕ
 
 -- a certificate of a fitted mesh that keeps points is made: the error of at most so many thousandths of a unit of
@@ -249,7 +249,7 @@ pub record Found : Type 0 where
   pub budget : ℕ
   pub tolerance : ℕ
   pub thousandths : ℕ
-  pub target : Target
+  pub goal : Goal
   pub spacing : ℕ
 
 -- before the first word: a value within its bounds for each place that a command may lack
@@ -268,7 +268,7 @@ nothing = record {
   budget = least_budget;
   tolerance = 0;
   thousandths = 0;
-  target = AtError 0;
+  goal = AtError 0;
   spacing = 1;
 }
 
@@ -288,8 +288,8 @@ fill want.Z word f = option_map (λ v. record f { camera = record { x = f.camera
     (coordinate_word word)
 fill want.Level word f = option_map (λ k. record f { level = k }) (number_word 1 greatest_level word)
 fill want.Seed word f = option_map (λ k. record f { seed = k }) (number_word 0 greatest_seed word)
-fill want.Budget word f = option_map (λ k. record f { budget = k; target = InBudget k }) (budget_word word)
-fill want.Error word f = option_map (λ k. record f { thousandths = k; target = AtError k }) (error_word word)
+fill want.Budget word f = option_map (λ k. record f { budget = k; goal = InBudget k }) (budget_word word)
+fill want.Error word f = option_map (λ k. record f { thousandths = k; goal = AtError k }) (error_word word)
 fill want.Tolerance word f = option_map (λ k. record f { tolerance = k }) (tolerance_word word)
 fill want.Spacing word f = option_map (λ k. record f { spacing = k }) (spacing_word word)
 fill want.Keep word f = if bytes_eq word (codes "keep") then Some f else None
@@ -350,17 +350,17 @@ first_wanted (place ∷ rest) = Some place
 
 -- a mesh is fitted, or a certificate of one is made, or checked; where points are kept, they are read too
 abbrev pub fit_job : Found → Option (List ℕ) → Job
-fit_job f None = Fit (record { prefix = f.prefix; target = f.target; spacing = f.spacing })
+fit_job f None = Fit (record { prefix = f.prefix; goal = f.goal; spacing = f.spacing })
 fit_job f (Some p) =
     Keep (record { prefix = f.prefix; thousandths = f.thousandths; spacing = f.spacing; points = p })
 
 abbrev pub make_fit_job : Found → Option (List ℕ) → Job
-make_fit_job f None = MakeFit (record { target = f.target; spacing = f.spacing })
+make_fit_job f None = MakeFit (record { goal = f.goal; spacing = f.spacing })
 make_fit_job f (Some p) = MakeKept (record { thousandths = f.thousandths; spacing = f.spacing; points = p })
 
 abbrev pub check_fit_job : Found → Option (List ℕ) → Job
 check_fit_job f None =
-    CheckFit (record { mesh = f.mesh; certificate = f.certificate; target = f.target; spacing = f.spacing })
+    CheckFit (record { mesh = f.mesh; certificate = f.certificate; goal = f.goal; spacing = f.spacing })
 check_fit_job f (Some p) = CheckKept (record {
   mesh = f.mesh;
   certificate = f.certificate;

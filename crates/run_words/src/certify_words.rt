@@ -1,6 +1,6 @@
 //! The words of `certify`.
 
-use crate::fit_words::Target;
+use crate::fit_words::Goal;
 use view_priority::Camera;
 
 /// The words of `certify make GRID X Y Z BUDGET SPACING`.
@@ -37,7 +37,7 @@ pub struct FitMakeWords<'a> {
     /// The name of the grid's file.
     pub grid: &'a str,
     /// What the mesh is fitted to.
-    pub target: Target,
+    pub goal: Goal,
     /// The world units of a grid step, on which no certificate depends.
     pub spacing: u32,
 }
@@ -53,7 +53,7 @@ pub struct FitCheckWords<'a> {
     /// The name of the certificate's file.
     pub certificate: &'a str,
     /// What the mesh is fitted to.
-    pub target: Target,
+    pub goal: Goal,
     /// The world units of a grid step.
     pub spacing: u32,
 }

@@ -8,7 +8,7 @@ pub struct FitWords<'a> {
     /// What the name of the mesh begins with.
     pub prefix: &'a str,
     /// What the mesh is fitted to.
-    pub target: Target,
+    pub goal: Goal,
     /// The world units of a grid step.
     pub spacing: u32,
 }
@@ -30,7 +30,7 @@ pub struct KeepWords<'a> {
 
 /// What a mesh is fitted to.
 #[derive(Clone, Copy)]
-pub enum Target {
+pub enum Goal {
     /// An error of at most so many thousandths of a unit of height.
     AtError(u32),
     /// So many triangles.

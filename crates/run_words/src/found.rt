@@ -9,7 +9,7 @@ ghost use Rattle.run_words.specs.Words.{chosen, is_prefix as is_prefix_seen, fil
 ghost use Rattle.run_words.specs.ShowView.{IsPrefixLength};
 ghost use Rattle.run_words.specs.FoundView.{found_seen, IsFound};
 
-use crate::fit_words::Target;
+use crate::fit_words::Goal;
 use crate::table::{Kind, Row, Stage, Wanted, commands, goals, row_of, tasks};
 use mesh_defs::{
     CAMERA_REACH, GREATEST_ERROR, GREATEST_FILE_LEVEL, LEAST_TRIANGLES, MOST_TRIANGLES,
@@ -51,7 +51,7 @@ pub(crate) struct Found<'a> {
     pub(crate) budget: u32,
     pub(crate) tolerance: u64,
     pub(crate) thousandths: u32,
-    pub(crate) target: Target,
+    pub(crate) goal: Goal,
     pub(crate) spacing: u32,
 }
 
@@ -77,7 +77,7 @@ impl<'a> Found<'a> {
             budget: LEAST_BUDGET,
             tolerance: 0,
             thousandths: 0,
-            target: Target::AtError(0),
+            goal: Goal::AtError(0),
             spacing: 1,
         }
     }
@@ -152,11 +152,11 @@ fn fill<'a>(wanted: Wanted, word: &'a str, found: &mut Found<'a>) -> Option<()>
         Wanted::Seed => found.seed = small_number(word, 0, GREATEST_SEED)?,
         Wanted::Budget => {
             found.budget = small_number(word, LEAST_BUDGET, GREATEST_BUDGET)?;
-            found.target = Target::InBudget(found.budget);
+            found.goal = Goal::InBudget(found.budget);
         }
         Wanted::Error => {
             found.thousandths = error_in(word)?;
-            found.target = Target::AtError(found.thousandths);
+            found.goal = Goal::AtError(found.thousandths);
         }
         Wanted::Tolerance => found.tolerance = number_in_word(word, 0, GREATEST_TOLERANCE)?,
         Wanted::Spacing => found.spacing = small_number(word, 1, GREATEST_SPACING)?,

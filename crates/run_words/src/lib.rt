@@ -18,7 +18,7 @@ mod words;
 
 pub use certify_words::{CheckWords, FitCheckWords, FitMakeWords, MakeWords};
 pub use first_wrong::WordFault;
-pub use fit_words::{FitWords, KeepWords, Target};
+pub use fit_words::{FitWords, Goal, KeepWords};
 pub use found::{GREATEST_BUDGET, GREATEST_SEED, GREATEST_TOLERANCE, LEAST_BUDGET, REACH};
 pub use kept_words::{KeptCheckWords, KeptMakeWords};
 pub use mesh_defs::GREATEST_FILE_LEVEL;

@@ -202,7 +202,7 @@ fn fit<'a>(found: &Found<'a>) -> Command<'a>
         None => Command::Fit(FitWords {
             grid: found.grid,
             prefix: found.prefix,
-            target: found.target,
+            goal: found.goal,
             spacing: found.spacing,
         }),
     }
@@ -224,7 +224,7 @@ fn make_fit<'a>(found: &Found<'a>) -> Command<'a>
         }),
         None => Command::MakeFit(FitMakeWords {
             grid: found.grid,
-            target: found.target,
+            goal: found.goal,
             spacing: found.spacing,
         }),
     }
@@ -250,7 +250,7 @@ fn check_fit<'a>(found: &Found<'a>) -> Command<'a>
             grid: found.grid,
             mesh: found.mesh,
             certificate: found.certificate,
-            target: found.target,
+            goal: found.goal,
             spacing: found.spacing,
         }),
     }

@@ -52,19 +52,21 @@ open_address w a set (open_leaf there due straddles) = IsAddress-entry w.n w.sta
 open_address w a set (open_member can due straddles) = IsAddress-entry w.n w.start a set (member can)
 
 -- A frame asks at most twice for each triangle of the greatest grid, and six times for each that it splits or merges.
-pub few_asked : (told : Priorities) (readings : Readings) (odometer : ℕ) (s : SeenMesh) (budget steps count more : ℕ) →
-    IsGridSet s.set.n s.set.members → 2 ≤ budget → IsAtMost told readings odometer s budget steps count more →
+pub few_asked : (priorities : Priorities) (readings : Readings) (odometer : ℕ) (s : SeenMesh)
+    (budget steps count more : ℕ) →
+    IsGridSet s.set.n s.set.members → 2 ≤ budget → IsAtMost priorities readings odometer s budget steps count more →
     more ≤ count + 2 ^ 31 + 6 * steps
-few_asked told readings odometer s budget steps count more set low most =
+few_asked priorities readings odometer s budget steps count more set low most =
     let n = s.set.n in
-    let ranking = ranking_of n told.of in
-    let ranked = IsRanking-of n told.of in
-    let closure = rank_closure_of n budget told.of ranking ranked low in
+    let ranking = ranking_of n priorities.of in
+    let ranked = IsRanking-of n priorities.of in
+    let closure = rank_closure_of n budget priorities.of ranking ranked low in
     let small = set.n_high in
     let all : 2 ^ (2 * n + 2) ≤ 2 ^ 30 = pow_mono (let h : 2 * n + 2 ≤ 30 = omega arith in h) in
     let bound = most ranking closure.0 closure.1 (range_with_len 0 (2 ^ (2 * n + 2))) ranked closure.2
     (λ a open_one.
-    let address = open_address (frame_of told readings odometer s budget ranking closure.0 closure.1) a set open_one in
+    let address = open_address (frame_of priorities readings odometer s budget ranking closure.0 closure.1) a set
+    open_one in
     let high = address.high in
     among-in a (range_with_len 0 (2 ^ (2 * n + 2))) (in-range 0 (2 ^ (2 * n + 2)) a (omega arith) (omega arith))) in
     let count_all = length-range_with_len 0 (2 ^ (2 * n + 2)) in

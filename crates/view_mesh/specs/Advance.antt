@@ -13,7 +13,7 @@ use Rattle.deferred_loop.specs.Log.{IsListed}
 use Rattle.deferred_loop.specs.Promise.{IsAtMost, IsAtLeast, AreStampsGood}
 use Rattle.roam_mesh.specs.Mesh.{MeshState, pool_members, pool_set, seen_of, OnlyEntriesStamped}
 use Rattle.roam_mesh.specs.Chosen.{SparesChosen}
-use Rattle.view_mesh.specs.Sight.{Sight, priority_now, told_by, AreBracketed}
+use Rattle.view_mesh.specs.Sight.{Sight, priority_now, sight_priorities, AreBracketed}
 
 -- A frame at this odometer, with evaluations counted from `count` to `more`: the mesh is the best one within the budget
 -- (`frame`, `best`), and `unblocked` and `certificate` say why it is no finer. It is reached by so many splits and merges
@@ -35,7 +35,8 @@ pub record IsAdvanced (s : Sight) (budget odometer : ℕ) (before after : MeshSt
   pub sparing : IsSparing s.n budget (priority_now s) (pool_members before.pool) (pool_members after.pool)
       steps.splits steps.merges
   pub spares : SparesChosen s.n budget (priority_now s) (pool_members before.pool) (pool_members after.pool)
-  pub most_asked : IsAtMost (told_by s) s.readings odometer (seen_of before) budget (steps.splits + steps.merges)
+  pub most_asked : IsAtMost (sight_priorities s) s.readings odometer (seen_of before) budget
+      (steps.splits + steps.merges)
       count more
   pub least_asked : IsAtLeast (seen_of before) (seen_of after) count more
   pub stamps : AreStampsGood s.readings odometer (seen_of before) (seen_of after)

@@ -1,7 +1,7 @@
 -- What a mesh follows: priorities that depend on where a camera is, and what a stamp keeps of them while it moves.
 -- Source: Duchaineau et al., "ROAMing Terrain", IEEE Visualization 1997, the part on deferred priority lists; that time
 -- is the way of the camera is this project's own.
--- Words: Sight, priority_now, told_by, IsSamePriority, IsBracketed, AreBracketed, IsSound, IsFollowed.
+-- Words: Sight, priority_now, sight_priorities, IsSamePriority, IsBracketed, AreBracketed, IsSound, IsFollowed.
 use Rattle.std.specs.Prelude.{◌≡◌, ℕ, ◌+◌, ◌≤◌, false, Some}
 use Rattle.mesh_defs.specs.Triangle.{IsAddress}
 use Rattle.mesh_defs.specs.BoundingBox.{CameraAt}
@@ -24,8 +24,8 @@ abbrev pub priority_now : Sight → ℕ → ℕ
 priority_now s = s.from s.camera
 
 -- what a gauge tells of it
-abbrev pub told_by : Sight → Priorities
-told_by s = record { n = s.n; of = priority_now s }
+abbrev pub sight_priorities : Sight → Priorities
+sight_priorities s = record { n = s.n; of = priority_now s }
 
 -- the triangle has the same priority in both from every place
 abbrev pub IsSamePriority : Sight → Sight → ℕ → Type 0
@@ -53,8 +53,9 @@ pub record IsSound (s : Sight) : Type 0 where
 
 -- What a frame finds: the mesh has followed the sight so far, and what is told now of priorities and readings is what the
 -- sight has where the camera is.
-pub record IsFollowed (s : Sight) (told : Priorities) (read : Readings) (odometer : ℕ) (mesh : MeshState) : Type 0 where
-  pub priorities : told ≡ told_by s
+pub record IsFollowed (s : Sight) (given : Priorities) (read : Readings) (odometer : ℕ)
+    (mesh : MeshState) : Type 0 where
+  pub priorities : given ≡ sight_priorities s
   pub readings : read ≡ s.readings
   pub sound : IsSound s
   pub n : mesh.pool.n ≡ s.n

@@ -18,16 +18,16 @@ use roam_mesh::Mesh;
 /// Cost (not proved): that of `Mesh::advance`. Takes no memory.
 pub fn advance<G: Gauge>(mesh: &mut Mesh, gauge: &mut G, budget: u32, odometer: u64) -> Steps
     requires followed { (s : Sight)
-        × IsFollowed s (G.told gauge.old) (G.readings gauge.old) odometer mesh.old }
+        × IsFollowed s (G.priorities gauge.old) (G.readings gauge.old) odometer mesh.old }
     requires some { 2 ≤ budget }
     requires far { odometer ≤ LONGEST_WAY }
     requires counted { G.count gauge.old < CHANGES_AT_FRAME }
     requires room { HasRoom mesh.old.pool.n mesh.old.pool.most budget }
     requires splits { mesh.old.pool.splits < CHANGES_AT_FRAME }
     requires merges { mesh.old.pool.merges < CHANGES_AT_FRAME }
-    ensures told { G.told gauge.new ≡ G.told gauge.old }
+    ensures priorities { G.priorities gauge.new ≡ G.priorities gauge.old }
     ensures readings { G.readings gauge.new ≡ G.readings gauge.old }
-    ensures done { (s : Sight) → IsFollowed s (G.told gauge.old) (G.readings gauge.old) odometer mesh.old →
+    ensures done { (s : Sight) → IsFollowed s (G.priorities gauge.old) (G.readings gauge.old) odometer mesh.old →
         IsAdvanced s budget odometer mesh.old mesh.new result (G.count gauge.old) (G.count gauge.new) }
 {
     sight_laws();

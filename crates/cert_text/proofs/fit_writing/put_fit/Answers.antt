@@ -3,7 +3,7 @@ use Rattle.std.proofs.Common.{◌≡◌, ℕ, List, ◌++◌, append_assoc, refl
 use Rattle.std.specs.Prelude.{OnOk, OnErr}
 use Rattle.std.specs.List.{flat_map}
 use Rattle.std.proofs.lemmas.Result.{err_from_is_err_and, on_ok_weaker, on_err_weaker}
-use Rattle.certificate_laws.specs.declared.fit_reason.Off.{Off}
+use Rattle.certificate_laws.specs.declared.fit_reason.Witness.{Witness}
 use Rattle.certificate_laws.specs.FitCertificate.{FitCertificate}
 use Rattle.cert_text.specs.declared.fit_line.FitLine.TheVariants.{ToleranceLine, MeshLine}
 use Rattle.cert_text.specs.FitCertText.{ended_fit_line, off_text, fit_cert_text}
@@ -12,11 +12,11 @@ use Rattle.cert_text.proofs.PageLemmas.{puts-then, cuts-then, cuts-longer}
 use Rattle.cert_text.proofs.fit_writing.put_fit.Goals as goal
 
 -- the text of the parts of a certificate
-abbrev parts : ℕ → List Off → List Off → List ℕ
+abbrev parts : ℕ → List Witness → List Witness → List ℕ
 parts own needed beyond = (ended_fit_line (ToleranceLine own) ++ flat_map off_text needed)
     ++ (ended_fit_line MeshLine ++ flat_map off_text beyond)
 
-same_parts : (cert : FitCertificate) (own : ℕ) (needed beyond : List Off) →
+same_parts : (cert : FitCertificate) (own : ℕ) (needed beyond : List Witness) →
     own ≡ cert.tolerance → needed ≡ cert.needed → beyond ≡ cert.beyond →
     parts own needed beyond ≡ fit_cert_text cert
 same_parts cert own needed beyond e f h =

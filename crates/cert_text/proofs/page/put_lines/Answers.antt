@@ -21,7 +21,7 @@ loop-line-preserved g c =
     record {
       put = subst (Puts (g.S.Sink.contents c.args.out.now) (g.S.Sink.contents c.put_line.new.out) c.args.page.now.items
           c.put_line.new.page.items)
-          (sym (texts-next (λ line. ended (g.L.Line.text line)) c.args.lines.now c.loop-line.line-index
+          (sym (texts-next (λ line. ended (g.L.PageLine.text line)) c.args.lines.now c.loop-line.line-index
           c.line-item.result below c.line-item.is))
           (puts-then _ _ _ _ _ _ _ _ c.loop-line.invariant.put c.in_ok-put_line.ensures.ok);
       calm = c.in_ok-put_line.ensures.faults.ok ∙ c.loop-line.invariant.calm;
@@ -33,13 +33,13 @@ pub returns-in_err-put_line-clause-err : goal.returns-in_err-put_line-clause-err
 returns-in_err-put_line-clause-err g c =
     let p = err_from_is_err_and c.from_residual.result c.from_residual.ensures.1 in
     let k = c.loop-line.line-index in
-    rw p.1 (cuts-longer _ _ _ (flat_map (λ line. ended (g.L.Line.text line)) (take k c.args.lines.now))
-    (flat_map (λ line. ended (g.L.Line.text line)) (drop k c.args.lines.now)) _
-    (texts-cut (λ line. ended (g.L.Line.text line)) c.args.lines.now k)
+    rw p.1 (cuts-longer _ _ _ (flat_map (λ line. ended (g.L.PageLine.text line)) (take k c.args.lines.now))
+    (flat_map (λ line. ended (g.L.PageLine.text line)) (drop k c.args.lines.now)) _
+    (texts-cut (λ line. ended (g.L.PageLine.text line)) c.args.lines.now k)
     (λ before text put. c.in_err-put_line.ensures.err before _ (c.loop-line.invariant.put before text put)))
 
 pub returns-clause-ok : goal.returns-clause-ok
 returns-clause-ok g c =
     subst (λ l. Puts (g.S.Sink.contents c.args.out.now) (g.S.Sink.contents c.loop-line.out) c.args.page.now.items
-    c.loop-line.page.items (flat_map (λ line. ended (g.L.Line.text line)) l))
+    c.loop-line.page.items (flat_map (λ line. ended (g.L.PageLine.text line)) l))
     (take_all c.loop-line.line-index c.args.lines.now (omega arith)) c.loop-line.invariant.put

@@ -31,11 +31,11 @@ returns-then-head-clause-first g c =
 
 pub ask-requires-clause-level : goal.ask-requires-clause-level
 ask-requires-clause-level g c =
-    subst (λ (t : Located). level_of t.tri ≤ 2 * (g.G.Gauge.told c.asking.gauge).n) (sym c.leaf.ensures)
+    subst (λ (t : Located). level_of t.tri ≤ 2 * (g.G.Gauge.priorities c.asking.gauge).n) (sym c.leaf.ensures)
     (head_level g.w c.requires.1.1.0
     (g.M.QueuedMesh.seen c.asking.mesh) c.asking.invariant.asked.settled c.first-head.result
     c.first-head.ensures.head
-    (g.G.Gauge.told c.asking.gauge) (c.asking.invariant.told ∙ c.requires.1.1.1.0))
+    (g.G.Gauge.priorities c.asking.gauge) (c.asking.invariant.priorities ∙ c.requires.1.1.1.0))
 
 pub ask-requires-clause-at : goal.ask-requires-clause-at
 ask-requires-clause-at g c =
@@ -57,7 +57,7 @@ ask-requires-clause-unknown g c =
 
 pub asking-init : goal.asking-init
 asking-init g c = record {
-  told = refl;
+  priorities = refl;
   readings = refl;
   log = refl;
   asked =
@@ -68,7 +68,7 @@ pub asking-smaller : goal.asking-smaller
 asking-smaller g c =
     let before = g.M.QueuedMesh.seen c.asking.mesh in
     told_less before (g.M.QueuedMesh.seen c.ask.new.mesh)
-    (record { p = (g.G.Gauge.told c.asking.gauge).of c.leaf.result.tri; tri = c.leaf.result.tri })
+    (record { p = (g.G.Gauge.priorities c.asking.gauge).of c.leaf.result.tri; tri = c.leaf.result.tri })
     c.first-head.result.rank.tri c.ask.ensures.known (ap (λ (t : Located). t.tri) c.leaf.ensures)
     (head_entry g.w c.requires.1.1.0 before c.asking.invariant.asked.settled c.first-head.result
     c.first-head.ensures.head)
@@ -79,12 +79,13 @@ asking-preserved g c =
     let before = g.M.QueuedMesh.seen c.asking.mesh in
     let after = g.M.QueuedMesh.seen c.ask.new.mesh in
     let more = g.G.Gauge.count c.ask.new.gauge in
-    let rank : Rank = record { p = (g.G.Gauge.told c.asking.gauge).of c.leaf.result.tri; tri = c.leaf.result.tri } in
-    let value = ap (λ (z : Priorities). z.of c.leaf.result.tri) (c.asking.invariant.told ∙ c.requires.1.1.1.0) in
+    let rank : Rank = record { p = (g.G.Gauge.priorities c.asking.gauge).of c.leaf.result.tri; tri = c.leaf.result.tri }
+    in
+    let value = ap (λ (z : Priorities). z.of c.leaf.result.tri) (c.asking.invariant.priorities ∙ c.requires.1.1.1.0) in
     let few = subst (λ (z : PoolSet). leaf_count g.w.n z.members ≤ g.w.budget)
     (sym c.asking.invariant.asked.set) c.requires.1.1.1.1.1 in
     record {
-      told = c.ask.ensures.told ∙ c.asking.invariant.told;
+      priorities = c.ask.ensures.priorities ∙ c.asking.invariant.priorities;
       readings = c.ask.ensures.readings ∙ c.asking.invariant.readings;
       log = c.ask.ensures.log ∙ c.asking.invariant.log;
       asked = told_only g.w (g.M.QueuedMesh.seen c.args.mesh.now) before after rank

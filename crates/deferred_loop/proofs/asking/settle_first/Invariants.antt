@@ -5,7 +5,7 @@ use Rattle.deferred_loop.proofs.asking.settle_first.Given as goal
 
 abbrev pub invariant-asking : goal.invariant-asking
 invariant-asking g l = record {
-  told : g.G.Gauge.told l.gauge ≡ g.G.Gauge.told l.fn.gauge;
+  priorities : g.G.Gauge.priorities l.gauge ≡ g.G.Gauge.priorities l.fn.gauge;
   readings : g.G.Gauge.readings l.gauge ≡ g.G.Gauge.readings l.fn.gauge;
   log : g.M.QueuedMesh.log l.mesh ≡ g.M.QueuedMesh.log l.fn.mesh;
   asked : IsAskedOnly g.w (g.M.QueuedMesh.seen l.fn.mesh) (g.M.QueuedMesh.seen l.mesh) (g.G.Gauge.count l.fn.gauge)

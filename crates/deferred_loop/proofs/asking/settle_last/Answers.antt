@@ -45,9 +45,9 @@ pub ask-requires-clause-level : goal.ask-requires-clause-level
 ask-requires-clause-level g c =
     let seen = g.M.QueuedMesh.seen c.asking.mesh in
     let t = c.in-Some-unasked.t in
-    subst (λ (z : Located). level_of z.tri ≤ 2 * (g.G.Gauge.told c.asking.gauge).n) (sym c.in-Some-unasked.t-is)
+    subst (λ (z : Located). level_of z.tri ≤ 2 * (g.G.Gauge.priorities c.asking.gauge).n) (sym c.in-Some-unasked.t-is)
     (last_level g.w c.requires.1.1.0 seen c.asking.invariant.asked.settled c.in-Some.head c.in-Some.ensures.head
-    (g.G.Gauge.told c.asking.gauge) t.tri (c.asking.invariant.told ∙ c.requires.1.1.1.0)
+    (g.G.Gauge.priorities c.asking.gauge) t.tri (c.asking.invariant.priorities ∙ c.requires.1.1.1.0)
     (last_part seen c.in-Some.head t c.in-Some.ensures.head c.in-Some-unasked.is).0)
 
 pub ask-requires-clause-at : goal.ask-requires-clause-at
@@ -73,7 +73,7 @@ ask-requires-clause-unknown g c =
 
 pub asking-init : goal.asking-init
 asking-init g c = record {
-  told = refl;
+  priorities = refl;
   readings = refl;
   log = refl;
   asked =
@@ -86,9 +86,10 @@ asking-smaller g c =
     let t = c.in-Some-unasked.t in
     let part = last_part before c.in-Some.head t c.in-Some.ensures.head c.in-Some-unasked.is in
     let after = g.M.QueuedMesh.seen c.ask.new.mesh in
-    let rank : Rank = record { p = (g.G.Gauge.told c.asking.gauge).of t.tri; tri = t.tri } in
+    let of = (g.G.Gauge.priorities c.asking.gauge).of in
+    let rank : Rank = record { p = of t.tri; tri = t.tri } in
     let known : IsRated before after rank =
-    subst (λ (z : Located). IsRated before after (record { p = (g.G.Gauge.told c.asking.gauge).of z.tri; tri = z.tri }))
+    subst (λ (z : Located). IsRated before after (record { p = of z.tri; tri = z.tri }))
     c.in-Some-unasked.t-is c.ask.ensures.known in
     told_less before after rank t.tri known refl
     (last_entry g.w c.requires.1.1.0 before c.asking.invariant.asked.settled c.in-Some.head
@@ -102,15 +103,16 @@ asking-preserved g c =
     let more = g.G.Gauge.count c.ask.new.gauge in
     let t = c.in-Some-unasked.t in
     let part = last_part before c.in-Some.head t c.in-Some.ensures.head c.in-Some-unasked.is in
-    let rank : Rank = record { p = (g.G.Gauge.told c.asking.gauge).of t.tri; tri = t.tri } in
+    let of = (g.G.Gauge.priorities c.asking.gauge).of in
+    let rank : Rank = record { p = of t.tri; tri = t.tri } in
     let known : IsRated before after rank =
-    subst (λ (z : Located). IsRated before after (record { p = (g.G.Gauge.told c.asking.gauge).of z.tri; tri = z.tri }))
+    subst (λ (z : Located). IsRated before after (record { p = of z.tri; tri = z.tri }))
     c.in-Some-unasked.t-is c.ask.ensures.known in
-    let value = ap (λ (z : Priorities). z.of t.tri) (c.asking.invariant.told ∙ c.requires.1.1.1.0) in
+    let value = ap (λ (z : Priorities). z.of t.tri) (c.asking.invariant.priorities ∙ c.requires.1.1.1.0) in
     let allowed = subst (λ (z : PoolSet). IsAllowed g.w z.members c.args.limit.now) (sym c.asking.invariant.asked.set)
     c.requires.1.1.1.1.1 in
     record {
-      told = c.ask.ensures.told ∙ c.asking.invariant.told;
+      priorities = c.ask.ensures.priorities ∙ c.asking.invariant.priorities;
       readings = c.ask.ensures.readings ∙ c.asking.invariant.readings;
       log = c.ask.ensures.log ∙ c.asking.invariant.log;
       asked = told_only g.w (g.M.QueuedMesh.seen c.args.mesh.now) before after rank

@@ -7,7 +7,8 @@ use Rattle.deferred_loop.proofs.entering.enter_fresh.Goals as goal
 
 pub reading-reading-requires : goal.reading-reading-requires
 reading-reading-requires g c = record {
-  level = asked_level g.w (g.G.Gauge.told c.entering.gauge) c.in-Some.t (c.entering.invariant.told ∙ c.requires.1.1.0)
+  level = asked_level g.w (g.G.Gauge.priorities c.entering.gauge) c.in-Some.t
+      (c.entering.invariant.priorities ∙ c.requires.1.1.0)
       (c.requires.1.1.1.1.1.1.0 c.in-Some.t (c.entering.invariant.entering.rest c.in-Some.t
       (next_listed (g.M.QueuedMesh.seen c.entering.mesh) c.in-Some.t c.in-Some.ensures)));
 }
@@ -16,7 +17,7 @@ pub entering-preserved : goal.entering-preserved
 entering-preserved g c =
     let readings = c.entering.invariant.readings in
     record {
-      told = c.reading-reading.ensures.told ∙ c.entering.invariant.told;
+      priorities = c.reading-reading.ensures.priorities ∙ c.entering.invariant.priorities;
       readings = c.reading-reading.ensures.readings ∙ readings;
       log = c.enter.ensures.log ∙ c.entering.invariant.log;
       entering = entering_next g.w (g.G.Gauge.readings c.args.gauge.now) c.args.odometer

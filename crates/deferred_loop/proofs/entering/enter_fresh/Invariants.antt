@@ -4,7 +4,7 @@ use Rattle.deferred_loop.proofs.entering.enter_fresh.Given as goal
 
 abbrev pub invariant-entering : goal.invariant-entering
 invariant-entering g l = record {
-  told : g.G.Gauge.told l.gauge ≡ g.G.Gauge.told l.fn.gauge;
+  priorities : g.G.Gauge.priorities l.gauge ≡ g.G.Gauge.priorities l.fn.gauge;
   readings : g.G.Gauge.readings l.gauge ≡ g.G.Gauge.readings l.fn.gauge;
   log : g.M.QueuedMesh.log l.mesh ≡ g.M.QueuedMesh.log l.fn.mesh;
   entering : IsEntering g.w (g.G.Gauge.readings l.fn.gauge) l.odometer (g.M.QueuedMesh.seen l.fn.mesh)

@@ -1,17 +1,17 @@
 use Rattle.std.proofs.Common.{◌+◌, refl, subst}
 use Rattle.mesh_laws.specs.Stamps.{ReadingsHold}
 use Rattle.deferred_loop.proofs.LogLemmas.{frame_log}
-use Rattle.deferred_loop.proofs.PickLemmas.{picked_told, picked_of, picked_frame, end_sparing, end_at_most}
+use Rattle.deferred_loop.proofs.PickLemmas.{picked_priorities, picked_of, picked_frame, end_sparing, end_at_most}
 use Rattle.deferred_loop.proofs.PickLemmas.{end_at_least, end_stamps}
 use Rattle.deferred_loop.proofs.frame.advance.Goals as goal
 
 pub advance_over-requires : goal.advance_over-requires
 advance_over-requires g c κs within =
-    let told = g.G.Gauge.told c.args.gauge.now in
+    let priorities = g.G.Gauge.priorities c.args.gauge.now in
     let readings = g.G.Gauge.readings c.args.gauge.now in
     let s = g.M.QueuedMesh.seen c.args.mesh.now in
-    let hold = subst (λ n. ReadingsHold n told.of c.args.odometer readings) c.requires.grid c.requires.readings in
-    let frame = picked_frame told readings c.args.odometer s c.args.budget c.requires.grid c.requires.budget
+    let hold = subst (λ n. ReadingsHold n priorities.of c.args.odometer readings) c.requires.grid c.requires.readings in
+    let frame = picked_frame priorities readings c.args.odometer s c.args.budget c.requires.grid c.requires.budget
     c.requires.falls c.requires.valid
     c.requires.stamps hold in (
       within.0,
@@ -20,9 +20,9 @@ advance_over-requires g c κs within =
         (
           frame,
           (
-            picked_told told readings c.args.odometer s c.args.budget c.requires.grid,
+            picked_priorities priorities readings c.args.odometer s c.args.budget c.requires.grid,
             (
-              picked_of told readings c.args.odometer s c.args.budget c.requires.grid,
+              picked_of priorities readings c.args.odometer s c.args.budget c.requires.grid,
               (
                 hold,
                 (
@@ -38,14 +38,14 @@ advance_over-requires g c κs within =
 
 pub returns-clause-sparing : goal.returns-clause-sparing
 returns-clause-sparing g c =
-    end_sparing (g.G.Gauge.told c.args.gauge.now) (g.G.Gauge.readings c.args.gauge.now) c.args.odometer
+    end_sparing (g.G.Gauge.priorities c.args.gauge.now) (g.G.Gauge.readings c.args.gauge.now) c.args.odometer
     (g.M.QueuedMesh.seen c.args.mesh.now) c.args.budget c.requires.grid c.requires.budget
     c.requires.falls c.requires.valid (g.M.QueuedMesh.seen c.advance_over.new.mesh).set.members
     c.advance_over.result.splits c.advance_over.result.merges c.advance_over.ensures.run
 
 pub returns-clause-most : goal.returns-clause-most
 returns-clause-most g c =
-    end_at_most (g.G.Gauge.told c.args.gauge.now) (g.G.Gauge.readings c.args.gauge.now) c.args.odometer
+    end_at_most (g.G.Gauge.priorities c.args.gauge.now) (g.G.Gauge.readings c.args.gauge.now) c.args.odometer
     (g.M.QueuedMesh.seen c.args.mesh.now) c.args.budget c.requires.grid c.requires.budget
     c.requires.falls c.requires.valid (c.advance_over.result.splits + c.advance_over.result.merges)
     (g.G.Gauge.count c.args.gauge.now) (g.G.Gauge.count c.advance_over.new.gauge) c.advance_over.ensures.most

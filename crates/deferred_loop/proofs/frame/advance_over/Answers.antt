@@ -34,7 +34,7 @@ split_at-requires g c κs within =
         (
           c.requires.1.1.0,
           (
-            c.in-Split.ensures.told ∙ c.steps.invariant.told ∙ c.requires.1.1.1.0,
+            c.in-Split.ensures.priorities ∙ c.steps.invariant.priorities ∙ c.requires.1.1.1.0,
             (
               c.in-Split.ensures.asked.settled,
               (next, (hold, (c.requires.1.1.1.1.1.1.1.1.0, (omega arith, (rising.0, (room, c.in-Split.ensures.at)))))),
@@ -59,7 +59,7 @@ steps-preserved-in-Split g c =
     (g.G.Gauge.count c.args.gauge.now) (g.M.QueuedMesh.seen c.steps.mesh) (g.M.QueuedMesh.seen c.choose.new.mesh)
     (g.G.Gauge.count c.steps.gauge) (g.G.Gauge.count c.choose.new.gauge) asked c.steps.invariant.stamped in
     record {
-      told = c.split_at.ensures.told ∙ c.in-Split.ensures.told ∙ c.steps.invariant.told;
+      priorities = c.split_at.ensures.priorities ∙ c.in-Split.ensures.priorities ∙ c.steps.invariant.priorities;
       readings = c.split_at.ensures.readings ∙ readings;
       settled = c.split_at.ensures.settled;
       counters = c.split_at.ensures.counters (g.M.QueuedMesh.seen c.args.mesh.now).set c.steps.merges
@@ -109,7 +109,7 @@ merge_at-requires g c κs within =
         (
           c.requires.1.1.0,
           (
-            c.in-Merge.ensures.told ∙ c.steps.invariant.told ∙ c.requires.1.1.1.0,
+            c.in-Merge.ensures.priorities ∙ c.steps.invariant.priorities ∙ c.requires.1.1.1.0,
             (
               c.in-Merge.ensures.asked.settled,
               (next, (hold, (c.requires.1.1.1.1.1.1.1.1.0, (omega arith, (rising.1, c.in-Merge.ensures.at))))),
@@ -134,7 +134,7 @@ steps-preserved g c =
     (g.G.Gauge.count c.args.gauge.now) (g.M.QueuedMesh.seen c.steps.mesh) (g.M.QueuedMesh.seen c.choose.new.mesh)
     (g.G.Gauge.count c.steps.gauge) (g.G.Gauge.count c.choose.new.gauge) asked c.steps.invariant.stamped in
     record {
-      told = c.merge_at.ensures.told ∙ c.in-Merge.ensures.told ∙ c.steps.invariant.told;
+      priorities = c.merge_at.ensures.priorities ∙ c.in-Merge.ensures.priorities ∙ c.steps.invariant.priorities;
       readings = c.merge_at.ensures.readings ∙ readings;
       settled = c.merge_at.ensures.settled;
       counters = c.merge_at.ensures.counters (g.M.QueuedMesh.seen c.args.mesh.now).set c.steps.splits

@@ -19,7 +19,7 @@ ghost-merge_at g a = g.w
 
 abbrev pub invariant-steps : goal.invariant-steps
 invariant-steps g l = record {
-  told : g.G.Gauge.told l.gauge ≡ g.G.Gauge.told l.fn.gauge;
+  priorities : g.G.Gauge.priorities l.gauge ≡ g.G.Gauge.priorities l.fn.gauge;
   readings : g.G.Gauge.readings l.gauge ≡ g.G.Gauge.readings l.fn.gauge;
   settled : IsSettled g.w (g.M.QueuedMesh.seen l.mesh);
   counters : IsCountedBy (g.M.QueuedMesh.seen l.fn.mesh).set (g.M.QueuedMesh.seen l.mesh).set l.splits l.merges;

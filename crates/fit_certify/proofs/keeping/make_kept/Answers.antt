@@ -3,7 +3,7 @@ use Rattle.std.proofs.Common.{◌≡◌, ℕ, Bool, false, List, [], refl, sym, 
 use Rattle.mesh_defs.specs.declared.point.Point.{Point}
 use Rattle.mesh_defs.specs.ClosedSet.{leaves_of}
 use Rattle.mesh_laws.specs.Sweep.{is_flagged}
-use Rattle.certificate_laws.specs.declared.fit_reason.Off.{Off}
+use Rattle.certificate_laws.specs.declared.fit_reason.Witness.{Witness}
 use Rattle.certificate_laws.specs.FitCertificate.{FitCertificate}
 use Rattle.certificate_laws.specs.Keeping.{KeptCertificate, IsKeptSound}
 use Rattle.certificate_laws.proofs.KeepingLemmas.{kept-made}
@@ -15,7 +15,7 @@ use Rattle.fit_certify.proofs.keeping.make_kept.Goals as goal
 abbrev kept_of : List Point → FitCertificate → KeptCertificate
 kept_of points cert = record { needs = points; rest = cert }
 
-abbrev fit_of : ℕ → List Off → List Off → FitCertificate
+abbrev fit_of : ℕ → List Witness → List Witness → FitCertificate
 fit_of own before behind = record { tolerance = own; needed = before; beyond = behind }
 
 pub settle-requires-clause-closed : goal.settle-requires-clause-closed
@@ -45,7 +45,7 @@ returns-clause-sound c =
       leaves_of n has,
       subst (λ (x : KeptCertificate). IsKeptSound n heights c.args.points.now c.args.tolerance x (leaves_of n has))
           (sym (c.new-3.ensures ∙ ap (λ (r : FitCertificate). kept_of c.in_ok-needs.needs.items r)
-          (c.new-2.ensures ∙ ap (λ (l : List Off). fit_of c.args.tolerance c.in_ok-needed.needed.items l)
+          (c.new-2.ensures ∙ ap (λ (l : List Witness). fit_of c.args.tolerance c.in_ok-needed.needed.items l)
           c.new.ensures.items)))
           (kept-made n heights c.args.points.now cert start has needed.are needed.begun needed.kept
           c.in_ok-needed.ensures.leads c.in_ok-needed.ensures.within refl),

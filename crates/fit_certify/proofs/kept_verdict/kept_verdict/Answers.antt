@@ -10,7 +10,7 @@ use Rattle.mesh_defs.specs.Priority.{worst_of}
 use Rattle.mesh_laws.specs.Sweep.{is_flagged}
 use Rattle.fit_laws.specs.Error.{error_of}
 use Rattle.fit_laws.proofs.ErrorLemmas.{worst-deviation}
-use Rattle.certificate_laws.specs.declared.fit_reason.Off.{Off}
+use Rattle.certificate_laws.specs.declared.fit_reason.Witness.{Witness}
 use Rattle.certificate_laws.specs.declared.fit_reason.FitVerdict.{FitVerdict}
 use Rattle.certificate_laws.specs.FitCertificate.{FitCertificate}
 use Rattle.certificate_laws.specs.Keeping.{is_centred, KeptCertificate, LeadsToKept, IsKeptFit, IsKeptVerdict}
@@ -18,7 +18,7 @@ use Rattle.fit_certify.proofs.kept_verdict.kept_verdict.Goals as goal
 
 -- a mesh whose error was measured is within a tolerance that is read, and no reason stands behind it
 passed : (n : ℕ) (heights : List ℕ) (points : List Point) (cert : KeptCertificate) (has : ℕ → Bool)
-    (rest : FitCertificate) (own measured : ℕ) (front : List Off) → LeadsToKept n heights points cert has →
+    (rest : FitCertificate) (own measured : ℕ) (front : List Witness) → LeadsToKept n heights points cert has →
     rest ≡ cert.rest → own ≡ rest.tolerance → measured ≡ worst_of (error_of n heights) (leaves_of n has) →
     measured ≤ own → front ≡ rest.beyond → (length front == 0) ≡ true →
     IsKeptFit n heights points cert has × (cert.rest.beyond ≡ [])

@@ -1,7 +1,7 @@
 -- The first reason that is none.
 use Rattle.std.proofs.Common.{◌≡◌, ℕ, Bool, false, List, inl, sym, subst}
 use Rattle.mesh_laws.specs.Sweep.{is_flagged}
-use Rattle.certificate_laws.specs.declared.fit_reason.Off.{Off}
+use Rattle.certificate_laws.specs.declared.fit_reason.Witness.{Witness}
 use Rattle.certificate_laws.specs.declared.fit_reason.FitVerdict.{FitVerdict}
 use Rattle.certificate_laws.specs.FitCertificate.{IsFor, IsFirstBadFit, IsFitVerdict}
 use Rattle.certificate_laws.proofs.LeadLemmas.{bad-same}
@@ -18,7 +18,7 @@ returns-in-Some c =
     let none = subst (λ (l : List Bool). (a : ℕ) → is_flagged l a ≡ false) (sym c.as_mut_slice-flags.ensures.value)
     c.in_ok-flags.ensures.empty in
     let bad =
-    subst (λ (l : List Off). IsFirstBadFit n heights cert.tolerance first l c.in-Some.index) c.needed.ensures.value
+    subst (λ (l : List Witness). IsFirstBadFit n heights cert.tolerance first l c.in-Some.index) c.needed.ensures.value
     (subst (λ k. IsFirstBadFit n heights k first c.needed.result.now c.in-Some.index) c.tolerance-tolerance.ensures
     c.in-Some.ensures.bad) in
     record {

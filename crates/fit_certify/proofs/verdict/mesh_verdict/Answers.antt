@@ -3,7 +3,7 @@ use Rattle.std.proofs.Common.{ℕ, ◌-◌, ◌≤◌, Bool, List, length, refl,
 use Rattle.mesh_defs.specs.ClosedSet.{leaves_of}
 use Rattle.mesh_laws.specs.Sweep.{is_flagged}
 use Rattle.fit_laws.proofs.ErrorLemmas.{worst-deviation}
-use Rattle.certificate_laws.specs.declared.fit_reason.Off.{Off}
+use Rattle.certificate_laws.specs.declared.fit_reason.Witness.{Witness}
 use Rattle.certificate_laws.specs.FitCertificate.{LeadsTo, IsWithinTarget, IsEnough}
 use Rattle.fit_certify.proofs.verdict.mesh_verdict.Goals as goal
 
@@ -28,7 +28,7 @@ returns c =
         };
         few = subst (λ k. IsWithinTarget c.args.target k) c.measure-mesh.ensures.triangles
             (c.is_within.ensures.0 c.if-not-is_within.false);
-        beyond = subst (λ (l : List Off). LeadsTo n heights (cert.tolerance - 1) has l over) c.beyond.ensures.value
+        beyond = subst (λ (l : List Witness). LeadsTo n heights (cert.tolerance - 1) has l over) c.beyond.ensures.value
             (subst (λ k. LeadsTo n heights k has c.beyond.result.now over) less c.in_default.ensures.all);
         enough = subst (λ k. IsEnough c.args.target cert.tolerance k) count
             (subst (λ k. IsEnough c.args.target k c.list_leaves.result) c.tolerance-tolerance.ensures

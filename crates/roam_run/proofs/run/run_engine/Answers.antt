@@ -2,7 +2,7 @@ use Rattle.std.proofs.Common.{◌≡◌, ◌&&◌, [], List, Some, Option, optio
 use Rattle.roam_edge.specs.Shelf.{NamedFile}
 use Rattle.run_words.specs.Words.{Show, Frames, Scripted}
 use Rattle.run_laws.specs.Outcome.{Outcome}
-use Rattle.run_laws.specs.Maker.{TellsFrames, Begins, Leaves}
+use Rattle.run_laws.specs.Maker.{TellsFrames, Begins, LeavesEngine}
 use Rattle.run_laws.proofs.GridLemmas.{first_walk, first-begins}
 use Rattle.run_laws.proofs.RunLemmas.{spent-runs, script-runs}
 use Rattle.run_words.specs.WordView.{scripted_seen}
@@ -32,7 +32,7 @@ returns-in-Ok-made-clause-runs g c =
     (left-of-engine c.args.showing c.args.command.now.grid.now s run.result c.of_script.result.engine shown
     c.of_script.ensures.left)
     (λ end complete leaves.
-    (let Q : Show → Type 0 = λ show. Leaves show (EngineHasFollowed made.showing made.engine) end in
+    (let Q : Show → Type 0 = λ show. LeavesEngine show (EngineHasFollowed made.showing made.engine) end in
     ap (option_map engine_seen) (c.of_script.ensures.engine
     ∙ left-some run.result made.engine run.ensures.status complete)
     ∙ leaves-engine c.args.showing made.showing made.engine end (subst Q shown leaves)))

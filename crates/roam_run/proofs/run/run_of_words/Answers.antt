@@ -1,6 +1,6 @@
 use Rattle.std.proofs.Common.{◌≡◌, map, string_bytes, sym, subst, Option}
 use Rattle.run_words.specs.Words.{Command, command_of}
-use Rattle.run_laws.specs.Leaving.{Runs}
+use Rattle.run_laws.specs.Leaving.{RunsCommand}
 use Rattle.run_laws.proofs.RunLemmas.{usage-runs, command-not-usage}
 use Rattle.run_engine.specs.EngineSeen.{engine_seen}
 use Rattle.roam_run.proofs.run.run_of_words.Goals as goal

@@ -7,7 +7,7 @@ use Rattle.run_certify.proofs.fit_checking.run_fit_check.Goals as goal
 pub returns-clause-runs : goal.returns-clause-runs
 returns-clause-runs g c =
     let w = fit_checking_seen c.args.words.now in
-    let own = rw c.n-n.ensures.value at c.goal_in-goal.ensures.value in
+    let own = rw c.n-n.ensures.value at c.target_in-target.ensures.value in
     check-ends _ _ _ _ _ _ _ (rw c.n-n.ensures.value at c.end_check.ensures.ends)
     c.judge-judged.ensures.opened c.judge-judged.ensures.ended (rw own at c.judge-judged.ensures.ok)
     (λ j opened ended judged tells. judged-runs _ _ _ _ _ (CheckFit w) 1 c.in-Ok.grid _ _ _ c.in-Ok.ensures.ok

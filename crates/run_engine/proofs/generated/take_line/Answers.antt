@@ -13,8 +13,8 @@ same-place n seed k line is =
     let e : k + 1 - 1 ≡ k = omega arith in
     subst P e is
 
-pub carry_out-requires : goal.carry_out-requires
-carry_out-requires c =
+pub apply_line-requires : goal.apply_line-requires
+apply_line-requires c =
     let here = c.requires.here in
     record {
       other = c.in_default.not-Frame;
@@ -38,10 +38,10 @@ returns-in-Frame c =
 pub returns-in_default : goal.returns-in_default
 returns-in_default c =
     gone-other c.args.n c.args.seed c.args.k c.args.engine.now c.args.sums.now c.requires.here
-    c.carry_out.new.engine c.gen_line.result
+    c.apply_line.new.engine c.gen_line.result
     (line_at c.args.n c.args.seed (c.args.k + 1))
     (same-place c.args.n c.args.seed c.args.k c.gen_line.result c.gen_line.ensures.value)
     c.in_default.not-Frame c.gen_line.ensures.there
     (c.generator_laws.ensures.ranges c.args.n c.args.seed (c.args.k + 1) c.requires.n_high (omega arith)
     (let e = c.requires.k in omega (arith, e)))
-    c.carry_out.ensures
+    c.apply_line.ensures

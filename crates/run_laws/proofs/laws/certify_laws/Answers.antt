@@ -11,10 +11,10 @@ returns c = record {
       made-accepted c.text_laws.ensures.back c.text_laws.ensures.ended c.text_laws.ensures.lines m grid cert range
       (command-budget words name (Make m) is) made
       check files budget spacing text mesh;
-  fit_accepted = λ words name m grid cert check files triangles is valid of_file made target fitted text mesh.
+  fit_accepted = λ words name m grid cert check files triangles is valid of_file made wanted fitted text mesh.
       fit_made-accepted c.fit_text_laws.ensures.back c.fit_text_laws.ensures.ended c.fit_text_laws.ensures.lines
       m grid cert valid of_file (command-budget words name (MakeFit m) is) made
-      check files triangles target fitted text mesh;
+      check files triangles wanted fitted text mesh;
   kept_read_back = kept-back c.kept_text_laws.ensures.back c.kept_text_laws.ensures.ended c.kept_text_laws.ensures.lines;
   kept_accepted = λ words name m grid points cert check files triangles is valid of_file made error fitted found text mesh.
       kept_made-accepted c.kept_text_laws.ensures.back c.kept_text_laws.ensures.ended c.kept_text_laws.ensures.lines

@@ -3,7 +3,7 @@ use Rattle.roam_edge.specs.Shelf.{NamedFile}
 use Rattle.run_words.specs.Words.{Show, OnGrid, Frames, Scripted, is_of_engine}
 use Rattle.run_laws.specs.Promise.{ends_script}
 use Rattle.run_laws.specs.Outcome.{Outcome}
-use Rattle.run_laws.specs.Maker.{TellsFrames, Begins, Leaves}
+use Rattle.run_laws.specs.Maker.{TellsFrames, Begins, LeavesEngine}
 use Rattle.run_laws.proofs.GridLemmas.{first_walk, first-begins}
 use Rattle.run_laws.proofs.RunLemmas.{spent-runs, script-runs, none-left}
 use Rattle.run_words.specs.WordView.{scripted_seen}
@@ -19,7 +19,7 @@ returns-in-Ok-made-clause-runs g c =
     let read = c.in-Ok.ensures.ok in
     let shown = c.requires.shown in
     let P : Show → Type 0 = λ show. LeastFollows frames show (first_walk s c.in-Ok.grid) [] in
-    let Q : Show → Outcome → Type 0 = λ show end. Leaves show (LeastFollows run.new.frames) end in
+    let Q : Show → Outcome → Type 0 = λ show end. LeavesEngine show (LeastFollows run.new.frames) end in
     let begins : (files : List NamedFile) → (g.O.Outside.moment c.args.outside.now).shelf.files ≡ Some files
     → Begins s.show (LeastFollows frames) (first_walk s c.in-Ok.grid) =
     λ files told. (let range = c.state_laws.ensures.levels c.in-Ok.grid _ (read.is_grid files told) in

@@ -2,8 +2,8 @@ use Rattle.std.proofs.Common.{◌≡◌, ◌++◌, ℕ, List, [], length, take, 
 use Rattle.std.proofs.lemmas.Grind.{common_steps}
 use Rattle.roam_edge.specs.Shelf.{bytes_of}
 use Rattle.run_laws.specs.declared.status.Status.{Status}
-use Rattle.run_laws.specs.Act.{Told}
-use Rattle.run_laws.specs.Promise.{Seen}
+use Rattle.run_laws.specs.Act.{Sinks}
+use Rattle.run_laws.specs.Promise.{ShelfState}
 use Rattle.run_laws.specs.Maker.{EndsScript, ScriptHasCome}
 use Rattle.run_meshes.specs.StageView.{IsScriptAt}
 use Rattle.run_laws.proofs.StepLemmas.{place, come-begin}
@@ -17,7 +17,7 @@ use Rattle.run_meshes.proofs.script.run_script.Goals as goal
 pub returns-in_default-clause-read_fault : goal.returns-in_default-clause-read_fault
 returns-in_default-clause-read_fault g c is show start begins all told_files =
     stops-unopened _ (bytes_of all c.args.name.now) _ _ (grind (arith, common_steps))
-    (subst (λ (t : Told). ScriptHasCome (g.O.Outside.moment c.args.outside.now).sinks t show start [])
+    (subst (λ (t : Sinks). ScriptHasCome (g.O.Outside.moment c.args.outside.now).sinks t show start [])
     (sym c.in_default.ensures.only.sinks)
     (place start [] [], come-begin _ show start begins.goes begins.none))
 
@@ -26,7 +26,7 @@ pieces-init g c = record {
   carried = λ show start begins. (
     [],
     record {
-      place = subst (λ (t : Told). IsScriptAt (g.O.Outside.moment c.args.outside.now).sinks t show
+      place = subst (λ (t : Sinks). IsScriptAt (g.O.Outside.moment c.args.outside.now).sinks t show
           (g.K.FrameMaker.follows c.args.frames.now) start [] c.new-stage.result)
           (sym c.in-Ok.ensures.only.sinks)
           (begins-at _ show _ start c.new-stage.result begins c.new-stage.ensures.lines c.new-stage.ensures.part);
@@ -48,7 +48,7 @@ returns-in_default-read-clause-read_fault g c is show start begins all told_file
     let old = c.pieces.invariant.carried show start begins in
     stops-behind _ _ _ _ _ c.args.name.now old.0 old.1.in_file c.in_default-read.ensures.bytes.kept
     (c.in_default-read.ensures.ends.failed ∙ c.pieces.invariant.open_file)
-    (subst (λ (t : Told). ScriptHasCome (g.O.Outside.moment c.args.outside.now).sinks t show start old.0)
+    (subst (λ (t : Sinks). ScriptHasCome (g.O.Outside.moment c.args.outside.now).sinks t show start old.0)
     (sym c.in_default-read.ensures.only.sinks)
     (old.1.place.here, old.1.place.come)) all told_files
 
@@ -61,7 +61,7 @@ returns-then-count-eq0-clause-ends g c show start begins all told_files read =
     (g.O.Outside.moment c.end_script.new.outside).sinks show (g.K.FrameMaker.follows
     c.end_script.new.frames) start l c.end_script.result in
     subst P (sym same) (c.end_script.ensures.ends _ show start old.0 begins.starts
-    (subst (λ (t : Told). IsScriptAt (g.O.Outside.moment c.args.outside.now).sinks t show
+    (subst (λ (t : Sinks). IsScriptAt (g.O.Outside.moment c.args.outside.now).sinks t show
     (g.K.FrameMaker.follows c.pieces.frames) start old.0 c.pieces.stage)
     (sym c.in-Ok-read.ensures.only.sinks) old.1.place))
 
@@ -109,7 +109,7 @@ returns-in-Err-clause-ends g c show start begins all told_files read =
     let stop = ends-stop _ _ show (g.K.FrameMaker.follows c.take_piece.new.frames) start begins.alone
     (old.0 ++ take c.in-Ok-read.count c.read.new.buf) file.0 c.take_piece.new.stage c.in-Err.stop
     (c.in-Err.ensures.outcome _ show start old.0 begins.starts
-    (subst (λ (t : Told). IsScriptAt (g.O.Outside.moment c.args.outside.now).sinks t show
+    (subst (λ (t : Sinks). IsScriptAt (g.O.Outside.moment c.args.outside.now).sinks t show
     (g.K.FrameMaker.follows c.pieces.frames) start old.0 c.pieces.stage)
     (sym c.in-Ok-read.ensures.only.sinks) old.1.place)) in
     let Q = λ (status : Status). EndsScript (g.O.Outside.moment c.args.outside.now).sinks
@@ -125,13 +125,13 @@ pieces-preserved g c = record {
         old.0 ++ take c.in-Ok-read.count c.read.new.buf,
         record {
           place = (c.in_default-take_piece.ensures.outcome _ show start old.0 begins.starts
-              (subst (λ (t : Told). IsScriptAt (g.O.Outside.moment c.args.outside.now).sinks t show
+              (subst (λ (t : Sinks). IsScriptAt (g.O.Outside.moment c.args.outside.now).sinks t show
               (g.K.FrameMaker.follows c.pieces.frames) start old.0 c.pieces.stage)
               (sym c.in-Ok-read.ensures.only.sinks) old.1.place)).ok;
           in_file = λ all is.
               let there = old.1.in_file all is in (
                 drop c.in-Ok-read.count there.0,
-                ap (λ (e : Seen). e.rest) c.in_default-take_piece.ensures.only.shelf
+                ap (λ (e : ShelfState). e.rest) c.in_default-take_piece.ensures.only.shelf
                     ∙ c.in-Ok-read.ensures.bytes.takes there.0 there.1,
                 file-cut (bytes_of all c.args.name.now) old.0
                     (take c.in-Ok-read.count c.read.new.buf) there.0 c.in-Ok-read.count there.2
@@ -142,7 +142,7 @@ pieces-preserved g c = record {
       );
   told_rest = λ all is. (let there = c.pieces.invariant.told_rest all is in (
     drop c.in-Ok-read.count there.0,
-    ap (λ (e : Seen). e.rest) c.in_default-take_piece.ensures.only.shelf
+    ap (λ (e : ShelfState). e.rest) c.in_default-take_piece.ensures.only.shelf
         ∙ c.in-Ok-read.ensures.bytes.takes there.0 there.1,
   ));
   ready = c.in_default-take_piece.ensures.ready;

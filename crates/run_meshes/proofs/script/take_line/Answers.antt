@@ -20,13 +20,13 @@ take_frame-requires-clause-ranges g c =
     sym c.read_line.ensures.same ∙ (c.in-Ok-Frame.is ∙ ap (λ (l : Line). Ok l) c.in-Ok-Frame.field-0-is) in
     (c.limits.result, c.limits.ensures.under, c.line_laws.ensures.ranges c.limits.result c.as_slice.result.now Frame is)
 
-pub carry_out-requires-clause-ready : goal.carry_out-requires-clause-ready
-carry_out-requires-clause-ready g c =
+pub apply_line-requires-clause-ready : goal.apply_line-requires-clause-ready
+apply_line-requires-clause-ready g c =
     let few : c.args.stage.now.lines < MOST_LINES = grind (arith, common_steps) in
     (c.args.stage.now.lines, c.requires.ready, few)
 
-pub carry_out-requires-clause-ranges : goal.carry_out-requires-clause-ranges
-carry_out-requires-clause-ranges g c =
+pub apply_line-requires-clause-ranges : goal.apply_line-requires-clause-ranges
+apply_line-requires-clause-ranges g c =
     let is : line_in c.limits.result c.as_slice.result.now ≡ Ok c.in-Ok.line =
     sym c.read_line.ensures.same ∙ c.in-Ok.is in (
       c.limits.result,
@@ -77,20 +77,20 @@ returns-in-Ok-clause-outcome g c before show start read starts at =
     sym c.read_line.ensures.same ∙ c.in-Ok.is in
     record {
       ok = takes-change before _ show (g.K.FrameMaker.follows c.args.frames.now) start read
-          c.args.stage.now at (g.K.FrameMaker.follows c.carry_out.new.self)
+          c.args.stage.now at (g.K.FrameMaker.follows c.apply_line.new.self)
           c.end_line-in-Ok.new.self c.end_line-in-Ok.ensures.lines c.end_line-in-Ok.ensures.part c.in-Ok.line
           (line-shown before _ show (g.K.FrameMaker.follows c.args.frames.now) start read
           c.args.stage.now at c.limits.result c.as_slice.result.now (Ok c.in-Ok.line)
           (c.limits.ensures.value show at.here.walk at.here.pictures at.shows.followed at.shows.lines)
           c.as_slice.ensures.value is)
-          other (c.carry_out.ensures.followed show at.here.walk at.here.pictures at.shows.followed);
+          other (c.apply_line.ensures.followed show at.here.walk at.here.pictures at.shows.followed);
       refused = λ e. cc;
       failed = λ e. cc;
     }
 
 pub returns-in-Ok-clause-ready : goal.returns-in-Ok-clause-ready
 returns-in-Ok-clause-ready g c =
-    rw c.end_line-in-Ok.ensures.lines (c.carry_out.ensures.ready c.args.stage.now.lines c.requires.ready)
+    rw c.end_line-in-Ok.ensures.lines (c.apply_line.ensures.ready c.args.stage.now.lines c.requires.ready)
 
 pub returns-in-Ok-refuse-clause-outcome : goal.returns-in-Ok-refuse-clause-outcome
 returns-in-Ok-refuse-clause-outcome g c before show start read starts at =

@@ -1,7 +1,7 @@
 use Rattle.std.proofs.Common.{◌+◌, ◌*◌, ◌≤◌, ◌++◌, ℕ, List, Ok, take, length}
 use Rattle.run_laws.specs.Walk.{Walk}
 use Rattle.run_words.specs.Words.{Show}
-use Rattle.run_laws.specs.Act.{Told}
+use Rattle.run_laws.specs.Act.{Sinks}
 use Rattle.run_meshes.specs.StageView.{IsScriptStage, IsScriptAt}
 use Rattle.run_meshes.specs.Taking.{OnlyTakes}
 use Rattle.run_laws.specs.Maker.{Starts}
@@ -10,7 +10,7 @@ use Rattle.run_meshes.proofs.script.take_piece.Given as goal
 -- the bytes so far were carried out
 abbrev pub invariant-loop-byte : goal.invariant-loop-byte
 invariant-loop-byte g l = record {
-  carried : (before : Told) (show : Show) (start : Walk) (read : List ℕ) → Starts start
+  carried : (before : Sinks) (show : Show) (start : Walk) (read : List ℕ) → Starts start
       → IsScriptAt before (g.O.Outside.moment l.fn.outside).sinks show
       (g.K.FrameMaker.follows l.fn.frames) start read l.fn.stage
       → IsScriptAt before (g.O.Outside.moment l.outside).sinks show (g.K.FrameMaker.follows l.frames) start

@@ -10,7 +10,7 @@ use Rattle.deferred_loop.specs.Choice.{Priorities, IsSparing}
 use Rattle.deferred_loop.specs.Promise.{IsAtMost, AreStampsGood}
 use Rattle.roam_mesh.specs.Mesh.{pool_members, seen_of}
 use Rattle.roam_mesh.specs.Chosen.{SparesChosen}
-use Rattle.view_mesh.specs.Sight.{Sight, priority_now, told_by}
+use Rattle.view_mesh.specs.Sight.{Sight, priority_now, sight_priorities}
 use Rattle.view_mesh.proofs.CountLemmas.{run_still, few_asked, same_members_leaves}
 use Rattle.view_mesh.proofs.frame.advance.Goals as goal
 
@@ -32,14 +32,15 @@ advance-steps-requires-clause-stamps g c =
     rw is.priorities (c.sight_laws.ensures.stamps c.requires.followed.0 c.args.odometer c.args.mesh.now is.kept)
 
 -- what is said of told priorities, and of the grid of the mesh, is said of the sight and its grid
-of_sight : (s : Sight) (told : Priorities) (n : ℕ) → told ≡ told_by s → n ≡ s.n → (Fact : ℕ → (ℕ → ℕ) → Type 0) →
-    Fact n told.of → Fact s.n (priority_now s)
-of_sight s told n same size Fact is =
+of_sight : (s : Sight) (priorities : Priorities) (n : ℕ) → priorities ≡ sight_priorities s → n ≡ s.n
+    → (Fact : ℕ → (ℕ → ℕ) → Type 0) →
+    Fact n priorities.of → Fact s.n (priority_now s)
+of_sight s priorities n same size Fact is =
     subst (λ k. Fact k (priority_now s)) size (subst (λ (z : Priorities). Fact n z.of) same is)
 
 pub returns-clause-done : goal.returns-clause-done
 returns-clause-done g c s is =
-    let told = g.G.Gauge.told c.args.gauge.now in
+    let priorities = g.G.Gauge.priorities c.args.gauge.now in
     let budget = c.args.budget in
     let before = c.args.mesh.now in
     let after = c.advance-steps.new.self in
@@ -47,7 +48,7 @@ returns-clause-done g c s is =
     let count = g.G.Gauge.count c.args.gauge.now in
     let more = g.G.Gauge.count c.advance-steps.new.gauge in
     let did = c.advance-steps.ensures in
-    let said = of_sight s told before.pool.n is.priorities is.n in
+    let said = of_sight s priorities before.pool.n is.priorities is.n in
     let set : IsGridSet before.pool.n (pool_members before.pool) =
     split_list-closed before.pool.n before.pool.pairs c.pool-before.ensures.valid in
     let run : IsFrameRun s.n budget (priority_now s) (pool_members before.pool) (pool_members after.pool)
@@ -56,9 +57,10 @@ returns-clause-done g c s is =
     did.run in
     let frame : IsFrame s.n budget (priority_now s) (among (pool_members after.pool)) steps.worst steps.blocked =
     said (λ n p. IsFrame n budget p (among (pool_members after.pool)) steps.worst steps.blocked) did.frame in
-    let most : IsAtMost (told_by s) s.readings c.args.odometer (seen_of before) budget (steps.splits + steps.merges)
+    let most : IsAtMost (sight_priorities s) s.readings c.args.odometer (seen_of before) budget
+    (steps.splits + steps.merges)
     count more =
-    subst (λ (r : Readings). IsAtMost (told_by s) r c.args.odometer (seen_of before) budget
+    subst (λ (r : Readings). IsAtMost (sight_priorities s) r c.args.odometer (seen_of before) budget
     (steps.splits + steps.merges) count more) is.readings
     (subst (λ (z : Priorities). IsAtMost z (g.G.Gauge.readings c.args.gauge.now) c.args.odometer (seen_of before) budget
     (steps.splits + steps.merges) count more) is.priorities did.most) in
@@ -68,7 +70,8 @@ returns-clause-done g c s is =
     let small = run_small s.n budget (priority_now s) is.sound.falls c.requires.some
     (pool_members before.pool) (pool_members after.pool) steps.splits steps.merges
     (subst (λ n. IsGridSet n (pool_members before.pool)) is.n set) run.run in
-    let asked = few_asked (told_by s) s.readings c.args.odometer (seen_of before) budget (steps.splits + steps.merges)
+    let asked = few_asked (sight_priorities s) s.readings c.args.odometer (seen_of before) budget
+    (steps.splits + steps.merges)
     count more set c.requires.some most in
     record {
       n = did.n;

@@ -29,9 +29,9 @@ seen_behind behind held mesh same seen = subst (λ (q : QueuedState). mesh_of q.
 
 pub advance-steps-requires-clause-stamps : goal.advance-steps-requires-clause-stamps
 advance-steps-requires-clause-stamps g c =
-    stamps_hold (g.G.Gauge.told c.args.gauge.now).of c.args.odometer c.deref_mut.result.now.parts
+    stamps_hold (g.G.Gauge.priorities c.args.gauge.now).of c.args.odometer c.deref_mut.result.now.parts
     c.deref_mut.result.now.log
-    (subst (λ (z : MeshState). StampsHold (g.G.Gauge.told c.args.gauge.now).of c.args.odometer (stamp_of z))
+    (subst (λ (z : MeshState). StampsHold (g.G.Gauge.priorities c.args.gauge.now).of c.args.odometer (stamp_of z))
     (sym (seen_behind _ _ _ c.deref_mut.ensures.value c.self.view_is)) c.requires.stamps)
 
 pub advance-steps-requires-clause-valid : goal.advance-steps-requires-clause-valid
@@ -43,12 +43,12 @@ advance-steps-requires-clause-valid g c =
 
 pub returns-clause-most : goal.returns-clause-most
 returns-clause-most g c =
-    subst (λ (z : MeshState). IsAtMost (g.G.Gauge.told c.args.gauge.now)
+    subst (λ (z : MeshState). IsAtMost (g.G.Gauge.priorities c.args.gauge.now)
     (g.G.Gauge.readings c.args.gauge.now) c.args.odometer
     (seen_of z) c.args.budget
     (c.advance-steps.result.splits + c.advance-steps.result.merges) (g.G.Gauge.count c.args.gauge.now)
     (g.G.Gauge.count c.advance-steps.new.gauge)) (seen_behind _ _ _ c.deref_mut.ensures.value c.self.view_is)
-    (at_most (g.G.Gauge.told c.args.gauge.now) (g.G.Gauge.readings c.args.gauge.now) c.args.odometer
+    (at_most (g.G.Gauge.priorities c.args.gauge.now) (g.G.Gauge.readings c.args.gauge.now) c.args.odometer
     c.deref_mut.result.now.parts c.deref_mut.result.now.log c.args.budget
     (c.advance-steps.result.splits + c.advance-steps.result.merges) (g.G.Gauge.count c.args.gauge.now)
     (g.G.Gauge.count c.advance-steps.new.gauge) c.advance-steps.ensures.most)
@@ -74,21 +74,21 @@ returns-clause-stamps g c =
 
 pub returns-clause-unblocked : goal.returns-clause-unblocked
 returns-clause-unblocked g c =
-    let told = g.G.Gauge.told c.args.gauge.now in
+    let priorities = g.G.Gauge.priorities c.args.gauge.now in
     let steps = c.advance-steps.result in
-    c.frame_laws.ensures.unblocked c.args.self.now.pool.n c.args.budget told.of
+    c.frame_laws.ensures.unblocked c.args.self.now.pool.n c.args.budget priorities.of
     (among (pool_members (mesh_of c.advance-steps.new.mesh.parts c.advance-steps.new.mesh.log).pool)) steps.worst
     steps.blocked
-    (subst (λ (z : MeshState). IsFrame z.pool.n c.args.budget told.of
+    (subst (λ (z : MeshState). IsFrame z.pool.n c.args.budget priorities.of
     (among (pool_members (mesh_of c.advance-steps.new.mesh.parts c.advance-steps.new.mesh.log).pool)) steps.worst
     steps.blocked)
     (seen_behind _ _ _ c.deref_mut.ensures.value c.self.view_is) c.advance-steps.ensures.frame)
-    (subst (λ n. IsFalling n told.of) c.requires.grid c.requires.falls) c.requires.budget
+    (subst (λ n. IsFalling n priorities.of) c.requires.grid c.requires.falls) c.requires.budget
 
 pub returns-clause-spares : goal.returns-clause-spares
 returns-clause-spares g c =
-    let told = g.G.Gauge.told c.args.gauge.now in
-    spared c.args.self.now.pool.n c.args.budget told.of (pool_members c.args.self.now.pool)
+    let priorities = g.G.Gauge.priorities c.args.gauge.now in
+    spared c.args.self.now.pool.n c.args.budget priorities.of (pool_members c.args.self.now.pool)
     (pool_members (mesh_of c.advance-steps.new.mesh.parts c.advance-steps.new.mesh.log).pool)
     (split_list-closed c.args.self.now.pool.n c.args.self.now.pool.pairs c.pool-before.ensures.valid)
-    (subst (λ n. IsFalling n told.of) c.requires.grid c.requires.falls)
+    (subst (λ n. IsFalling n priorities.of) c.requires.grid c.requires.falls)

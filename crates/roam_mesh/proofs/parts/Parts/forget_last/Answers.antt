@@ -5,14 +5,14 @@ use Rattle.std.proofs.lemmas.List.{get_or_read}
 use Rattle.bintree_addr.specs.declared.slot.Slot.{Slot}
 use Rattle.roam_mesh.specs.Parts.{PartsState, parts_of, IsWhole, IsPlaced, blank, entry_at, is_entry_at, is_leaf_at}
 use Rattle.roam_mesh.specs.Parts.{is_ready_at}
-use Rattle.roam_mesh.specs.Change.{unheard, forgotten, rekeyed}
+use Rattle.roam_mesh.specs.Change.{without_priority, forgotten, rekeyed}
 use Rattle.roam_mesh.specs.contracts.parts.Parts.{the_view}
 use Rattle.roam_mesh.specs.declared.parts.Parts.TheInside.{Inside}
 use Rattle.roam_mesh.specs.declared.entry.Entry.{Entry}
 use Rattle.roam_mesh.proofs.SlotListLemmas.{numbers_last}
 use Rattle.roam_mesh.proofs.RoleLemmas.{entry_cases}
 use Rattle.roam_mesh.proofs.PlacedLemmas.{diamond_present}
-use Rattle.roam_mesh.proofs.ToldLemmas.{changed, last_below, unheard_whole}
+use Rattle.roam_mesh.proofs.ToldLemmas.{changed, last_below, without_priority_whole}
 use Rattle.roam_mesh.proofs.parts.Parts.forget_last.Goals as goal
 use Rattle.roam_mesh.proofs.parts.Parts.forget_last.Goals.{After-index-s}
 
@@ -29,13 +29,14 @@ asked_is m s some fits is =
     ∙ numbers_last m.asked.items (m.asked_count - 1) s (omega arith) is
 
 -- the parts without that one
-state : (m : Inside) (s : Slot) (e new : Entry) → e ≡ slice_index_or m.entries.items s.0 blank → new ≡ unheard e →
+state : (m : Inside) (s : Slot) (e new : Entry) → e ≡ slice_index_or m.entries.items s.0 blank
+    → new ≡ without_priority e →
     parts_of m.pool (slice_set m.entries.items s.0 new) m.split_queue m.merge_queue m.deadlines m.asked.items
     (m.asked_count - 1) m.fresh.items m.fresh_count
-    ≡ changed (the_view m) s.0 (unheard (entry_at (the_view m) s.0)) (rest_of m)
+    ≡ changed (the_view m) s.0 (without_priority (entry_at (the_view m) s.0)) (rest_of m)
 state m s e new is value =
     ap (λ (z : Entry). parts_of m.pool (slice_set m.entries.items s.0 z) m.split_queue m.merge_queue m.deadlines
-    m.asked.items (m.asked_count - 1) m.fresh.items m.fresh_count) (value ∙ ap unheard is)
+    m.asked.items (m.asked_count - 1) m.fresh.items m.fresh_count) (value ∙ ap without_priority is)
 
 -- the last one is read
 module _ (c : After-index-s) where
@@ -62,7 +63,7 @@ invariant_of-self c =
     (get_or_read c.self.inside.entries.items _ _ (below read) c.index_mut.ensures.value blank) c.forget.ensures in
     let fits : c.self.inside.asked_count - 1 ≤ length c.self.inside.asked.items =
     omega (arith, c.self.invariant.1.1) in (
-      subst IsWhole (sym is) (unheard_whole (the_view c.self.inside)
+      subst IsWhole (sym is) (without_priority_whole (the_view c.self.inside)
           (rest_of c.self.inside) c.index-s.result.now.0 c.self.invariant.0 (asked read)),
       (c.self.invariant.1.0, fits),
       c.self.invariant.2,
@@ -75,7 +76,7 @@ invariant_of-self-else-was_known c =
     (get_or_read c.self.inside.entries.items _ _ (below read) c.index_mut.ensures.value blank) c.forget.ensures in
     let fits : c.self.inside.asked_count - 1 ≤ length c.self.inside.asked.items =
     omega (arith, c.self.invariant.1.1) in (
-      subst IsWhole (sym is) (unheard_whole (the_view c.self.inside)
+      subst IsWhole (sym is) (without_priority_whole (the_view c.self.inside)
           (rest_of c.self.inside) c.index-s.result.now.0 c.self.invariant.0 (asked read)),
       (c.self.invariant.1.0, fits),
       c.self.invariant.2,
@@ -116,7 +117,8 @@ returns-then-was_known-clause-some c happened =
     let known : (entry_at (the_view c.self.inside) c.index-s.result.now.0).known ≡ true =
     sym (ap (λ (z : Entry). z.known)
     (get_or_read c.self.inside.entries.items _ _ (below read) c.index.ensures blank)) ∙ c.if-was_known.true in
-    let now : PartsState = changed (the_view c.self.inside) s (unheard (entry_at (the_view c.self.inside) s)) rest in (
+    let now : PartsState = changed (the_view c.self.inside) s
+    (without_priority (entry_at (the_view c.self.inside) s)) rest in (
       rest,
       s,
       sym (ap (λ (z : PartsState). z.asked) c.self.view_is) ∙ asked read,
@@ -135,7 +137,8 @@ returns-else-was_known-clause-some c happened =
     let unknown : (entry_at (the_view c.self.inside) c.index-s.result.now.0).known ≡ false =
     sym (ap (λ (z : Entry). z.known)
     (get_or_read c.self.inside.entries.items _ _ (below read) c.index.ensures blank)) ∙ c.if-was_known.false in
-    let now : PartsState = changed (the_view c.self.inside) s (unheard (entry_at (the_view c.self.inside) s)) rest in (
+    let now : PartsState = changed (the_view c.self.inside) s
+    (without_priority (entry_at (the_view c.self.inside) s)) rest in (
       rest,
       s,
       sym (ap (λ (z : PartsState). z.asked) c.self.view_is) ∙ asked read,

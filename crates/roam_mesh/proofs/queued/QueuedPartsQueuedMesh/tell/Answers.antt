@@ -13,8 +13,8 @@ use Rattle.roam_mesh.proofs.HeadLemmas.{settled_fresh}
 use Rattle.roam_mesh.proofs.ToldLemmas.{entry_told, told_parts, told_seen}
 use Rattle.roam_mesh.proofs.queued.QueuedPartsQueuedMesh.tell.Goals as goal
 
-pub hear-requires-clause-entry : goal.hear-requires-clause-entry
-hear-requires-clause-entry c =
+pub set_priority-requires-clause-entry : goal.set_priority-requires-clause-entry
+set_priority-requires-clause-entry c =
     let entry : IsEntry c.self.inside.parts.pool.n (among (pool_members c.self.inside.parts.pool)) c.args.rank.tri =
     subst (λ (z : PartsState). IsEntry z.pool.n (among (pool_members z.pool)) c.args.rank.tri)
     (sym (ap (λ (z : QueuedState). z.parts) c.self.view_is)) c.requires.entry in
@@ -23,16 +23,16 @@ hear-requires-clause-entry c =
     (sym (ap (λ (z : QueuedState). z.parts) c.self.view_is)) c.requires.at in
     entry_told c.self.inside.parts c.args.slot.0 c.args.rank.tri c.self.invariant entry at
 
-pub hear-requires-clause-leaf : goal.hear-requires-clause-leaf
-hear-requires-clause-leaf c leaf =
+pub set_priority-requires-clause-leaf : goal.set_priority-requires-clause-leaf
+set_priority-requires-clause-leaf c leaf =
     let none : c.self.inside.parts.fresh ≡ [] =
     ap (λ (z : PartsState). z.fresh) (ap (λ (z : QueuedState). z.parts) c.self.view_is)
     ∙ settled_fresh c.args.self.now.parts c.requires.settled in
     leaf_present c.self.inside.parts (among c.self.inside.parts.fresh) c.args.slot.0 c.self.invariant.placed leaf
     (ap (λ l. among l c.args.slot.0) none)
 
-pub hear-requires-clause-diamond : goal.hear-requires-clause-diamond
-hear-requires-clause-diamond c leaf =
+pub set_priority-requires-clause-diamond : goal.set_priority-requires-clause-diamond
+set_priority-requires-clause-diamond c leaf =
     let none : c.self.inside.parts.fresh ≡ [] =
     ap (λ (z : PartsState). z.fresh) (ap (λ (z : QueuedState). z.parts) c.self.view_is)
     ∙ settled_fresh c.args.self.now.parts c.requires.settled in
@@ -64,8 +64,8 @@ invariant_of-self c =
     let at : address_at c.self.inside.parts.pool.pairs c.args.slot.0 ≡ c.args.rank.tri =
     subst (λ (z : PartsState). address_at z.pool.pairs c.args.slot.0 ≡ c.args.rank.tri)
     (sym (ap (λ (z : QueuedState). z.parts) c.self.view_is)) c.requires.at in
-    subst IsParts (sym c.hear.ensures.told)
-    (told_parts c.self.inside.parts c.args.slot.0 c.args.rank.p c.hear.ensures.whole c.self.invariant none
+    subst IsParts (sym c.set_priority.ensures.told)
+    (told_parts c.self.inside.parts c.args.slot.0 c.args.rank.p c.set_priority.ensures.whole c.self.invariant none
     (entry_told c.self.inside.parts c.args.slot.0 c.args.rank.tri c.self.invariant entry at))
 
 pub returns-clause-told : goal.returns-clause-told
@@ -81,8 +81,9 @@ returns-clause-told c =
     (entry_told c.self.inside.parts c.args.slot.0 c.args.rank.tri c.self.invariant entry at) in
     let seen : IsRated (seen_parts c.self.inside.parts)
     (seen_parts (rated c.self.inside.parts c.args.slot.0 c.args.rank.p)) c.args.rank =
-    told_seen c.self.inside.parts c.args.slot.0 c.args.rank c.hear.ensures.whole c.self.invariant.pool live at in
-    subst (λ (z : PartsState). IsRated (seen_parts z) (seen_parts c.hear.new.self) c.args.rank)
+    told_seen c.self.inside.parts c.args.slot.0 c.args.rank c.set_priority.ensures.whole c.self.invariant.pool live at
+    in
+    subst (λ (z : PartsState). IsRated (seen_parts z) (seen_parts c.set_priority.new.self) c.args.rank)
     (ap (λ (z : QueuedState). z.parts) c.self.view_is)
     (subst (λ (z : PartsState). IsRated (seen_parts c.self.inside.parts) (seen_parts z) c.args.rank)
-    (sym c.hear.ensures.told) seen)
+    (sym c.set_priority.ensures.told) seen)

@@ -4,24 +4,24 @@ ghost use Rattle.std.specs.Prelude.{◌≡◌, ◌*◌, ◌≤◌};
 ghost use Rattle.mesh_defs.specs.declared.level.TheConstants.{GREATEST_LEVEL};
 ghost use Rattle.certificate_laws.specs.Making.{IsPossible};
 ghost use Rattle.run_words.specs.Words.{greatest_error};
-ghost use Rattle.run_laws.specs.Fit.{goal_of, tolerance_of};
-ghost use Rattle.run_words.specs.FitView.{target_seen, IsTarget};
+ghost use Rattle.run_laws.specs.Fit.{target_of, tolerance_of};
+ghost use Rattle.run_words.specs.FitView.{goal_seen, IsGoal};
 
-use certificate_laws::Target as Goal;
-use run_words::Target;
+use certificate_laws::Target;
+use run_words::Goal;
 
 /// The target of a certificate for what the words say.
-pub(crate) fn goal_in(target: Target, n: u32) -> Goal
-    requires target { IsTarget target }
+pub(crate) fn target_in(goal: Goal, n: u32) -> Target
+    requires goal { IsGoal goal }
     requires in_grid { n ≤ GREATEST_LEVEL }
-    ensures value { result ≡ goal_of n (target_seen target) }
+    ensures value { result ≡ target_of n (goal_seen goal) }
     ensures possible { IsPossible result }
 {
-    match target {
-        Target::AtError(thousandths) => Goal::Error {
+    match goal {
+        Goal::AtError(thousandths) => Target::Error {
             tolerance: tolerance(thousandths, n),
         },
-        Target::InBudget(budget) => Goal::Budget { triangles: budget },
+        Goal::InBudget(budget) => Target::Budget { triangles: budget },
     }
 }
 

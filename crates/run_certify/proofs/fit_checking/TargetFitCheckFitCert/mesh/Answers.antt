@@ -1,5 +1,5 @@
 use Rattle.std.proofs.lemmas.Result.{IfOk-weaker}
-use Rattle.run_certify.proofs.fit_checking.GoalFitCheckFitCert.mesh.Goals as goal
+use Rattle.run_certify.proofs.fit_checking.TargetFitCheckFitCert.mesh.Goals as goal
 
 pub returns-clause-mesh : goal.returns-clause-mesh
 returns-clause-mesh c =

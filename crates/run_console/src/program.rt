@@ -12,11 +12,11 @@ use roam_edge::{MeshSink, Shelf, Sink};
 use run_laws::Status;
 use std::alloc::Global;
 
-/// A run of words over a shelf of files and two sinks.
+/// What runs words over a shelf of files and two sinks.
 ///
 /// It stands here and not with `roam`, so that the console waits for no run, and the two are proved side by side. Its
 /// clauses are those of `status_of` of `roam_run`.
-pub trait Runs {
+pub trait Program {
     /// That a run of these words ended so. Who holds a run by this trait alone can show it in no other way than by a
     /// call.
     ghost ran: { Self → List (List ℕ) → Ending → Type 0 };

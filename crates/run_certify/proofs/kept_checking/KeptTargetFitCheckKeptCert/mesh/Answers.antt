@@ -1,5 +1,5 @@
 use Rattle.std.proofs.lemmas.Result.{IfOk-weaker}
-use Rattle.run_certify.proofs.kept_checking.KeptGoalFitCheckKeptCert.mesh.Goals as goal
+use Rattle.run_certify.proofs.kept_checking.KeptTargetFitCheckKeptCert.mesh.Goals as goal
 
 pub returns-clause-mesh : goal.returns-clause-mesh
 returns-clause-mesh c =

@@ -1,23 +1,23 @@
-//! Lines of a script that make no frame, carried out by an engine.
+//! Lines of a script that make no frame, applied to an engine.
 
 ghost use Rattle.std.specs.Prelude.{◌≢◌, ◌≤◌, ◌^◌};
 ghost use Rattle.view_priority.specs.Camera.{IsCamera};
 ghost use Rattle.roam_script.specs.Laws.{LiesInRange};
 ghost use Rattle.roam_script.specs.declared.limits.Limits.{Limits as LimitsSeen};
-ghost use Rattle.run_engine.specs.EngineSeen.{IsUnderLimits, IsCarriedOut};
+ghost use Rattle.run_engine.specs.EngineSeen.{IsUnderLimits, IsApplied};
 
 use frame_loop::{Camera, Engine, Plane};
 use roam_script::Line;
 
-/// Carries out a line that makes no frame, and lies in its ranges.
+/// Applies a line that makes no frame, and lies in its ranges.
 ///
 /// Cost (not proved): that of the engine's call; takes no memory.
-pub(crate) fn carry_out(engine: &mut Engine, line: Line)
+pub(crate) fn apply_line(engine: &mut Engine, line: Line)
     requires other { line ≢ Line.Frame }
     requires ranges { (limits : LimitsSeen) × IsUnderLimits engine.old limits × LiesInRange limits line }
     requires near { IsCamera engine.old.state.view.camera }
     requires far { engine.old.odometer ≤ 2 ^ 61 }
-    ensures { IsCarriedOut engine.old engine.new line }
+    ensures { IsApplied engine.old engine.new line }
 {
     match line {
         Line::Blank | Line::Frame => {}
@@ -35,7 +35,7 @@ fn move_camera(engine: &mut Engine, x: i64, y: i64, z: i64)
     requires valid { IsCamera (record { x = x; y = y; z = z }) }
     requires near { IsCamera engine.old.state.view.camera }
     requires far { engine.old.odometer ≤ 2 ^ 61 }
-    ensures { IsCarriedOut engine.old engine.new (Line.Camera x y z) }
+    ensures { IsApplied engine.old engine.new (Line.Camera x y z) }
 {
     engine.camera(Camera::new(x, y, z).unwrap());
 }

@@ -1,5 +1,5 @@
 use Rattle.std.proofs.Common.{rules}
-use Rattle.run_engine.proofs.carry.carry_out.Goals as goal
+use Rattle.run_engine.proofs.applying.apply_line.Goals as goal
 
 pub move_camera-requires-clause-valid : goal.move_camera-requires-clause-valid
 move_camera-requires-clause-valid c = search rules

@@ -5,16 +5,17 @@ use Rattle.std.proofs.lemmas.List.{get_or_read}
 use Rattle.std.specs.Vec.{with_item}
 use Rattle.bintree_addr.specs.declared.slot.Slot.{Slot}
 use Rattle.roam_mesh.specs.Parts.{PartsState, parts_of, IsWhole, blank, entry_at}
-use Rattle.roam_mesh.specs.Change.{heard, rated, rekeyed}
+use Rattle.roam_mesh.specs.Change.{with_priority, rated, rekeyed}
 use Rattle.roam_mesh.specs.contracts.parts.Parts.{the_view}
 use Rattle.roam_mesh.specs.declared.parts.Parts.TheInside.{Inside}
 use Rattle.roam_mesh.specs.declared.entry.Entry.{Entry}
 use Rattle.roam_mesh.proofs.SlotListLemmas.{distinct_room, numbers_count}
 use Rattle.roam_mesh.proofs.PlaceLemmas.{live_below}
 use Rattle.roam_mesh.proofs.RoleLemmas.{entry_live}
-use Rattle.roam_mesh.proofs.ToldLemmas.{changed, asked_with, heard_whole, heard-array, heard-again}
-use Rattle.roam_mesh.proofs.parts.Parts.hear.Goals as goal
-use Rattle.roam_mesh.proofs.parts.Parts.hear.Goals.{then-not-index, else-not-index}
+use Rattle.roam_mesh.proofs.ToldLemmas.{changed, asked_with, with_priority_whole, with_priority-array}
+use Rattle.roam_mesh.proofs.ToldLemmas.{with_priority-again}
+use Rattle.roam_mesh.proofs.parts.Parts.set_priority.Goals as goal
+use Rattle.roam_mesh.proofs.parts.Parts.set_priority.Goals.{then-not-index, else-not-index}
 
 -- the parts with another entry at a slot
 abbrev with_entry : Inside → ℕ → Entry → PartsState
@@ -24,33 +25,34 @@ with_entry m s e =
 
 -- and with a slot that was told
 abbrev with_told : Inside → ℕ → ℕ → PartsState
-with_told m s p = changed (the_view m) s (heard (entry_at (the_view m) s) p) (asked_with (the_view m) s)
+with_told m s p = changed (the_view m) s (with_priority (entry_at (the_view m) s) p) (asked_with (the_view m) s)
 
 -- the slot is listed
 first_state : (m i : Inside) (s : Slot) (p : ℕ) (e new : Entry) → m.asked_count < length m.asked.items →
     s.0 < length m.entries.items → (slice_index_or m.entries.items s.0 blank).listed ≡ false →
     i ≡ record m { asked = with_item m.asked m.asked_count s; asked_count = m.asked_count + 1 } →
-    e ≡ slice_index_or i.entries.items s.0 e → new ≡ heard e p → with_entry i s.0 new ≡ with_told m s.0 p
+    e ≡ slice_index_or i.entries.items s.0 e → new ≡ with_priority e p → with_entry i s.0 new ≡ with_told m s.0 p
 first_state m i s p e new room below unlisted is read value =
     let old : e ≡ slice_index_or m.entries.items s.0 blank = get_or_read m.entries.items s.0 e below
     (subst (λ (z : Inside). e ≡ slice_index_or z.entries.items s.0 e) is read) blank in
     ap (λ (z : Inside). with_entry z s.0 new) is
     ∙ ap (λ (z : Entry). parts_of m.pool (slice_set m.entries.items s.0 z) m.split_queue m.merge_queue m.deadlines
     (slice_set m.asked.items m.asked_count s) (m.asked_count + 1) m.fresh.items m.fresh_count) value
-    ∙ heard-array m.pool m.entries.items m.split_queue m.merge_queue m.deadlines m.asked.items m.asked_count
+    ∙ with_priority-array m.pool m.entries.items m.split_queue m.merge_queue m.deadlines m.asked.items m.asked_count
     m.fresh.items m.fresh_count s e p room old (ap (λ (z : Entry). z.listed) old ∙ unlisted)
 
 -- it was listed before
 again_state : (m i : Inside) (s : Slot) (p : ℕ) (e new : Entry) → s.0 < length m.entries.items →
     (slice_index_or m.entries.items s.0 blank).listed ≡ true →
-    i ≡ m → e ≡ slice_index_or i.entries.items s.0 e → new ≡ heard e p → with_entry i s.0 new ≡ with_told m s.0 p
+    i ≡ m → e ≡ slice_index_or i.entries.items s.0 e → new ≡ with_priority e p
+    → with_entry i s.0 new ≡ with_told m s.0 p
 again_state m i s p e new below listed is read value =
     let old : e ≡ slice_index_or m.entries.items s.0 blank = get_or_read m.entries.items s.0 e below
     (subst (λ (z : Inside). e ≡ slice_index_or z.entries.items s.0 e) is read) blank in
     ap (λ (z : Inside). with_entry z s.0 new) is
     ∙ ap (λ (z : Entry). parts_of m.pool (slice_set m.entries.items s.0 z) m.split_queue m.merge_queue m.deadlines
     m.asked.items m.asked_count m.fresh.items m.fresh_count) value
-    ∙ heard-again m.pool m.entries.items m.split_queue m.merge_queue m.deadlines m.asked.items m.asked_count
+    ∙ with_priority-again m.pool m.entries.items m.split_queue m.merge_queue m.deadlines m.asked.items m.asked_count
     m.fresh.items m.fresh_count s e p old (ap (λ (z : Entry). z.listed) old ∙ listed)
 
 -- the sizes of the two arrays
@@ -88,7 +90,7 @@ invariant_of-self c =
     let read : c.index.result.now ≡ slice_index_or c.self.inside.entries.items c.args.s.0 blank =
     get_or_read c.self.inside.entries.items _ _ below c.index.ensures blank in
     let after : IsWhole (with_told c.self.inside c.args.s.0 c.args.p) =
-    heard_whole (the_view c.self.inside) c.args.s.0 c.args.p c.self.invariant.0 below in
+    with_priority_whole (the_view c.self.inside) c.args.s.0 c.args.p c.self.invariant.0 below in
     elim c.if-not-index.branch [
       | then-not-index w ↦
           let new : (slice_index_or c.self.inside.entries.items c.args.s.0 blank).listed ≡ false =
@@ -99,7 +101,7 @@ invariant_of-self c =
           let free : c.self.inside.asked_count < length c.self.inside.asked.items =
           omega (arith, c.self.invariant.1.0) in
           let state = first_state c.self.inside c.if-not-index.self-inside c.args.s c.args.p c.index_mut-2.result.now
-          c.hear.new.self free below new w.self-inside-is c.index_mut-2.ensures.value c.hear.ensures in
+          c.set_priority.new.self free below new w.self-inside-is c.index_mut-2.ensures.value c.set_priority.ensures in
           let long = length-set c.self.inside.asked.items c.self.inside.asked_count c.args.s in
           let sizes : AreSizes c.if-not-index.self-inside =
           subst AreSizes (sym w.self-inside-is) ((long ∙ c.self.invariant.1.0, omega arith), c.self.invariant.2) in
@@ -108,7 +110,7 @@ invariant_of-self c =
           let old : (slice_index_or c.self.inside.entries.items c.args.s.0 blank).listed ≡ true =
           sym (ap (λ (e : Entry). e.listed) read) ∙ w.if-not-index.false in
           let state = again_state c.self.inside c.if-not-index.self-inside c.args.s c.args.p c.index_mut-2.result.now
-          c.hear.new.self below old w.self-inside-is c.index_mut-2.ensures.value c.hear.ensures in
+          c.set_priority.new.self below old w.self-inside-is c.index_mut-2.ensures.value c.set_priority.ensures in
           let sizes : AreSizes c.if-not-index.self-inside =
           subst AreSizes (sym w.self-inside-is) (c.self.invariant.1, c.self.invariant.2) in
           (subst IsWhole (sym state) after, sizes.0, sizes.1)
@@ -125,7 +127,7 @@ returns-clause-told c =
     let below : c.args.s.0 < length c.self.inside.entries.items = omega arith in
     let read : c.index.result.now ≡ slice_index_or c.self.inside.entries.items c.args.s.0 blank =
     get_or_read c.self.inside.entries.items _ _ below c.index.ensures blank in
-    let state : with_entry c.if-not-index.self-inside c.args.s.0 c.hear.new.self
+    let state : with_entry c.if-not-index.self-inside c.args.s.0 c.set_priority.new.self
     ≡ with_told c.self.inside c.args.s.0 c.args.p = elim c.if-not-index.branch [
       | then-not-index w ↦
           let new : (slice_index_or c.self.inside.entries.items c.args.s.0 blank).listed ≡ false =
@@ -136,12 +138,12 @@ returns-clause-told c =
           let free : c.self.inside.asked_count < length c.self.inside.asked.items =
           omega (arith, c.self.invariant.1.0) in
           first_state c.self.inside c.if-not-index.self-inside c.args.s c.args.p c.index_mut-2.result.now
-          c.hear.new.self free below new w.self-inside-is c.index_mut-2.ensures.value c.hear.ensures
+          c.set_priority.new.self free below new w.self-inside-is c.index_mut-2.ensures.value c.set_priority.ensures
       | else-not-index w ↦
           let old : (slice_index_or c.self.inside.entries.items c.args.s.0 blank).listed ≡ true =
           sym (ap (λ (e : Entry). e.listed) read) ∙ w.if-not-index.false in
           again_state c.self.inside c.if-not-index.self-inside c.args.s c.args.p c.index_mut-2.result.now
-          c.hear.new.self below old w.self-inside-is c.index_mut-2.ensures.value c.hear.ensures
+          c.set_priority.new.self below old w.self-inside-is c.index_mut-2.ensures.value c.set_priority.ensures
     ] in
     c.rekey.ensures ∙ ap (λ (z : PartsState). rekeyed z c.args.s.0) state
     ∙ ap (λ (z : PartsState). rated z c.args.s.0 c.args.p) c.self.view_is

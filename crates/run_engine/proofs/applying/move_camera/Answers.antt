@@ -1,7 +1,7 @@
 use Rattle.std.proofs.Common.{rules, arith}
 use Rattle.std.proofs.lemmas.Grind.{common_steps}
 use Rattle.run_engine.proofs.CameraLemmas.{way-short}
-use Rattle.run_engine.proofs.carry.move_camera.Goals as goal
+use Rattle.run_engine.proofs.applying.move_camera.Goals as goal
 
 pub new-requires : goal.new-requires
 new-requires c = search rules
