@@ -1,7 +1,7 @@
 -- What each call of a heap gets ready for `place`, and what holds of the heap afterwards.
 use Rattle.std.proofs.Common.{◌≡◌, ◌≢◌, ℕ, ◌+◌, ◌^◌, ◌<◌, ◌≤◌, true, List, [], ◌∷◌, ◌++◌, length, get_or, set, take}
 use Rattle.std.proofs.Common.{replicate, cond, Option, Some, None, is_some, count_by, slice_get, Bool, eqb, Vec, refl}
-use Rattle.std.proofs.Common.{sym, ap, ◌∙◌, subst, arith, length-append}
+use Rattle.std.proofs.Common.{sym, ap, ◌∙◌, subst, ⊎_elim, arith, length-append}
 use Rattle.std.specs.Cmp.{IsTotalOrder}
 use Rattle.std.specs.Vec.{with_items}
 use Rattle.std.specs.Ordering.{is_lt}
@@ -11,7 +11,7 @@ use Rattle.std.proofs.lemmas.List.{get_or-set_other, get_or_append_left, get_or-
 use Rattle.std.proofs.lemmas.List.{with_items_is}
 use Rattle.std.proofs.lemmas.List.Folds.{sum_by-replicate}
 use Rattle.std.proofs.lemmas.Bool.{false≢true}
-use Rattle.std.proofs.lemmas.Option.{slice_get_past, slice_get_read}
+use Rattle.std.proofs.lemmas.Option.{none-some, slice_get_cases, slice_get_within, get_or_from_slice_get}
 use Rattle.bintree_addr.specs.declared.slot.Slot.{Slot}
 use Rattle.slot_heap.specs.declared.entry.Entry.{Entry}
 use Rattle.slot_heap.specs.Keys.{key_of, IsLeastKey}
@@ -88,28 +88,29 @@ module _ {K : Type 0} {cmp : K → K → Ordering} (o : IsTotalOrder cmp) where
     slots = ap length (sym view) ∙ length-keys_of xs ps
 
     -- the least key is the first entry's
-    pub IsLeastKey-first : (x : Entry K) → 0 < length xs → x ≡ get_or xs 0 x → IsLeastKey cmp t x.slot x.key
-    IsLeastKey-first x some e = (
-      ap (λ s. get_or s x.slot.0 None) (sym view) ∙ subst (λ z. get_or (keys_of xs ps) z.slot.0 None ≡ Some z.key)
-          (sym e) (keys_of-present xs ps sound.linked 0 x some),
-      λ other it f.
-          let found = IsFound-from_key xs ps other.0 it (ap (λ s. get_or s other.0 None) view ∙ f) in
-          let at = get_or ps other.0 0 in
-          ap is_lt (o.antisymm it x.key)
-          ∙ not_less_back (cmp x.key it) (IsUpTo-along o _ _ _ _ (ap (λ z. z.key) e) (sym (found.has x))
-          (IsUpTo-first o xs x sound.order at at (omega arith) found.inside)),
-    )
+    pub IsLeastKey-first : (x : Entry K) → Some x ≡ slice_get xs 0 → IsLeastKey cmp t x.slot x.key
+    IsLeastKey-first x first = let some = slice_get_within xs 0 x (sym first) in
+        let e = sym (get_or_from_slice_get xs 0 x x (sym first)) in (
+          ap (λ s. get_or s x.slot.0 None) (sym view) ∙ subst (λ z. get_or (keys_of xs ps) z.slot.0 None ≡ Some z.key)
+              (sym e) (keys_of-present xs ps sound.linked 0 x some),
+          λ other it f.
+              let found = IsFound-from_key xs ps other.0 it (ap (λ s. get_or s other.0 None) view ∙ f) in
+              let at = get_or ps other.0 0 in
+              ap is_lt (o.antisymm it x.key)
+              ∙ not_less_back (cmp x.key it) (IsUpTo-along o _ _ _ _ (ap (λ z. z.key) e) (sym (found.has x))
+              (IsUpTo-first o xs x sound.order at at (omega arith) found.inside)),
+        )
 
-    -- no slot has a key where there is no entry
-    pub key_of-empty : (slot : Slot) → length xs ≡ 0 → key_of t slot ≡ None
+    -- no slot has a key where there is no first entry
+    pub key_of-empty : (slot : Slot) → None ≡ slice_get xs 0 → key_of t slot ≡ None
     key_of-empty slot none = none_at (key_of t slot) refl
       where
         none_at : (k : Option K) → key_of t slot ≡ k → k ≡ None
         none_at None e = refl
         none_at (Some k) e =
             let found = IsFound-from_key xs ps slot.0 k (ap (λ s. get_or s slot.0 None) view ∙ e) in
-            let inside = found.inside in
-            absurd (omega arith)
+            absurd (⊎_elim (λ p. none-some p.0 (none ∙ p.2)) (λ p. omega (arith, p.0, found.inside))
+            (slice_get_cases xs 0).1)
 
     -- a slot past the last has no key
     pub key_of-past : (slot : Slot) → length ps ≤ slot.0 → key_of t slot ≡ None
@@ -121,15 +122,14 @@ module _ {K : Type 0} {cmp : K → K → Ordering} (o : IsTotalOrder cmp) where
       key_of-read = ap (λ s. get_or s slot.0 None) (sym view) ∙ get_or-keys_of xs ps slot.0 None low
           ∙ ap (λ j. key_in slot.0 (slice_get xs j)) (sym (get_or_read ps slot.0 p low is_p 0))
 
-      -- there is none where the place is past the entries
-      pub key_of-no_entry : length xs ≤ p → key_of t slot ≡ None
-      key_of-no_entry h = key_of-read ∙ ap (key_in slot.0) (slice_get_past xs p h)
+      -- there is none where no entry stands there
+      pub key_of-no_entry : None ≡ slice_get xs p → key_of t slot ≡ None
+      key_of-no_entry e = key_of-read ∙ ap (key_in slot.0) (sym e)
 
       -- it is that of the entry there, if that is of the slot
-      pub key_of-entry : (x : Entry K) (b : Bool) → p < length xs → x ≡ get_or xs p x → b ≡ eqb x.slot.0 slot.0 →
+      pub key_of-entry : (x : Entry K) (b : Bool) → Some x ≡ slice_get xs p → b ≡ eqb x.slot.0 slot.0 →
           key_of t slot ≡ cond b (Some x.key) None
-      key_of-entry x b h is_x e = key_of-read ∙ ap (key_in slot.0) (slice_get_read xs (length xs) p x refl h is_x)
-          ∙ ap (λ v. cond v (Some x.key) None) (sym e)
+      key_of-entry x b is_x e = key_of-read ∙ ap (key_in slot.0) (sym is_x) ∙ ap (λ v. cond v (Some x.key) None) (sym e)
 
   -- an entry x that is held at a place of es may be placed, and the keys are then u
   pub record IsHeld (es : List (Entry K)) (ps : List ℕ) (at : ℕ) (x : Entry K) (u : List (Option K)) : Type 0 where
@@ -208,19 +208,19 @@ module _ {K : Type 0} {cmp : K → K → Ordering} (o : IsTotalOrder cmp) where
 
     -- an entry is held in the place of the one of its slot
     pub IsHeld-replace : (x : Entry K) (k : K) → get_or (keys_of xs ps) x.slot.0 None ≡ Some k →
-        IsFound xs ps x.slot.0 k → (at : ℕ) → at ≡ get_or ps x.slot.0 0 → (es : List (Entry K)) → es ≡ xs →
-        IsHeld es ps at x (set (keys_of xs ps) x.slot.0 (Some x.key))
-    IsHeld-replace x k has found at is_at es e =
+        IsFound xs ps x.slot.0 k → (at : ℕ) → at ≡ get_or ps x.slot.0 0 →
+        IsHeld xs ps at x (set (keys_of xs ps) x.slot.0 (Some x.key))
+    IsHeld-replace x k has found at is_at =
         let inside : at < length xs = omega (arith, found.inside) in
         let own : (d : Entry K) → slot_at xs at d ≡ x.slot.0 = λ d. ap (λ j. slot_at xs j d) is_at ∙ found.own d in
-        rw e (record {
+        record {
           linked = HasPlaces-set xs ps sound.linked x at found.in_places
               (λ i d h u e. slot_at-distinct xs ps sound.linked i at d h inside u (e ∙ sym (own d))) inside;
           order = IsHeapButAt-set xs x at inside sound.order;
           keys = keys_of-set xs ps sound.linked x at inside own;
           count = count_same (keys_of xs ps) x.slot.0 x.key k (omega (arith, found.in_places, slots_long)) has
               ∙ sound.count;
-        })
+        }
 
     -- the entry of a slot is removed, from the place at of m + 1
     module _ (s : ℕ) (k : K) (has : get_or (keys_of xs ps) s None ≡ Some k) (found : IsFound xs ps s k) (at m : ℕ)
@@ -254,9 +254,9 @@ module _ {K : Type 0} {cmp : K → K → Ordering} (o : IsTotalOrder cmp) where
       }
 
       -- else the last, x, is held in its place
-      pub IsHeld-remove : (x : Entry K) → ((d : Entry K) → get_or xs m d ≡ x) → at < m → (zs : List (Entry K)) →
-          zs ≡ es → IsHeld zs ps at x (set (keys_of xs ps) s None)
-      IsHeld-remove x is_x h zs e = rw (e, rest) (record {
+      pub IsHeld-remove : (x : Entry K) → ((d : Entry K) → get_or xs m d ≡ x) → at < m →
+          IsHeld es ps at x (set (keys_of xs ps) s None)
+      IsHeld-remove x is_x h = rw rest (record {
         linked = HasPlaces-remove xs ps sound.linked x at m long h is_x;
         order = IsHeapButAt-set (take m xs) x at (omega (arith, length-take-le m xs (omega arith)))
             (IsHeap-take xs m (omega arith) sound.order);
@@ -264,17 +264,17 @@ module _ {K : Type 0} {cmp : K → K → Ordering} (o : IsTotalOrder cmp) where
         count = fewer ∙ ap length rest;
       })
 
-  -- after `place` the vectors that were lent are a heap again, with the keys u
+  -- after `place` the entries and the vector that was lent are a heap again, with the keys u
   module _ {es : List (Entry K)} {ps : List ℕ} {at : ℕ} {x : Entry K} {u : List (Option K)}
       (held : IsHeld es ps at x u) where
-    module _ {A : Type 0} (v : Vec (Entry K) A) (w : Vec ℕ A) (ys : List (Entry K)) (qs : List ℕ) (long : length ys
-        ≡ v.len) (same : length qs ≡ w.len) (placed : HasKeysOf (set es at x) (set ps x.slot.0 at) ys qs) where
-      pub keys_of-placed : keys_of (with_items v ys).items (with_items w qs).items ≡ u
-      keys_of-placed = rw (with_items_is v ys long, with_items_is w qs same) (placed ∙ held.keys)
+    module _ {A : Type 0} (w : Vec ℕ A) (ys : List (Entry K)) (qs : List ℕ) (same : length qs ≡ w.len)
+        (placed : HasKeysOf (set es at x) (set ps x.slot.0 at) ys qs) where
+      pub keys_of-placed : keys_of ys (with_items w qs).items ≡ u
+      keys_of-placed = rw (with_items_is w qs same) (placed ∙ held.keys)
 
       pub IsSound-placed : (c : ℕ) → HasPlaces ys qs → IsHeap cmp ys → length ys ≡ length es → c ≡ length qs →
-          length qs < 2 ^ 32 → IsSoundHeap cmp (with_items v ys).items (with_items w qs).items c
-      IsSound-placed c linked order n room few = rw (with_items_is v ys long, with_items_is w qs same) (record {
+          length qs < 2 ^ 32 → IsSoundHeap cmp ys (with_items w qs).items c
+      IsSound-placed c linked order n room few = rw (with_items_is w qs same) (record {
         linked = linked;
         order = order;
         count = ap (count_by is_some) (placed ∙ held.keys) ∙ held.count ∙ sym n;
