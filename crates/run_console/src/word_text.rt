@@ -55,8 +55,7 @@ fn write_wrong<W: fmt::Write>(
             write_choice(f, tasks())?;
             write!(f, " behind it, and not {word}")
         }
-        Wanted::Goal => write_goal(f, word, words),
-        Wanted::Keep => write_keep(f, word, words),
+        Wanted::Goal | Wanted::Keep => write_fitting(f, wanted, word, words),
         _ => {
             write!(f, "{} is {word}: ", label(wanted))?;
             write_wanted(f, wanted)?;
@@ -80,31 +79,23 @@ fn write_choice<W: fmt::Write>(f: &mut fmt::Formatter<W>, rows: &[Row]) -> fmt::
     Ok(())
 }
 
-/// Writes what is wanted in the place of this word: what a mesh is fitted to.
-fn write_goal<W: fmt::Write>(
+/// Writes what is wanted in the place of this word: what a mesh is fitted to, or points that are kept and nothing else.
+fn write_fitting<W: fmt::Write>(
     f: &mut fmt::Formatter<W>,
+    wanted: Wanted,
     word: Quoted<'_>,
     words: &[String],
 ) -> fmt::Result {
     if let Some(form) = form_of(words) {
         write_name(f, &form)?;
         f.write_str(" wants ")?;
-        write_choice(f, goals())?;
-        f.write_str(" behind")?;
-        write_labels(f, form.behind)?;
-    }
-    write!(f, ", and not {word}")
-}
-
-/// Writes what is wanted in the place of this word: points that are kept, or nothing.
-fn write_keep<W: fmt::Write>(
-    f: &mut fmt::Formatter<W>,
-    word: Quoted<'_>,
-    words: &[String],
-) -> fmt::Result {
-    if let Some(form) = form_of(words) {
-        write_name(f, &form)?;
-        f.write_str(" wants 'keep' and POINTS behind SPACING, or nothing")?;
+        if wanted == Wanted::Goal {
+            write_choice(f, goals())?;
+            f.write_str(" behind")?;
+            write_labels(f, form.behind)?;
+        } else {
+            f.write_str("'keep' and POINTS behind SPACING, or nothing")?;
+        }
     }
     write!(f, ", and not {word}")
 }

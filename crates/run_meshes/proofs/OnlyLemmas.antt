@@ -12,7 +12,7 @@ use Rattle.run_laws.specs.Moment.{Moment, OnlyReads, OnlyWrites}
 use Rattle.run_laws.specs.Leaving.{LeavesByScript}
 use Rattle.run_meshes.specs.declared.script.Stop.{Stop}
 use Rattle.run_meshes.specs.declared.script.Stop.TheVariants.{Refused, Failed}
-use Rattle.run_meshes.specs.Taking.{status_for, StopsHaveCause, OnlyTakes, OnlyEnds, GoesOn}
+use Rattle.run_meshes.specs.Taking.{status_for, NotFailed, StopsHaveCause, OnlyTakes, OnlyEnds, GoesOn}
 
 abbrev taken : Result (Unit {0}) Stop
 taken = Ok tt
@@ -68,39 +68,34 @@ module _ {T E : Type 0} (before now : Moment) where
     report_in_time = did.report_in_time;
   }
 
--- a script ended with its bytes
-pub ends-taken : (before now : Moment) → OnlyTakes before now taken → OnlyEnds before now ends.Done
-ends-taken before now takes = record {
+-- a script ended where bytes were taken, by what the status says of a failed write
+ends-by : (before now : Moment) (answer : Result (Unit {0}) Stop) (status : Status) → OnlyTakes before now answer
+    → (status ≢ ends.WriteFault → NotFailed answer) → (status ≡ ends.WriteFault → answer ≡ stopped Failed) →
+    OnlyEnds before now status
+ends-by before now answer status takes not_failed failed = record {
   shelf = takes.shelf;
   shelf_faults = takes.shelf_faults;
   shelf_late = takes.shelf_late;
-  idle = λ not. takes.idle (λ e. cc);
-  faults = record { write = λ e. cc; not_write = λ not. takes.faults.others (λ e. cc) };
+  idle = λ not. takes.idle (not_failed not);
+  faults = record {
+    write = λ is. takes.faults.failed (failed is);
+    not_write = λ not. takes.faults.others (not_failed not);
+  };
   meshes_in_time = takes.meshes_in_time;
   report_in_time = takes.report_in_time;
 }
 
+-- with its bytes
+pub ends-taken : (before now : Moment) → OnlyTakes before now taken → OnlyEnds before now ends.Done
+ends-taken before now takes = ends-by before now taken ends.Done takes (λ not e. cc) (λ e. cc)
+
 -- or with a stop
 pub ends-stopped : (before now : Moment) (stop : Stop) → OnlyTakes before now (stopped stop) →
     OnlyEnds before now (status_for stop)
-ends-stopped before now Refused takes = record {
-  shelf = takes.shelf;
-  shelf_faults = takes.shelf_faults;
-  shelf_late = takes.shelf_late;
-  idle = λ not. takes.idle (λ e. cc);
-  faults = record { write = λ e. cc; not_write = λ not. takes.faults.others (λ e. cc) };
-  meshes_in_time = takes.meshes_in_time;
-  report_in_time = takes.report_in_time;
-}
-ends-stopped before now Failed takes = record {
-  shelf = takes.shelf;
-  shelf_faults = takes.shelf_faults;
-  shelf_late = takes.shelf_late;
-  idle = λ not. absurd (not refl);
-  faults = record { write = λ e. takes.faults.failed refl; not_write = λ not. absurd (not refl) };
-  meshes_in_time = takes.meshes_in_time;
-  report_in_time = takes.report_in_time;
-}
+ends-stopped before now Refused takes =
+    ends-by before now (stopped Refused) ends.ScriptRefused takes (λ not e. cc) (λ e. cc)
+ends-stopped before now Failed takes =
+    ends-by before now (stopped Failed) ends.WriteFault takes (λ not. absurd (not refl)) (λ e. refl)
 
 none-failed : (before now : Sinks) → now ≡ before →
     NoFault before.mesh_faults now.mesh_faults before.report_faults now.report_faults

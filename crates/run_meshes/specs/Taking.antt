@@ -1,6 +1,6 @@
 -- What the calls do that carry a script out, by their answers.
--- Words: status_for, NotFailed, StopsHaveCause, OnlyTakes, OnlyEnds, GoesOn, IsRefused, TakesBytes.
-use Rattle.std.specs.Prelude.{◌≡◌, ◌≢◌, ℕ, List, Result, Err, OnOk}
+-- Words: status_for, NotFailed, StopsHaveCause, OnlyTakes, OnlyEnds, GoesOn, IsRefused, TakesBytes, TakesMore.
+use Rattle.std.specs.Prelude.{◌≡◌, ◌≢◌, ℕ, List, ◌++◌, Result, Err, OnOk}
 use Rattle.roam_edge.specs.Fault.{IsInTime, next_count}
 use Rattle.run_laws.specs.declared.status.Status.{Status}
 use Rattle.run_laws.specs.declared.status.Status.TheVariants as ends
@@ -12,6 +12,7 @@ use Rattle.run_laws.specs.Moment.{Moment}
 use Rattle.run_laws.specs.Picture.{Picture}
 use Rattle.run_laws.specs.Outcome.{engine_for}
 use Rattle.run_laws.specs.Step.{Refuses, Cuts}
+use Rattle.run_laws.specs.Maker.{Starts}
 use Rattle.run_meshes.specs.declared.script.Stop.{Stop}
 use Rattle.run_meshes.specs.declared.script.Stop.TheVariants.{Refused, Failed}
 use Rattle.run_meshes.specs.declared.stage.Stage.{Stage}
@@ -79,3 +80,12 @@ pub record TakesBytes {T : Type 0} (before now : Sinks) (show : Show) (follows :
   pub ok : OnOk answer (IsScriptAt before now show follows start read stage)
   pub refused : answer ≡ Err Refused → IsRefused before now show follows start read
   pub failed : answer ≡ Err Failed → Cuts before now show 2 start read
+
+-- the same of these bytes behind any others, by what the sinks told, what makes the frames had followed, and the stage
+-- was, before them and after
+abbrev pub TakesMore : {T : Type 0} → List ℕ → Sinks → Sinks → (Show → Walk → List Picture → Type 0)
+    → (Show → Walk → List Picture → Type 0) → Stage → Stage → Result T Stop → Type 0
+TakesMore bytes old new followed follows held stage answer =
+    (before : Sinks) (show : Show) (start : Walk) (read : List ℕ) → Starts start
+    → IsScriptAt before old show followed start read held
+    → TakesBytes before new show follows start (read ++ bytes) stage answer

@@ -1,6 +1,6 @@
 //! A script, carried out as its bytes come.
 
-ghost use Rattle.std.specs.Prelude.{◌≡◌, ◌≢◌, ◌+◌, ◌*◌, ◌≤◌, ◌⊎◌, ℕ, List, ◌∷◌, [], ◌++◌, Some, Err, false, length};
+ghost use Rattle.std.specs.Prelude.{◌≡◌, ◌≢◌, ◌+◌, ◌*◌, ◌≤◌, ◌⊎◌, ℕ, List, ◌∷◌, [], Some, Err, false, length};
 ghost use Rattle.std.specs.Prelude.{OnOk};
 ghost use Rattle.roam_edge.specs.Shelf.{NamedFile, bytes_of};
 ghost use Rattle.run_laws.specs.Walk.{Walk};
@@ -12,7 +12,7 @@ ghost use Rattle.run_laws.specs.ReportText.{line_refusal};
 ghost use Rattle.run_meshes.specs.StageView.{IsScriptStage, IsScriptAt};
 ghost use Rattle.run_laws.specs.Maker.{Starts, Begins, refusal, IsScriptEnd, EndsScript, ScriptHasCome};
 ghost use Rattle.run_laws.specs.FileStop.{StopsReading};
-ghost use Rattle.run_meshes.specs.Taking.{OnlyTakes, OnlyEnds, TakesBytes, status_for};
+ghost use Rattle.run_meshes.specs.Taking.{OnlyTakes, OnlyEnds, TakesMore, status_for};
 
 use crate::stage::Stage;
 use roam_edge::Failed;
@@ -47,12 +47,8 @@ fn take_line<K: FrameMaker, O: Outside>(
     requires idle { (O.moment outside.old).under_way ≡ false }
     requires ready { K.is_ready frames.old stage.old.lines }
     requires stage { IsScriptStage stage.old }
-    ensures outcome { (before : Sinks) (show : Show) (start : Walk) (read : List ℕ) → Starts start →
-        IsScriptAt before (O.moment outside.old).sinks
-        show (K.follows frames.old) start read stage.old →
-        TakesBytes before (O.moment outside.new).sinks
-        show (K.follows frames.new) start
-        (read ++ 10 ∷ []) stage.new result }
+    ensures outcome { TakesMore (10 ∷ []) (O.moment outside.old).sinks (O.moment outside.new).sinks
+        (K.follows frames.old) (K.follows frames.new) stage.old stage.new result }
     ensures ready { OnOk result (K.is_ready frames.new stage.new.lines) }
     ensures stage { OnOk result (IsScriptStage stage.new) }
     ensures lines { OnOk result (stage.new.lines ≡ stage.old.lines + 1) }
@@ -93,12 +89,8 @@ fn take_byte<K: FrameMaker, O: Outside>(
     requires idle { (O.moment outside.old).under_way ≡ false }
     requires ready { K.is_ready frames.old stage.old.lines }
     requires stage { IsScriptStage stage.old }
-    ensures outcome { (before : Sinks) (show : Show) (start : Walk) (read : List ℕ) → Starts start →
-        IsScriptAt before (O.moment outside.old).sinks
-        show (K.follows frames.old) start read stage.old →
-        TakesBytes before (O.moment outside.new).sinks
-        show (K.follows frames.new) start
-        (read ++ byte ∷ []) stage.new result }
+    ensures outcome { TakesMore (byte ∷ []) (O.moment outside.old).sinks (O.moment outside.new).sinks
+        (K.follows frames.old) (K.follows frames.new) stage.old stage.new result }
     ensures ready { OnOk result (K.is_ready frames.new stage.new.lines) }
     ensures stage { OnOk result (IsScriptStage stage.new) }
     ensures longer { OnOk result (201 * stage.old.lines + length stage.old.part.items + 1
@@ -131,12 +123,8 @@ fn take_piece<K: FrameMaker, O: Outside>(
     requires idle { (O.moment outside.old).under_way ≡ false }
     requires ready { K.is_ready frames.old stage.old.lines }
     requires stage { IsScriptStage stage.old }
-    ensures outcome { (before : Sinks) (show : Show) (start : Walk) (read : List ℕ) → Starts start →
-        IsScriptAt before (O.moment outside.old).sinks
-        show (K.follows frames.old) start read stage.old →
-        TakesBytes before (O.moment outside.new).sinks
-        show (K.follows frames.new) start
-        (read ++ piece.now) stage.new result }
+    ensures outcome { TakesMore piece.now (O.moment outside.old).sinks (O.moment outside.new).sinks
+        (K.follows frames.old) (K.follows frames.new) stage.old stage.new result }
     ensures ready { OnOk result (K.is_ready frames.new stage.new.lines) }
     ensures stage { OnOk result (IsScriptStage stage.new) }
     ensures longer { OnOk result (201 * stage.old.lines + length stage.old.part.items + length piece.now
