@@ -2,7 +2,7 @@
 use Rattle.std.proofs.Common.{◌≡◌, ℕ, ◌*◌, ◌≤◌, List, All, [], ◌∷◌, ◌++◌, refl, sym, ◌∙◌, ap, subst, length, codes}
 use Rattle.std.proofs.Common.{decimal}
 use Rattle.mesh_defs.specs.State.{State, text_in}
-use Rattle.run_laws.specs.Picture.{triangles_of, mark_count}
+use Rattle.run_laws.specs.Picture.{mark_count}
 use Rattle.run_laws.specs.ReportText.{frame_line, blocked_text, marks_text}
 use Rattle.mesh_defs.specs.HeightField.{HeightField}
 use Rattle.mesh_defs.specs.Triangle.{level_of}
@@ -40,19 +40,18 @@ view-valid view {grid} same levels numbers low high = record {
   spacing_high = high;
 }
 
--- the text that is written is that of the picture
-pub mesh-text : (engine : EngineState) (note : FrameNote) (view : MeshView) → view.wedges.now ≡ engine.state.grid →
+-- the text that is written of these triangles of an engine is theirs in its state
+pub view-text : (engine : EngineState) (view : MeshView) (triangles : List ℕ) → view.wedges.now ≡ engine.state.grid →
     view.planes.now ≡ engine.state.view.planes
-    → view.spacing ≡ engine.state.view.spacing → view.leaves.now ≡ mesh_seen engine →
-    view_text view ≡ text_in engine.state (triangles_of (picture_seen engine note))
-mesh-text engine note view grid planes spacing leaves =
+    → view.spacing ≡ engine.state.view.spacing → view.leaves.now ≡ triangles →
+    view_text view ≡ text_in engine.state triangles
+view-text engine view triangles grid planes spacing leaves =
     ap (λ (g : HeightField). mesh_text g.n g.heights view.spacing view.planes.now view.leaves.now) grid
     ∙ (ap (λ (l : List ViewPlane).
     mesh_text engine.state.grid.n engine.state.grid.heights view.spacing l view.leaves.now) planes
     ∙ (ap (λ (k : ℕ).
     mesh_text engine.state.grid.n engine.state.grid.heights k engine.state.view.planes view.leaves.now) spacing
-    ∙ ap (λ (l : List ℕ). mesh_text engine.state.grid.n engine.state.grid.heights engine.state.view.spacing
-    engine.state.view.planes l) leaves))
+    ∙ ap (text_in engine.state) leaves))
 
 -- the marks of a note are those of the mesh
 note-marks : (engine : EngineState) (note : FrameNote) (planes : List ViewPlane) → IsNoted engine note

@@ -1,40 +1,19 @@
 -- Frames as strips and as measures: what is written is what the picture says.
-use Rattle.std.proofs.Common.{◌≡◌, ℕ, List, length, Result, sym, ◌∙◌, ap, subst}
-use Rattle.mesh_defs.specs.HeightField.{HeightField}
-use Rattle.mesh_defs.specs.View.{ViewPlane}
-use Rattle.mesh_defs.specs.State.{text_in}
+use Rattle.std.proofs.Common.{◌≡◌, ℕ, List, length, Result, sym, ap, subst}
 use Rattle.mesh_defs.specs.ClosedSet.{among}
-use Rattle.mesh_defs.specs.MeshText.{mesh_text}
-use Rattle.obj_write.specs.declared.mesh.MeshView.{MeshView}
-use Rattle.obj_write.specs.MeshView.{view_text}
 use Rattle.mesh_laws.specs.Strip.{strip_of}
 use Rattle.roam_mesh.specs.Mesh.{pool_members}
 use Rattle.frame_loop.specs.Engine.{EngineState}
 use Rattle.frame_loop.specs.declared.note.FrameNote.{FrameNote}
 use Rattle.run_laws.specs.Turns.{left_turns, right_turns}
 use Rattle.run_laws.specs.Moment.{Moment, Does}
-use Rattle.run_laws.specs.Picture.{Picture, strip_triangles}
+use Rattle.run_laws.specs.Picture.{Picture}
 use Rattle.run_laws.specs.Outcome.{picture_acts}
 use Rattle.run_laws.specs.ReportText.{strip_line}
 use Rattle.run_words.specs.declared.showing.Showing.{Showing}
 use Rattle.run_words.specs.ShowView.{show_seen}
 use Rattle.run_engine.specs.NoteSeen.{picture_seen}
 use Rattle.run_engine.specs.ShowView.{strip_numbers}
-
--- the text of an engine's mesh in the order of its strip is that of the picture
-pub strip-text : (engine : EngineState) (note : FrameNote) (view : MeshView) → view.wedges.now ≡ engine.state.grid →
-    view.planes.now ≡ engine.state.view.planes
-    → view.spacing ≡ engine.state.view.spacing →
-    view.leaves.now ≡ strip_of engine.state.grid.n (among (pool_members engine.mesh.pool))
-    → view_text view ≡ text_in engine.state (strip_triangles (picture_seen engine note))
-strip-text engine note view grid planes spacing leaves =
-    ap (λ (g : HeightField). mesh_text g.n g.heights view.spacing view.planes.now view.leaves.now) grid
-    ∙ (ap (λ (l : List ViewPlane).
-    mesh_text engine.state.grid.n engine.state.grid.heights view.spacing l view.leaves.now) planes
-    ∙ (ap (λ (k : ℕ).
-    mesh_text engine.state.grid.n engine.state.grid.heights k engine.state.view.planes view.leaves.now) spacing
-    ∙ ap (λ (l : List ℕ). mesh_text engine.state.grid.n engine.state.grid.heights engine.state.view.spacing
-    engine.state.view.planes l) leaves))
 
 -- the line of a strip is that of the picture
 pub strip-line : (engine : EngineState) (note : FrameNote) (number : ℕ) (order : List ℕ) →

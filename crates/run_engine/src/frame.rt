@@ -1,15 +1,14 @@
 //! A frame: its mesh, and then its line of the report.
 
-ghost use Rattle.std.specs.Prelude.{◌≡◌, true, ◌<◌, ◌≤◌, false, length};
-ghost use Rattle.roam_edge.specs.declared.mesh_sink.TheConstants.{LONGEST_PREFIX, GREATEST_NUMBER};
+ghost use Rattle.std.specs.Prelude.{◌≡◌, true, ◌≤◌, false, length};
 ghost use Rattle.run_words.specs.Words.{as_meshes};
 ghost use Rattle.run_laws.specs.Moment.{Does};
 ghost use Rattle.run_laws.specs.Outcome.{picture_acts};
 ghost use Rattle.mesh_defs.specs.ClosedSet.{IsClosed};
 ghost use Rattle.frame_loop.specs.Engine.{is_split, mesh_seen};
 ghost use Rattle.run_engine.specs.NoteSeen.{picture_seen, IsNoted};
-ghost use Rattle.run_words.specs.ShowView.{show_seen, IsShowing};
-ghost use Rattle.run_engine.specs.ShowView.{is_strip};
+ghost use Rattle.run_words.specs.ShowView.{IsPrefixLength, show_seen, IsShowing};
+ghost use Rattle.run_engine.specs.ShowView.{is_strip, IsMeshNumber};
 
 use crate::report::frame_report;
 use crate::shows::{write_measure, write_strip};
@@ -30,8 +29,7 @@ pub(crate) fn show_frame<O: Outside>(
 ) -> Result<(), Failed>
     requires idle { (O.moment outside.old).under_way ≡ false }
     requires showing { IsShowing showing }
-    requires number_low { 1 ≤ engine.now.frames }
-    requires number_high { engine.now.frames ≤ GREATEST_NUMBER }
+    requires number { IsMeshNumber engine.now.frames }
     requires noted { IsNoted engine.now note.now }
     requires closed { IsClosed engine.now.state.grid.n (is_split engine.now) }
     requires room { is_strip showing ≡ true → length (mesh_seen engine.now) ≤ length room.old }
@@ -54,10 +52,8 @@ fn write_frame<O: Outside>(
     outside: &mut O,
 ) -> Result<(), Failed>
     requires idle { (O.moment outside.old).under_way ≡ false }
-    requires prefix_some { 0 < length prefix.now }
-    requires prefix_short { length prefix.now ≤ LONGEST_PREFIX }
-    requires number_low { 1 ≤ engine.now.frames }
-    requires number_high { engine.now.frames ≤ GREATEST_NUMBER }
+    requires prefix { IsPrefixLength prefix.now }
+    requires number { IsMeshNumber engine.now.frames }
     requires noted { IsNoted engine.now note.now }
     ensures same { O.is_same outside.old outside.new }
     ensures does { Does (O.moment outside.old) (O.moment outside.new)

@@ -1,9 +1,8 @@
 //! A frame as a strip, or as a line on how far its mesh is from the surface.
 
-ghost use Rattle.std.specs.Prelude.{◌≡◌, ◌*◌, ◌^◌, ◌<◌, ◌≤◌, false, length, All};
+ghost use Rattle.std.specs.Prelude.{◌≡◌, ◌*◌, ◌^◌, ◌≤◌, false, length, All};
 ghost use Rattle.mesh_defs.specs.Triangle.{level_of};
 ghost use Rattle.mesh_defs.specs.ClosedSet.{IsClosed};
-ghost use Rattle.roam_edge.specs.declared.mesh_sink.TheConstants.{LONGEST_PREFIX, GREATEST_NUMBER};
 ghost use Rattle.wedgie_tree.specs.declared.wedges.TheConstants.{GREATEST_SPACING};
 ghost use Rattle.obj_write.specs.Numbers.{numbers_of};
 ghost use Rattle.mesh_laws.specs.Strip.{strip_of};
@@ -15,7 +14,8 @@ ghost use Rattle.run_laws.specs.Turns.{left_turns, right_turns};
 ghost use Rattle.run_words.specs.Words.{as_strips, as_measures};
 ghost use Rattle.run_laws.specs.Outcome.{picture_acts};
 ghost use Rattle.run_engine.specs.NoteSeen.{picture_seen};
-ghost use Rattle.run_engine.specs.ShowView.{strip_numbers, measure_numbers};
+ghost use Rattle.run_words.specs.ShowView.{IsPrefixLength};
+ghost use Rattle.run_engine.specs.ShowView.{IsMeshNumber, strip_numbers, measure_numbers};
 
 use arrayvec::ArrayVec;
 use bintree_addr::Tri;
@@ -40,10 +40,8 @@ pub(crate) fn write_strip<O: Outside>(
     outside: &mut O,
 ) -> Result<(), Failed>
     requires idle { (O.moment outside.old).under_way ≡ false }
-    requires prefix_some { 0 < length prefix.now }
-    requires prefix_short { length prefix.now ≤ LONGEST_PREFIX }
-    requires number_low { 1 ≤ engine.now.frames }
-    requires number_high { engine.now.frames ≤ GREATEST_NUMBER }
+    requires prefix { IsPrefixLength prefix.now }
+    requires number { IsMeshNumber engine.now.frames }
     requires closed { IsClosed engine.now.state.grid.n (is_split engine.now) }
     requires room { length (mesh_seen engine.now) ≤ length room.old }
     ensures same { O.is_same outside.old outside.new }
@@ -53,7 +51,9 @@ pub(crate) fn write_strip<O: Outside>(
     let count = engine.view().leaves.len();
     let order = &mut room[..count];
     put_strip(engine, order);
-    write_order(prefix, engine, order, outside)
+    let line = strip_report(engine, order);
+    let view = in_order(engine, order);
+    show_mesh(&view, prefix, engine.frames(), line.as_slice(), outside)
 }
 
 /// Puts the strip of an engine's mesh into room for just as many triangles.
@@ -64,29 +64,6 @@ fn put_strip(engine: &Engine, order: &mut [Tri])
 {
     let _level = engine.grid().n();
     strip(engine.view().leaves, order);
-}
-
-/// Writes the mesh of an engine with its triangles in the order of their strip, and then the line of the strip.
-fn write_order<O: Outside>(
-    prefix: &str,
-    engine: &Engine,
-    order: &[Tri],
-    outside: &mut O,
-) -> Result<(), Failed>
-    requires idle { (O.moment outside.old).under_way ≡ false }
-    requires prefix_some { 0 < length prefix.now }
-    requires prefix_short { length prefix.now ≤ LONGEST_PREFIX }
-    requires number_low { 1 ≤ engine.now.frames }
-    requires number_high { engine.now.frames ≤ GREATEST_NUMBER }
-    requires closed { IsClosed engine.now.state.grid.n (is_split engine.now) }
-    requires order { order.now ≡ strip_of engine.now.state.grid.n (is_split engine.now) }
-    ensures same { O.is_same outside.old outside.new }
-    ensures does { (note : NoteSeen) → Does (O.moment outside.old) (O.moment outside.new)
-        (picture_acts (as_strips prefix.now) engine.now.frames (picture_seen engine.now note)) result }
-{
-    let line = strip_report(engine, order);
-    let view = in_order(engine, order);
-    show_mesh(&view, prefix, engine.frames(), line.as_slice(), outside)
 }
 
 /// The mesh of an engine, with its triangles in the order of their strip.

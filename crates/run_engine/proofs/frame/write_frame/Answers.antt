@@ -6,7 +6,7 @@ use Rattle.run_laws.specs.Act.{Act, WholeMesh, ReportText}
 use Rattle.run_laws.specs.Picture.{triangles_of}
 use Rattle.run_laws.proofs.DoesLemmas.{does-same}
 use Rattle.run_engine.specs.NoteSeen.{picture_seen}
-use Rattle.run_engine.proofs.FrameLemmas.{mesh-text, note-text, view-valid}
+use Rattle.run_engine.proofs.FrameLemmas.{view-text, note-text, view-valid}
 use Rattle.run_engine.proofs.frame.write_frame.Goals as goal
 
 pub show_mesh-requires-clause-view : goal.show_mesh-requires-clause-view
@@ -26,7 +26,8 @@ returns-clause-does g c =
     (ap (λ (k : ℕ). acts k (view_text c.by_table.result) c.as_slice.result.now) c.frames.ensures
     ∙ (ap (λ (v : MeshView). acts e.frames (view_text v) c.as_slice.result.now) c.by_table.ensures
     ∙ ap (λ (t : List ℕ). acts e.frames t c.as_slice.result.now)
-    (mesh-text e c.args.note.now c.view.result view.wedges view.planes view.spacing view.leaves)
+    (view-text e c.view.result (triangles_of (picture_seen e c.args.note.now))
+    view.wedges view.planes view.spacing view.leaves)
     ∙ ap (acts e.frames text)
     (c.as_slice.ensures.value ∙ (c.frame_report-line.ensures ∙ note-text e.frames e c.args.note.now c.requires.noted))))
     c.show_mesh.ensures.does

@@ -5,9 +5,9 @@ use Rattle.run_laws.specs.Act.{Act, WholeMesh, ReportText}
 use Rattle.run_laws.specs.Picture.{strip_triangles}
 use Rattle.run_laws.proofs.DoesLemmas.{does-same}
 use Rattle.run_engine.specs.NoteSeen.{picture_seen}
-use Rattle.run_engine.proofs.FrameLemmas.{view-valid}
-use Rattle.run_engine.proofs.ShowLemmas.{strip-text, strip-line}
-use Rattle.run_engine.proofs.shows.write_order.Goals as goal
+use Rattle.run_engine.proofs.FrameLemmas.{view-text, view-valid}
+use Rattle.run_engine.proofs.ShowLemmas.{strip-line}
+use Rattle.run_engine.proofs.shows.write_strip.Goals as goal
 
 pub show_mesh-requires-clause-view : goal.show_mesh-requires-clause-view
 show_mesh-requires-clause-view g c =
@@ -25,8 +25,9 @@ returns-clause-does g c note =
     does-same _ _ _ _ c.show_mesh.result
     (ap (λ (k : ℕ). acts k (view_text c.in_order-view.result) c.as_slice.result.now) c.frames.ensures
     ∙ (ap (λ (t : List ℕ). acts e.frames t c.as_slice.result.now)
-    (strip-text e note c.in_order-view.result view.wedges view.planes view.spacing (view.leaves ∙ c.requires.order))
+    (view-text e c.in_order-view.result (strip_triangles (picture_seen e note)) view.wedges view.planes view.spacing
+    (view.leaves ∙ c.put_strip.ensures))
     ∙ ap (acts e.frames text)
     (c.as_slice.ensures.value ∙ (c.strip_report-line.ensures
-    ∙ strip-line e note e.frames c.args.order.now c.requires.order))))
+    ∙ strip-line e note e.frames c.put_strip.new.order c.put_strip.ensures))))
     c.show_mesh.ensures.does
