@@ -21,6 +21,7 @@ use Rattle.run_engine.specs.EngineSeen.{engine_seen}
 use Rattle.run_laws.specs.Maker.{DoesAs}
 use Rattle.run_laws.specs.Moment.{Moment}
 use Rattle.run_laws.proofs.ActLemmas.{stands-nothing}
+use Rattle.run_laws.proofs.RunLemmas.{OpensAt, opens-at, reads-nothing, reads-run}
 use Rattle.run_laws.proofs.StatementLemmas.{ends-by-status}
 use Rattle.run_laws.specs.Leaving.{CommandEnds, RunsCommand, TellsLast}
 use Rattle.run_engine.specs.SumView.{made_start, IsSumOf, SumsUp}
@@ -116,17 +117,8 @@ made-runs before now n seed sums engine left text status all is by some tells =
         files = ap (λ (shelf : ShelfState). shelf.files) tells.shelf;
         idle = λ not. tells.idle not;
         no_mesh = λ text_alone. tells.no_mesh refl;
-        opens = record {
-          done = λ e. omega (arith, opened);
-          script_refused = λ e. absurd (not-script tells.ends e);
-          grid_refused = λ e. absurd (not-grid tells.ends e);
-          usage = λ e. opened;
-          read_fault = λ e. absurd (not-read tells.ends e);
-          write_fault = λ e some_file. absurd (omega (arith, some_file));
-          rejected = λ e. absurd (not-rejected tells.ends e);
-          least = omega (arith, opened);
-          most = omega (arith, opened);
-        };
+        opens = opens-at before.shelf.opens now.shelf.opens 0 status (at opened tells.ends)
+            (omega (arith, opened)) (omega (arith, opened));
         read_out = λ e none. absurd (omega (arith, none));
         engine = left-seen left (IsTrue (ends_script status)) some;
         shelf_in_time = λ not_late none. tells.shelf_late ∙ not_late;
@@ -149,17 +141,14 @@ made-runs before now n seed sums engine left text status all is by some tells =
     not-memory (inl a) e = cc
     not-memory (inr a) e = cc
 
-    not-grid : (status ≡ ends.Done) ⊎ (status ≡ ends.WriteFault) → status ≡ ends.GridRefused → ⊥
-    not-grid (inl a) e = cc
-    not-grid (inr a) e = cc
+    At : Status → Type 0
+    At one = OpensAt before.shelf.opens now.shelf.opens 0 one
 
-    not-script : (status ≡ ends.Done) ⊎ (status ≡ ends.WriteFault) → status ≡ ends.ScriptRefused → ⊥
-    not-script (inl a) e = cc
-    not-script (inr a) e = cc
-
-    not-rejected : (status ≡ ends.Done) ⊎ (status ≡ ends.WriteFault) → status ≡ ends.Rejected → ⊥
-    not-rejected (inl a) e = cc
-    not-rejected (inr a) e = cc
+    at : now.shelf.opens ≡ before.shelf.opens → (status ≡ ends.Done) ⊎ (status ≡ ends.WriteFault) → At status
+    at same (inl e) = let all : At ends.Done = omega (arith, same) in subst At (sym e) all
+    at same (inr e) =
+        let none : At ends.WriteFault = λ some. absurd (omega (arith, some)) in
+        subst At (sym e) none
 
     allowed : (status ≡ ends.Done) ⊎ (status ≡ ends.WriteFault) → IsTrue (may_end (Some (Generated n seed)) status)
     allowed (inl a) = subst (λ (s : Status). IsTrue (may_end (Some (Generated n seed)) s)) (sym a) refl
@@ -168,44 +157,20 @@ made-runs before now n seed sums engine left text status all is by some tells =
 -- memory ran out in one
 pub unmade-runs : (now : Moment) (n seed : ℕ) →
     RunsCommand now now (Some (Generated n seed)) ends.NoMemory None
-unmade-runs now n seed = record {
-  ends = ends-by-status now now (Generated n seed) ends.NoMemory None
-      (λ files are. record { ends = λ m r. absurd (m refl) })
-      (λ e. cc)
-      (λ e. record {
-        opened = 0;
-        count = omega arith;
-        least = λ some. absurd (omega (arith, some));
-        most = omega arith;
-        stands = stands-nothing now.sinks;
-        header = λ name job files same. cc;
-        in_order = λ name job files same. cc;
-      });
-  leaves = record {
-    files = refl;
-    idle = λ not. refl;
-    no_mesh = λ text_alone. record { meshes = refl; faults = refl; under_way = refl; late = refl };
-    opens = record {
-      done = λ e. cc;
-      script_refused = λ e. cc;
-      grid_refused = λ e. cc;
-      usage = λ e. cc;
-      read_fault = λ e. cc;
-      write_fault = λ e. cc;
-      rejected = λ e. cc;
-      least = omega arith;
+unmade-runs now n seed =
+    reads-run now now (Some (Generated n seed)) ends.NoMemory (reads-nothing now)
+    (λ not_late none. not_late) (λ e. cc) (λ e. cc)
+    (ends-by-status now now (Generated n seed) ends.NoMemory None
+    (λ files are. record { ends = λ m r. absurd (m refl) })
+    (λ e. cc)
+    (λ e. record {
+      opened = 0;
+      count = omega arith;
+      least = λ some. absurd (omega (arith, some));
       most = omega arith;
-    };
-    read_out = λ e. cc;
-    engine = ((λ e. e), (λ e. e));
-    shelf_in_time = λ not_late none. not_late;
-    meshes_in_time = λ not_late none. not_late;
-    report_in_time = λ not_late none. not_late;
-  };
-  allowed = refl;
-  causes = record {
-    read = λ e. cc;
-    not_read = λ not. refl;
-    writes = record { write = λ e. cc; not_write = λ not. record { meshes_same = refl; report_same = refl } };
-  };
-}
+      stands = stands-nothing now.sinks;
+      header = λ name job files same. cc;
+      in_order = λ name job files same. cc;
+    }))
+    (opens-at now.shelf.opens now.shelf.opens 0 ends.NoMemory tt (omega arith) (omega arith))
+    refl refl (λ e. cc) (λ not. refl)
