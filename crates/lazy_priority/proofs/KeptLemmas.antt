@@ -1,103 +1,91 @@
 -- What calls of the heap do to the deadlines that slots have.
-use Rattle.std.proofs.Common.{◌≡◌, ℕ, zero, suc, ◌<◌, ◌≤◌, Bool, true, false, cond, List, [], ◌∷◌, length, replicate}
-use Rattle.std.proofs.Common.{get_or, Option, Some, None, IsSomeAnd, option_map, true≢false, refl, sym, ◌∙◌, ap, subst}
-use Rattle.std.proofs.Common.{arith}
-use Rattle.std.specs.Option.{is_some}
+use Rattle.std.proofs.Common.{◌≡◌, ℕ, zero, suc, ◌<◌, ◌≤◌, List, [], ◌∷◌, length, replicate}
+use Rattle.std.proofs.Common.{get_or, Option, Some, None, IsSome, IsSomeAnd, option_map, true≢false, refl, sym, ◌∙◌, ap, subst}
+use Rattle.std.proofs.Common.{arith, rules, ◌⊎◌, inl, inr}
 use Rattle.std.proofs.Math.ListN.{set}
-use Rattle.std.proofs.lemmas.List.{set-get_or}
+use Rattle.std.proofs.lemmas.List.{set-get_or, length-set, length-replicate}
 use Rattle.std.proofs.lemmas.Option.{none-some}
+use Rattle.lazy_priority.specs.declared.deadlines.Deadline.{Deadline}
+use Rattle.lazy_priority.specs.declared.deadlines.Deadline.TheVariants.{Absent, Stands, Expired}
 use Rattle.lazy_priority.specs.Due.{NoneIsDue}
-use Rattle.lazy_priority.specs.Kept.{kept}
+use Rattle.lazy_priority.specs.Expired.{NoneExpired}
+use Rattle.lazy_priority.specs.Kept.{from_key, kept, HasKey, IsSoundLazy}
 
 -- none at first
-pub kept-none : (n : ℕ) → kept (replicate n None) (replicate n false) ≡ replicate n None
+pub kept-none : (n : ℕ) → kept (replicate n None) (replicate n Absent) ≡ replicate n None
 kept-none zero = refl
 kept-none (suc n) = ap (λ (xs : List (Option ℕ)). None ∷ xs) (kept-none n)
 
-pub length-kept : (keys : List (Option ℕ)) (has : List Bool) → length (kept keys has) ≡ length keys
-length-kept [] has = refl
+pub length-kept : (keys : List (Option ℕ)) (deadlines : List Deadline) → length (kept keys deadlines) ≡ length keys
+length-kept [] deadlines = refl
 length-kept (key ∷ keys) [] = ap suc (length-kept keys [])
-length-kept (key ∷ keys) (one ∷ has) = ap suc (length-kept keys has)
+length-kept (key ∷ keys) (one ∷ deadlines) = ap suc (length-kept keys deadlines)
 
--- the deadline of a slot
-pub kept-at : (keys : List (Option ℕ)) (has : List Bool) (i : ℕ) →
-    get_or (kept keys has) i None ≡ cond (get_or has i false) (get_or keys i None) None
-kept-at [] has i = none (get_or has i false) None
-  where
-    none : (b : Bool) (o : Option ℕ) → o ≡ cond b o o
-    none true o = refl
-    none false o = refl
-kept-at (key ∷ keys) [] zero = refl
-kept-at (key ∷ keys) [] (suc i) = kept-at keys [] i
-kept-at (key ∷ keys) (one ∷ has) zero = refl
-kept-at (key ∷ keys) (one ∷ has) (suc i) = kept-at keys has i
+-- the odometer from which a slot is due
+pub kept-at : (keys : List (Option ℕ)) (deadlines : List Deadline) (i : ℕ) → length deadlines ≡ length keys →
+    get_or (kept keys deadlines) i None ≡ from_key (get_or deadlines i Absent) (get_or keys i None)
+kept-at [] [] i same = refl
+kept-at [] (one ∷ deadlines) i same = absurd (omega arith)
+kept-at (key ∷ keys) [] i same = absurd (omega arith)
+kept-at (key ∷ keys) (one ∷ deadlines) zero same = refl
+kept-at (key ∷ keys) (one ∷ deadlines) (suc i) same = kept-at keys deadlines i (omega arith)
 
--- a slot gets a deadline
-pub kept-set : (keys : List (Option ℕ)) (has : List Bool) (i k : ℕ) → length has ≡ length keys →
-    kept (set keys i (Some k)) (set has i true) ≡ set (kept keys has) i (Some k)
-kept-set [] has i k same = refl
-kept-set (key ∷ keys) [] i k same = absurd (omega arith)
-kept-set (key ∷ keys) (one ∷ has) zero k same = refl
-kept-set (key ∷ keys) (one ∷ has) (suc i) k same =
-    ap (λ (xs : List (Option ℕ)). cond one key None ∷ xs) (kept-set keys has i k (omega arith))
+-- where key and deadline of a slot change
+pub kept-set : (keys : List (Option ℕ)) (deadlines : List Deadline) (i : ℕ) (key : Option ℕ) (one : Deadline) →
+    length deadlines ≡ length keys →
+    kept (set keys i key) (set deadlines i one) ≡ set (kept keys deadlines) i (from_key one key)
+kept-set [] [] i key one same = refl
+kept-set [] (_ ∷ deadlines) i key one same = absurd (omega arith)
+kept-set (_ ∷ keys) [] i key one same = absurd (omega arith)
+kept-set (_ ∷ keys) (_ ∷ deadlines) zero key one same = refl
+kept-set (it ∷ keys) (that ∷ deadlines) (suc i) key one same =
+    ap (λ (xs : List (Option ℕ)). from_key that it ∷ xs) (kept-set keys deadlines i key one (omega arith))
 
--- one that has a deadline gets another
-pub kept-rekey : (keys : List (Option ℕ)) (has : List Bool) (i k : ℕ) → length has ≡ length keys →
-    get_or has i false ≡ true →
-    kept (set keys i (Some k)) has ≡ set (kept keys has) i (Some k)
-kept-rekey keys has i k same one =
-    ap (kept (set keys i (Some k))) (sym (ap (set has i) (sym one) ∙ set-get_or has i false))
-    ∙ kept-set keys has i k same
+-- where the deadline alone does
+pub kept-deadline : (keys : List (Option ℕ)) (deadlines : List Deadline) (i : ℕ) (one : Deadline) →
+    length deadlines ≡ length keys →
+    kept keys (set deadlines i one) ≡ set (kept keys deadlines) i (from_key one (get_or keys i None))
+kept-deadline keys deadlines i one same =
+    ap (λ l. kept l (set deadlines i one)) (sym (set-get_or keys i None))
+    ∙ kept-set keys deadlines i (get_or keys i None) one same
 
--- one drops it
-pub kept-drop : (keys : List (Option ℕ)) (has : List Bool) (i : ℕ) →
-    kept keys (set has i false) ≡ set (kept keys has) i None
-kept-drop [] has i = refl
-kept-drop (key ∷ keys) [] zero = refl
-kept-drop (key ∷ keys) [] (suc i) = ap (λ (xs : List (Option ℕ)). None ∷ xs) (kept-drop keys [] i)
-kept-drop (key ∷ keys) (one ∷ has) zero = refl
-kept-drop (key ∷ keys) (one ∷ has) (suc i) =
-    ap (λ (xs : List (Option ℕ)). cond one key None ∷ xs) (kept-drop keys has i)
-
--- and its key goes
-kept-gone : (keys : List (Option ℕ)) (has : List Bool) (i : ℕ) →
-    set (kept (set keys i None) has) i None ≡ set (kept keys has) i None
-kept-gone [] has i = refl
-kept-gone (key ∷ keys) [] zero = refl
-kept-gone (key ∷ keys) [] (suc i) = ap (λ (xs : List (Option ℕ)). None ∷ xs) (kept-gone keys [] i)
-kept-gone (key ∷ keys) (one ∷ has) zero = refl
-kept-gone (key ∷ keys) (one ∷ has) (suc i) =
-    ap (λ (xs : List (Option ℕ)). cond one key None ∷ xs) (kept-gone keys has i)
-
-pub kept-take : (keys : List (Option ℕ)) (has : List Bool) (i : ℕ) →
-    kept (set keys i None) (set has i false) ≡ set (kept keys has) i None
-kept-take keys has i = kept-drop (set keys i None) has i ∙ kept-gone keys has i
+-- where the key alone does
+pub kept-key : (keys : List (Option ℕ)) (deadlines : List Deadline) (i : ℕ) (key : Option ℕ) →
+    length deadlines ≡ length keys →
+    kept (set keys i key) deadlines ≡ set (kept keys deadlines) i (from_key (get_or deadlines i Absent) key)
+kept-key keys deadlines i key same =
+    ap (kept (set keys i key)) (sym (set-get_or deadlines i Absent))
+    ∙ kept-set keys deadlines i key (get_or deadlines i Absent) same
 
 -- a key without a deadline goes
-pub kept-stale : (keys : List (Option ℕ)) (has : List Bool) (i : ℕ) → get_or has i false ≡ false →
-    kept (set keys i None) has ≡ kept keys has
-kept-stale keys has i none =
-    let same : set has i false ≡ has = ap (set has i) (sym none) ∙ set-get_or has i false in
-    let gone : get_or (kept keys has) i None ≡ None =
-    kept-at keys has i ∙ ap (λ b. cond b (get_or keys i None) None) none in
-    ap (kept (set keys i None)) (sym same) ∙ kept-take keys has i
-    ∙ ap (set (kept keys has) i) (sym gone) ∙ set-get_or (kept keys has) i None
+pub kept-stale : (keys : List (Option ℕ)) (deadlines : List Deadline) (i : ℕ) → length deadlines ≡ length keys →
+    get_or deadlines i Absent ≡ Absent → kept (set keys i None) deadlines ≡ kept keys deadlines
+kept-stale keys deadlines i same none =
+    let gone : get_or (kept keys deadlines) i None ≡ None =
+    kept-at keys deadlines i same ∙ ap (λ it. from_key it (get_or keys i None)) none in
+    kept-key keys deadlines i None same
+    ∙ ap (λ it. set (kept keys deadlines) i (from_key it None)) none
+    ∙ ap (set (kept keys deadlines) i) (sym gone) ∙ set-get_or (kept keys deadlines) i None
 
--- a slot that has none keeps none
-pub kept-no_one : (keys : List (Option ℕ)) (has : List Bool) (i : ℕ) → get_or (kept keys has) i None ≡ None →
-    set (kept keys has) i None ≡ kept keys has
-kept-no_one keys has i none = ap (set (kept keys has) i) (sym none) ∙ set-get_or (kept keys has) i None
-
--- where no key is due, no deadline is
-pub NoneIsDue-kept : (keys : List (Option ℕ)) (has : List Bool) (odometer : ℕ) → NoneIsDue keys odometer →
-    NoneIsDue (kept keys has) odometer
-NoneIsDue-kept keys has odometer none slot due =
-    by_flag (get_or has slot.0 false)
-    (subst (λ (k : Option ℕ). IsSomeAnd k (λ it. it ≤ odometer)) (kept-at keys has slot.0) due)
+-- where no key is due and no deadline has expired, no slot is due
+pub NoneIsDue-kept : (keys : List (Option ℕ)) (deadlines : List Deadline) (odometer : ℕ) →
+    length deadlines ≡ length keys → NoneExpired deadlines → NoneIsDue keys odometer →
+    NoneIsDue (kept keys deadlines) odometer
+NoneIsDue-kept keys deadlines odometer same fresh none slot due =
+    by_deadline (get_or deadlines slot.0 Absent) refl
+    (subst (λ (k : Option ℕ). IsSomeAnd k (λ it. it ≤ odometer)) (kept-at keys deadlines slot.0 same) due)
   where
-    by_flag : (b : Bool) → IsSomeAnd (cond b (get_or keys slot.0 None) None) (λ it. it ≤ odometer) → ⊥
-    by_flag true h = none slot h
-    by_flag false h = absurd h
+    by_deadline : (one : Deadline) → get_or deadlines slot.0 Absent ≡ one →
+        IsSomeAnd (from_key one (get_or keys slot.0 None)) (λ it. it ≤ odometer) → ⊥
+    by_deadline Absent e h = absurd h
+    by_deadline Stands e h = none slot h
+    by_deadline Expired e h = fresh slot e
+
+-- of a slot whose deadline neither stands nor has expired
+pub absent : (one : Deadline) → (one ≡ Stands → ⊥) → (one ≡ Expired → ⊥) → one ≡ Absent
+absent Absent other fresh = refl
+absent Stands other fresh = absurd (other refl)
+absent Expired other fresh = absurd (fresh refl)
 
 -- how many slots have a key
 abbrev pub how_many : List (Option ℕ) → ℕ
@@ -113,50 +101,84 @@ how_many-take (Some x ∷ keys) zero k some = omega arith
 how_many-take (None ∷ keys) (suc i) k some = how_many-take keys i k some
 how_many-take (Some x ∷ keys) (suc i) k some = let less = how_many-take keys i k some in omega arith
 
--- a slot with a key is one of the heap's
-pub key_within : (keys : List (Option ℕ)) (i k : ℕ) → get_or keys i None ≡ Some k → i < length keys
-key_within [] i k some = absurd (none-some k some)
-key_within (key ∷ keys) zero k some = omega arith
-key_within (key ∷ keys) (suc i) k some = let below = key_within keys i k some in omega arith
+-- ---- that there are keys where deadlines stand
 
--- a slot without a key has no deadline
-pub no_key : (keys : List (Option ℕ)) (has : List Bool) (i : ℕ) → get_or keys i None ≡ None →
-    get_or (kept keys has) i None ≡ None
-no_key keys has i none = kept-at keys has i ∙ by_flag (get_or has i false)
+-- none stands at first
+pub IsSoundLazy-none : (n : ℕ) → IsSoundLazy (replicate n None) (replicate n Absent)
+IsSoundLazy-none n = (length-replicate n Absent ∙ sym (length-replicate n None), λ slot. no_key n slot.0)
   where
-    by_flag : (b : Bool) → cond b (get_or keys i None) None ≡ None
-    by_flag true = none
-    by_flag false = refl
+    no_key : (n i : ℕ) → HasKey (get_or (replicate n Absent) i Absent) (get_or (replicate n None) i None)
+    no_key zero i = search rules
+    no_key (suc n) zero = search rules
+    no_key (suc n) (suc i) = no_key n i
+
+-- at each slot but those of one number, where key and deadline change
+by_place : (keys : List (Option ℕ)) (deadlines : List Deadline) (i j : ℕ) (key : Option ℕ) (one : Deadline) →
+    HasKey (get_or deadlines j Absent) (get_or keys j None) → HasKey one key → length deadlines ≡ length keys →
+    HasKey (get_or (set deadlines i one) j Absent) (get_or (set keys i key) j None)
+by_place [] [] i j key one has own same = has
+by_place [] (_ ∷ deadlines) i j key one has own same = absurd (omega arith)
+by_place (_ ∷ keys) [] i j key one has own same = absurd (omega arith)
+by_place (_ ∷ keys) (_ ∷ deadlines) zero zero key one has own same = own
+by_place (_ ∷ keys) (_ ∷ deadlines) zero (suc j) key one has own same = has
+by_place (_ ∷ keys) (_ ∷ deadlines) (suc i) zero key one has own same = has
+by_place (_ ∷ keys) (_ ∷ deadlines) (suc i) (suc j) key one has own same =
+    by_place keys deadlines i j key one has own (omega arith)
+
+pub IsSoundLazy-set : (keys : List (Option ℕ)) (deadlines : List Deadline) (i : ℕ) (key : Option ℕ) (one : Deadline) →
+    HasKey one key → IsSoundLazy keys deadlines → IsSoundLazy (set keys i key) (set deadlines i one)
+IsSoundLazy-set keys deadlines i key one own sound = (
+  length-set deadlines i one ∙ sound.0 ∙ sym (length-set keys i key),
+  λ slot. by_place keys deadlines i slot.0 key one (sound.1 slot) own sound.0,
+)
+
+-- where the deadline alone changes
+pub IsSoundLazy-deadline : (keys : List (Option ℕ)) (deadlines : List Deadline) (i : ℕ) (one : Deadline) →
+    HasKey one (get_or keys i None) → IsSoundLazy keys deadlines → IsSoundLazy keys (set deadlines i one)
+IsSoundLazy-deadline keys deadlines i one own sound =
+    subst (λ l. IsSoundLazy l (set deadlines i one)) (set-get_or keys i None)
+    (IsSoundLazy-set keys deadlines i (get_or keys i None) one own sound)
+
+-- where the key alone does
+pub IsSoundLazy-key : (keys : List (Option ℕ)) (deadlines : List Deadline) (i : ℕ) (key : Option ℕ) →
+    HasKey (get_or deadlines i Absent) key → IsSoundLazy keys deadlines → IsSoundLazy (set keys i key) deadlines
+IsSoundLazy-key keys deadlines i key own sound =
+    subst (IsSoundLazy (set keys i key)) (set-get_or deadlines i Absent)
+    (IsSoundLazy-set keys deadlines i key (get_or deadlines i Absent) own sound)
 
 -- ---- an expiry
 
--- a slot with a key, and one without
-pub some_within : (keys : List (Option ℕ)) (i : ℕ) → is_some (get_or keys i None) ≡ true → i < length keys
-some_within [] i e = absurd (true≢false (sym e))
-some_within (key ∷ keys) zero e = omega arith
-some_within (key ∷ keys) (suc i) e = let below = some_within keys i e in omega arith
+-- a deadline that stands becomes 0
+pub some-mapped : (key : Option ℕ) → IsSome key → option_map {U = ℕ} (λ _. 0) key ≡ Some 0
+some-mapped None e = absurd (true≢false (sym e))
+some-mapped (Some k) e = refl
 
-pub none_there : (key : Option ℕ) → is_some key ≡ false → key ≡ None
-none_there None e = refl
-none_there (Some k) e = absurd (true≢false e)
+pub kept-expired : (keys : List (Option ℕ)) (deadlines : List Deadline) (i : ℕ) → length deadlines ≡ length keys →
+    get_or deadlines i Absent ≡ Stands → IsSome (get_or keys i None) →
+    set (kept keys deadlines) i (Some 0)
+    ≡ set (kept keys deadlines) i (option_map {U = ℕ} (λ _. 0) (get_or (kept keys deadlines) i None))
+kept-expired keys deadlines i same stands some =
+    let at : get_or (kept keys deadlines) i None ≡ get_or keys i None =
+    kept-at keys deadlines i same ∙ ap (λ d. from_key d (get_or keys i None)) stands in
+    sym (ap (set (kept keys deadlines) i) (ap (option_map {U = ℕ} (λ _. 0)) at ∙ some-mapped (get_or keys i None) some))
 
-mapped : (key : Option ℕ) → is_some key ≡ true → option_map {U = ℕ} (λ _. 0) key ≡ Some 0
-mapped None e = absurd (true≢false (sym e))
-mapped (Some k) e = refl
+-- nothing of a slot without one, or whose deadline has expired
+pub kept-no_expire : (keys : List (Option ℕ)) (deadlines : List Deadline) (i : ℕ) → length deadlines ≡ length keys →
+    (get_or deadlines i Absent ≡ Absent) ⊎ (get_or deadlines i Absent ≡ Expired) →
+    kept keys deadlines
+    ≡ set (kept keys deadlines) i (option_map {U = ℕ} (λ _. 0) (get_or (kept keys deadlines) i None))
+kept-no_expire keys deadlines i same other =
+    sym (ap (set (kept keys deadlines) i) (elim other [
+      | inl e ↦ still Absent e refl
+      | inr e ↦ still Expired e refl
+    ]) ∙ set-get_or (kept keys deadlines) i None)
+  where
+    mapped : Option ℕ → Option ℕ
+    mapped = option_map {U = ℕ} (λ _. 0)
 
--- the deadline of a slot becomes 0
-pub kept-expire : (keys : List (Option ℕ)) (has : List Bool) (i : ℕ) → length has ≡ length keys →
-    get_or has i false ≡ true → is_some (get_or keys i None) ≡ true →
-    kept (set keys i (Some 0)) has ≡ set (kept keys has) i (option_map {U = ℕ} (λ _. 0) (get_or (kept keys has) i None))
-kept-expire keys has i same one some =
-    let there : get_or (kept keys has) i None ≡ get_or keys i None =
-    kept-at keys has i ∙ ap (λ b. cond b (get_or keys i None) None) one in
-    kept-rekey keys has i 0 same one
-    ∙ ap (set (kept keys has) i) (sym (ap (option_map {U = ℕ} (λ _. 0)) there ∙ mapped (get_or keys i None) some))
-
--- nothing of a slot without one
-pub kept-no_expire : (keys : List (Option ℕ)) (has : List Bool) (i : ℕ) → get_or (kept keys has) i None ≡ None →
-    kept keys has ≡ set (kept keys has) i (option_map {U = ℕ} (λ _. 0) (get_or (kept keys has) i None))
-kept-no_expire keys has i none =
-    sym (ap (λ (o : Option ℕ). set (kept keys has) i (option_map {U = ℕ} (λ _. 0) o)) none
-    ∙ kept-no_one keys has i none)
+    still : (one : Deadline) → get_or deadlines i Absent ≡ one →
+        mapped (from_key one (get_or keys i None)) ≡ from_key one (get_or keys i None) →
+        mapped (get_or (kept keys deadlines) i None) ≡ get_or (kept keys deadlines) i None
+    still one e same_key =
+        let at = kept-at keys deadlines i same ∙ ap (λ d. from_key d (get_or keys i None)) e in
+        ap mapped at ∙ same_key ∙ sym at

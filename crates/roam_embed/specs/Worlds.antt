@@ -25,6 +25,7 @@ use Rattle.bintree_laws.specs.Areas.{overlaps}
 use Rattle.page_laws.specs.Pages.{IsLoadedPoint, page_area}
 use Rattle.view_mesh.specs.Expiry.{IsExpired}
 use Rattle.page_store.specs.Store.{Store, page_at, grid_at, pages_of, height_in}
+use Rattle.page_store.specs.Change.{AreOthersSame}
 use Rattle.page_store.specs.Load.{CanLoad}
 use Rattle.page_store.specs.Unload.{IsFree}
 use Rattle.world_loop.specs.World.{WorldState, loaded_of, priority_in, mesh_seen, IsWorn, IsFrameDone}
@@ -144,7 +145,7 @@ pub record IsLoadAnswer (s : Store) (q : ℕ) (t : Point) (page : HeightField) (
 -- triangles whose bounding rectangle meets the square are expired.
 pub record IsPageLoaded (before after : WorldState) (q : ℕ) (t : Point) (page : HeightField) : Type 0 where
   pub loaded : grid_at after.store q t ≡ Some page
-  pub others : (r : ℕ) (u : Point) → (r ≡ q → u ≡ t → ⊥) → grid_at after.store r u ≡ grid_at before.store r u
+  pub others : AreOthersSame before.store after.store q t
   pub heights : (p : Point) → IsLoadedPoint (pages_of before.store) p →
       height_in after.store p ≡ height_in before.store p
   pub rest : after ≡ record before { store = after.store; mesh = after.mesh }
@@ -167,7 +168,7 @@ pub record IsUnloadAnswer (s : Store) (q : ℕ) (t : Point) (answer : Answer) : 
 pub record IsPageUnloaded (before after : WorldState) (q : ℕ) (t : Point) (page : HeightField) : Type 0 where
   pub taken : grid_at before.store q t ≡ Some page
   pub gone : grid_at after.store q t ≡ None
-  pub others : (r : ℕ) (u : Point) → (r ≡ q → u ≡ t → ⊥) → grid_at after.store r u ≡ grid_at before.store r u
+  pub others : AreOthersSame before.store after.store q t
   pub heights : (p : Point) → IsLoadedPoint (pages_of after.store) p →
       height_in after.store p ≡ height_in before.store p
   pub rest : after ≡ record before { store = after.store; mesh = after.mesh }

@@ -1,44 +1,64 @@
-use Rattle.std.proofs.Common.{◌≡◌, ℕ, true, false, None, cond, option_map, slice_set, slice_index_or, sym, ◌∙◌, ap}
-use Rattle.std.proofs.Common.{subst, arith}
-use Rattle.std.specs.Option.{is_some}
-use Rattle.std.proofs.lemmas.List.{get_or_default}
-use Rattle.lazy_priority.specs.Kept.{kept}
-use Rattle.lazy_priority.proofs.KeptLemmas.{kept-at, kept-expire, kept-no_expire, some_within, none_there, no_key}
+use Rattle.std.proofs.Common.{rules, ◌≡◌, ℕ, List, Option, Some, None, option_map, slice_set, slice_index_or, refl, sym, ◌∙◌}
+use Rattle.std.proofs.Common.{ap, subst, ◌⊎◌}
+use Rattle.slot_heap.specs.Keys.{key_of}
+use Rattle.lazy_priority.specs.declared.deadlines.Deadline.TheVariants.{Absent, Stands, Expired}
+use Rattle.lazy_priority.specs.Kept.{kept, HasKey, from_key, IsSoundLazy}
+use Rattle.lazy_priority.proofs.KeptLemmas.{kept-key, kept-deadline, kept-expired, kept-no_expire}
+use Rattle.lazy_priority.proofs.KeptLemmas.{IsSoundLazy-key, IsSoundLazy-deadline}
 use Rattle.lazy_priority.proofs.lazy.Lazy.expire.Goals as goal
-use Rattle.lazy_priority.proofs.lazy.Lazy.expire.Goals.{else-is_some-via-then-is_some+else-index}
-use Rattle.lazy_priority.proofs.lazy.Lazy.expire.Goals.{else-is_some-via-else-is_some}
 
-pub returns-then-index : goal.returns-then-index
-returns-then-index c =
-    let keys = c.self.inside.due_from in
-    let has = c.self.inside.has_one.items in
-    let i = c.args.slot.0 in
-    let some : is_some (slice_index_or keys i None) ≡ true =
-    ap is_some (sym c.key.ensures) ∙ sym c.is_some.ensures ∙ c.if-is_some.true in
-    let long = c.self.invariant in
-    let below = some_within keys i some in
-    let one : slice_index_or has i false ≡ true =
-    sym (c.index.ensures ∙ get_or_default has i c.index.result.now false (omega (arith, long))) ∙ c.if-index.true in
-    ap (λ l. kept l has) c.rekey.ensures ∙ kept-expire keys has i long one some
-    ∙ ap (λ l. slice_set l i (option_map {U = ℕ} (λ _. 0) (slice_index_or l i None))) c.self.view_is
+-- the deadlines of which one has expired
+abbrev expired : List (Option ℕ) → ℕ → List (Option ℕ)
+expired from i = slice_set from i (option_map {U = ℕ} (λ _. 0) (slice_index_or from i None))
 
-pub returns-else-is_some : goal.returns-else-is_some
-returns-else-is_some c =
+pub rekey-requires : goal.rekey-requires
+rekey-requires c = record {
+  present = subst (λ d. HasKey d (key_of c.self.inside.due_from c.args.slot)) (sym c.get.ensures ∙ c.in-Stands.is)
+      (c.self.invariant.1 c.args.slot);
+}
+
+pub invariant_of-self : goal.invariant_of-self
+invariant_of-self c =
     let keys = c.self.inside.due_from in
-    let has = c.self.inside.has_one.items in
+    let deadlines = c.self.inside.deadlines in
     let i = c.args.slot.0 in
-    let long = c.self.invariant in
-    let still : slice_index_or (kept keys has) i None ≡ None = elim c.else-is_some.branch [
-      | else-is_some-via-then-is_some+else-index w ↦
-          let some : is_some (slice_index_or keys i None) ≡ true =
-          ap is_some (sym c.key.ensures) ∙ sym c.is_some.ensures ∙ w.if-is_some.true in
-          let below = some_within keys i some in
-          let none : slice_index_or has i false ≡ false = sym (w.index.ensures
-          ∙ get_or_default has i w.index.result.now false (omega (arith, long))) ∙ w.if-index.false in
-          kept-at keys has i ∙ ap (λ b. cond b (slice_index_or keys i None) None) none
-      | else-is_some-via-else-is_some w ↦
-          no_key keys has i (none_there (slice_index_or keys i None)
-          (ap is_some (sym c.key.ensures) ∙ sym c.is_some.ensures ∙ w.if-is_some.false))
-    ] in
-    subst (λ l. l ≡ slice_set l i (option_map {U = ℕ} (λ _. 0) (slice_index_or l i None))) c.self.view_is
-    (kept-no_expire keys has i still)
+    let stands : slice_index_or deadlines i Absent ≡ Stands = sym c.get.ensures ∙ c.in-Stands.is in
+    subst (λ l. IsSoundLazy l c.expire.new.self) (sym c.rekey.ensures)
+    (subst (IsSoundLazy (slice_set keys i (Some 0))) (sym (c.if-not-expire.ensures.full refl))
+    (IsSoundLazy-key keys deadlines i (Some 0) (subst (λ d. HasKey d (Some 0)) (sym stands) (search rules)) c.self.invariant))
+
+pub invariant_of-self-else-not-expire : goal.invariant_of-self-else-not-expire
+invariant_of-self-else-not-expire c =
+    subst (IsSoundLazy c.self.inside.due_from) (sym (c.if-not-expire.ensures.noted refl))
+    (IsSoundLazy-deadline c.self.inside.due_from c.self.inside.deadlines c.args.slot.0 Expired (search rules) c.self.invariant)
+
+pub returns-then-not-expire : goal.returns-then-not-expire
+returns-then-not-expire c =
+    let keys = c.self.inside.due_from in
+    let deadlines = c.self.inside.deadlines in
+    let i = c.args.slot.0 in
+    let stands : slice_index_or deadlines i Absent ≡ Stands = sym c.get.ensures ∙ c.in-Stands.is in
+    let some = subst (λ d. HasKey d (key_of keys c.args.slot)) stands (c.self.invariant.1 c.args.slot) in
+    ap (λ l. kept l c.expire.new.self) c.rekey.ensures
+    ∙ ap (kept (slice_set keys i (Some 0))) (c.if-not-expire.ensures.full refl)
+    ∙ kept-key keys deadlines i (Some 0) c.self.invariant.0
+    ∙ ap (λ d. slice_set (kept keys deadlines) i (from_key d (Some 0))) stands
+    ∙ kept-expired keys deadlines i c.self.invariant.0 stands some ∙ ap (λ l. expired l i) c.self.view_is
+
+pub returns-else-not-expire : goal.returns-else-not-expire
+returns-else-not-expire c =
+    let keys = c.self.inside.due_from in
+    let deadlines = c.self.inside.deadlines in
+    let i = c.args.slot.0 in
+    let stands : slice_index_or deadlines i Absent ≡ Stands = sym c.get.ensures ∙ c.in-Stands.is in
+    let some = subst (λ d. HasKey d (key_of keys c.args.slot)) stands (c.self.invariant.1 c.args.slot) in
+    ap (kept keys) (c.if-not-expire.ensures.noted refl)
+    ∙ kept-deadline keys deadlines i Expired c.self.invariant.0
+    ∙ kept-expired keys deadlines i c.self.invariant.0 stands some ∙ ap (λ l. expired l i) c.self.view_is
+
+pub returns-in-Absent : goal.returns-in-Absent
+returns-in-Absent c =
+    let deadlines = c.self.inside.deadlines in
+    subst (λ l. l ≡ expired l c.args.slot.0) c.self.view_is
+    (kept-no_expire c.self.inside.due_from deadlines c.args.slot.0 c.self.invariant.0
+    (subst (λ d. (d ≡ Absent) ⊎ (d ≡ Expired)) c.get.ensures c.in-Absent.is))

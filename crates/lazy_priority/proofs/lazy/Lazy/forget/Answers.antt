@@ -1,15 +1,16 @@
-use Rattle.std.proofs.Common.{rules, ◌≡◌, None, slice_set, slice_index_or, sym, ◌∙◌, ap, subst}
-use Rattle.lazy_priority.proofs.KeptLemmas.{kept-drop, kept-no_one, no_key}
+use Rattle.std.proofs.Common.{rules, None, slice_set, sym, ◌∙◌, ap, subst}
+use Rattle.lazy_priority.specs.declared.deadlines.Deadline.TheVariants.{Absent}
+use Rattle.lazy_priority.specs.Kept.{kept, IsSoundLazy}
+use Rattle.lazy_priority.proofs.KeptLemmas.{kept-deadline, IsSoundLazy-deadline}
 use Rattle.lazy_priority.proofs.lazy.Lazy.forget.Goals as goal
 
-pub returns-then-is_some : goal.returns-then-is_some
-returns-then-is_some c =
-    kept-drop c.self.inside.due_from c.self.inside.has_one.items c.args.slot.0
-    ∙ ap (λ l. slice_set l c.args.slot.0 None) c.self.view_is
+pub invariant_of-self : goal.invariant_of-self
+invariant_of-self c =
+    subst (IsSoundLazy c.self.inside.due_from) (sym c.clear.ensures)
+    (IsSoundLazy-deadline c.self.inside.due_from c.self.inside.deadlines c.args.slot.0 Absent (search rules) c.self.invariant)
 
-pub returns-else-is_some : goal.returns-else-is_some
-returns-else-is_some c =
-    let none : slice_index_or c.self.inside.due_from c.args.slot.0 None ≡ None = search rules in
-    subst (λ l. l ≡ slice_set l c.args.slot.0 None) c.self.view_is
-    (sym (kept-no_one c.self.inside.due_from c.self.inside.has_one.items c.args.slot.0
-    (no_key c.self.inside.due_from c.self.inside.has_one.items c.args.slot.0 none)))
+pub returns : goal.returns
+returns c =
+    ap (kept c.self.inside.due_from) c.clear.ensures
+    ∙ kept-deadline c.self.inside.due_from c.self.inside.deadlines c.args.slot.0 Absent c.self.invariant.0
+    ∙ ap (λ l. slice_set l c.args.slot.0 None) c.self.view_is

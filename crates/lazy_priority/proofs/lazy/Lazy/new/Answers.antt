@@ -1,7 +1,12 @@
-use Rattle.std.proofs.Common.{◌∙◌, ap₂}
-use Rattle.lazy_priority.specs.Kept.{kept}
-use Rattle.lazy_priority.proofs.KeptLemmas.{kept-none}
+use Rattle.std.proofs.Common.{◌∙◌, ap₂, sym, subst, None, replicate}
+use Rattle.lazy_priority.specs.Kept.{kept, IsSoundLazy}
+use Rattle.lazy_priority.proofs.KeptLemmas.{kept-none, IsSoundLazy-none}
 use Rattle.lazy_priority.proofs.lazy.Lazy.new.Goals as goal
 
+pub invariant_of-result : goal.invariant_of-result
+invariant_of-result c =
+    subst (λ l. IsSoundLazy l c.in_ok-new-2.field-0) (sym c.in_ok-new.ensures)
+    (subst (IsSoundLazy (replicate c.args.slots None)) (sym c.in_ok-new-2.ensures) (IsSoundLazy-none c.args.slots))
+
 pub returns : goal.returns
-returns c = ap₂ kept c.in_ok-new.ensures (c.in_ok-vec.ensures.items_if_clones_equal (λ y e. e)) ∙ kept-none c.args.slots
+returns c = ap₂ kept c.in_ok-new.ensures c.in_ok-new-2.ensures ∙ kept-none c.args.slots
