@@ -165,10 +165,12 @@ USAGE, DATA = 2, 1
     (("a.tif", "a.glb", "--error", "1", "--measure", "--crs", "globe"), USAGE, "--measure is for a map"),
     (("a.tif", "tiles/", "--error", "1", "--mask", "a.tif", "--size", "9"), USAGE, "--mask and --size: for one file, and OUT"),
     (("a.tif", "tiles/", "--error", "1", "--exaggerate", "2"), USAGE, "--exaggerate: for one file, and OUT is a folder of tiles"),
-    (("a.tif", "tiles/", "--triangles", "9", "--format", "quantized-mesh"), USAGE, "--triangles: for 3D Tiles, and not for quantized"),
+    (("a.tif", "tiles/", "--triangles", "9", "--format", "quantized-mesh"), USAGE,
+     "--triangles: for 3D Tiles, and not for quantized"),
     (("a.tif", "tiles/", "--error", "1", "--skirts", "--certify"), USAGE, "--skirts has no certificate"),
     (("a.tif", "a.glb", "--error", "1", "--skirts"), USAGE, "--skirts: for a folder of tiles, and OUT is one file"),
-    (("a.tif", "a.glb", "--error", "1", "--workers", "2"), USAGE, "--workers and --dask: for tiles, and for a .glb of more than 2049"),
+    (("a.tif", "a.glb", "--error", "1", "--workers", "2"), USAGE,
+     "--workers and --dask: for tiles, and for a .glb of more than 2049"),
     (("a.tif", "a.glb", "--error", "1", "--zoom", "0"), USAGE, "--zoom: for a folder of tiles, and OUT is one file"),
     (("a.tif", "there/", "--error", "1"), DATA, "there/tileset.json is there already: --overwrite replaces it"),
     (("a.tif", "a.ply", "--error", "1", "--texture", "a.tif"), USAGE, "--texture, --uv and --quantize are for .glb alone"),
@@ -225,8 +227,8 @@ def test_a_full_disk_leaves_the_old_file(run):
     assert open("a.glb", "rb").read() == old and names() == before
 
 
-# The program, that is interrupted as a file is to take its place. What a shell runs in the background does not heed SIGINT, unless it
-# says so.
+# The program, that is interrupted as a file is to take its place. What a shell runs in the background does not heed SIGINT,
+# unless it says so.
 STRUCK = """import os, signal
 from calfrewin.__main__ import main
 signal.signal(signal.SIGINT, signal.default_int_handler)

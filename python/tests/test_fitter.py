@@ -104,8 +104,10 @@ def test_refusals_name_the_argument_and_change_nothing():
     with Fitter(heights) as fitter:
         fitter.fit(3, [2])
         before = fitter.leaves()
-        for call, text in ((lambda: fitter.fit(-1), "tolerance in thousandths is -1000"), (lambda: fitter.fit(1, [25]), "required are from 25"),
-                           (lambda: fitter.fit(1, [-1]), "required are from -1"), (lambda: fitter.fit(np.zeros(4, np.uint32)), "have 25"),
+        for call, text in ((lambda: fitter.fit(-1), "tolerance in thousandths is -1000"),
+                           (lambda: fitter.fit(1, [25]), "required are from 25"),
+                           (lambda: fitter.fit(1, [-1]), "required are from -1"),
+                           (lambda: fitter.fit(np.zeros(4, np.uint32)), "have 25"),
                            (lambda: fitter.fit(np.full(25, 65_536_000, np.uint32)), "from 0 to 65535999"),
                            (lambda: fitter.restore(np.array([2], np.uint32)), "leaves are not"),
                            (lambda: fitter.restore(before[::-1].copy()), "leaves are not"),
@@ -180,4 +182,5 @@ def test_the_books_refuse_what_is_no_border_and_what_shrinks():
                            (lambda: Mosaic(1, 1, 4), "side is 4"), (lambda: Mosaic(0, 1, 5), "columns is 0")):
             with pytest.raises(ValueError, match=text):
                 call()
-        assert sorted(books.required(1, 0).places.tolist()) == [10, 12] and books.required(1, 0).lacks and not books.required(0, 0).lacks
+        assert sorted(books.required(1, 0).places.tolist()) == [10, 12]
+        assert books.required(1, 0).lacks and not books.required(0, 0).lacks

@@ -35,7 +35,8 @@ def digest(folder):
 def built(path, out, error=2.0, tile=33, **words):
     options = {key: words.pop(key) for key in ("workers", "client", "triangles", "overwrite", "progress") if key in words}
     raster = open_raster(str(path), **{key: words.pop(key) for key in ("spacing",) if key in words})
-    return tiles.build(tiles.plan_of(raster, str(out), error=None if "triangles" in options else error, tile=tile, **words), **options)
+    error = None if "triangles" in options else error
+    return tiles.build(tiles.plan_of(raster, str(out), error=error, tile=tile, **words), **options)
 
 
 def checked(path, out, **words):
@@ -120,7 +121,8 @@ def test_flat_sea_is_cut_as_the_earth_is_round(tmp_path, cell, has_one_form):
 
 def test_with_skirts_there_are_fewer_triangles_and_the_check_says_why_not(tmp_path, terrain):
     fewer, told = (built(terrain, tmp_path / name, error=20.0, skirts=skirts) for name, skirts in (("s", True), ("m", False)))
-    ends = [sum(struct.unpack("<I", open(path, "rb").read()[8:12])[0] > 0 for path in glob.glob(f"{tmp_path}/{it}/*/*/*.glb")) for it in "sm"]
+    ends = [sum(struct.unpack("<I", open(path, "rb").read()[8:12])[0] > 0 for path in glob.glob(f"{tmp_path}/{it}/*/*/*.glb"))
+            for it in "sm"]
     assert ends[0] == ends[1] == told["tiles"] and "rounds" not in fewer
     with pytest.raises(ValueError, match="skirts"):
         checked(terrain, tmp_path / "s")
@@ -159,7 +161,8 @@ def test_the_check_finds_what_is_planted(tmp_path, terrain):
     plants = {
         "crack": (lambda it: replaced(it, tmp_path / "other"), "a crack: within its edge along"),
         "hole": (lambda it: os.unlink(f"{it}/{inner}"), "No such file"),
-        "gap": (lambda it: triangles_changed(f"{it}/{inner}", doubled), "an edge has two triangles on one side|have a triangle on one side"),
+        "gap": (lambda it: triangles_changed(f"{it}/{inner}", doubled),
+                "an edge has two triangles on one side|have a triangle on one side"),
         "turn": (lambda it: triangles_changed(f"{it}/{inner}", turned), "turned over"),
         "error": (lambda it: vertex_moved(f"{it}/{inner}", raised), "is off by"),
         "place": (lambda it: vertex_moved(f"{it}/{inner}", moved), "turned over|lie at no point|is off by"),
@@ -333,8 +336,8 @@ def test_workers_that_die_at_each_task_are_given_up():
 
 
 def words_of(*words, program=("-m", "calfrewin"), stdin=None):
-    return subprocess.Popen([sys.executable, *program, *map(str, words)], stdin=stdin, stderr=subprocess.PIPE, stdout=subprocess.PIPE,
-                            text=True, env=os.environ | {"PYTHONPATH": os.pathsep.join(sys.path)})
+    return subprocess.Popen([sys.executable, *program, *map(str, words)], stdin=stdin, stderr=subprocess.PIPE,
+                            stdout=subprocess.PIPE, text=True, env=os.environ | {"PYTHONPATH": os.pathsep.join(sys.path)})
 
 
 # The program, that gets a signal as soon as it has written a file into a folder; and that waits as soon as a task is done. What a
@@ -388,7 +391,8 @@ def test_a_run_that_is_killed_goes_on_and_the_same_call_says_so(tmp_path, terrai
 def test_a_cluster_makes_the_same_with_a_worker_killed_and_with_its_scheduler_killed(tmp_path, terrain):
     distributed = pytest.importorskip("distributed")
     built(terrain, tmp_path / "whole")
-    words = {"n_workers": 2, "threads_per_worker": 1, "host": "127.0.0.1", "dashboard_address": None, "local_directory": str(tmp_path / "d")}
+    words = {"n_workers": 2, "threads_per_worker": 1, "host": "127.0.0.1", "dashboard_address": None,
+             "local_directory": str(tmp_path / "d")}
     with distributed.LocalCluster(**words) as cluster, distributed.Client(cluster) as client:
         client.wait_for_workers(2)
 
@@ -470,7 +474,8 @@ def test_one_file_of_the_whole_shares_its_vertices_and_is_within_the_error(tmp_p
     ground, times = heights_of(mesh)
     assert (times == 1).all() and np.abs(ground - heights).max() <= told["error"] + 1e-3
     assert it["normals"][:, 1].min() > 0 and sorted(os.listdir(tmp_path)) == ["a.glb", "a.glb.json"]
-    again = join.join(raster, str(tmp_path / "b.glb"), error=None if "triangles" in words else 20.0, tile=65, **words | {"workers": 1})
+    error = None if "triangles" in words else 20.0
+    again = join.join(raster, str(tmp_path / "b.glb"), error=error, tile=65, **words | {"workers": 1})
     assert open(tmp_path / "a.glb", "rb").read() == open(tmp_path / "b.glb", "rb").read() and again["rounds"] is not None
 
 

@@ -40,7 +40,8 @@ def digest(folder):
     return found.hexdigest()
 
 
-@pytest.mark.parametrize("crs, cell, x, y", [("EPSG:32632", 90.0, 400000.0, 5300000.0), ("EPSG:4326", 1 / 1200, 7.0, 60.0), ("EPSG:3857", 90.0, 800000.0, 6000000.0)])
+@pytest.mark.parametrize("crs, cell, x, y", [("EPSG:32632", 90.0, 400000.0, 5300000.0), ("EPSG:4326", 1 / 1200, 7.0, 60.0),
+                                             ("EPSG:3857", 90.0, 800000.0, 6000000.0)])
 def test_the_ground_is_within_the_errors_on_the_earth(tmp_path, rng, crs, cell, x, y):
     heights = hills(300, 500, relief=900)
     path = write_tif(tmp_path / "a.tif", heights, crs=crs, cell=cell, x=x, y=y)
@@ -58,7 +59,8 @@ def test_equal_points_of_neighbours_are_equal_and_bytes_do_not_hang_on_how_they_
     found = []
     for name, words in (("one", {}), ("depth", {"depth": 0}), ("two", {"workers": 2})):
         out = str(tmp_path / name)
-        tiles.build(tiles.plan_of(raster, out, error=1.0, tile=65, skirts=False, **{k: v for k, v in words.items() if k == "depth"}), workers=words.get("workers", 1))
+        depth = {k: v for k, v in words.items() if k == "depth"}
+        tiles.build(tiles.plan_of(raster, out, error=1.0, tile=65, skirts=False, **depth), workers=words.get("workers", 1))
         found.append(out)
     assert digest(found[0]) == digest(found[1]) == digest(found[2])
     root = np.array(json.load(open(found[0] + "/tileset.json"))["root"]["transform"]).reshape(4, 4).T
@@ -133,7 +135,8 @@ def test_quantized_mesh_comes_back(n, seed, error):
 def test_geocentric_is_that_of_proj(rng):
     from pyproj import Transformer
     lon, lat, h = rng.uniform(-180, 180, 50), rng.uniform(-90, 90, 50), rng.uniform(-100, 9000, 50)
-    assert np.allclose(systems.geocentric(lon, lat, h), np.column_stack(Transformer.from_crs(4979, 4978, always_xy=True).transform(lon, lat, h)), atol=1e-6)
+    want = np.column_stack(Transformer.from_crs(4979, 4978, always_xy=True).transform(lon, lat, h))
+    assert np.allclose(systems.geocentric(lon, lat, h), want, atol=1e-6)
 
 
 def test_terrain(tmp_path):
@@ -141,5 +144,6 @@ def test_terrain(tmp_path):
     told = quantized.terrain(open_raster(path), str(tmp_path / "q"), side=33)
     layer = json.load(open(tmp_path / "q/layer.json"))
     assert layer["maxzoom"] == told["zoom"] == len(layer["available"]) - 1
-    assert len(glob.glob(str(tmp_path / "q/*/*/*.terrain"))) == told["tiles"] == sum((it["endX"] - it["startX"] + 1) * (it["endY"] - it["startY"] + 1) for (it,) in layer["available"])
+    there = sum((it["endX"] - it["startX"] + 1) * (it["endY"] - it["startY"] + 1) for (it,) in layer["available"])
+    assert len(glob.glob(str(tmp_path / "q/*/*/*.terrain"))) == told["tiles"] == there
     quantized.decode(gzip.open(tmp_path / "q/0/1/0.terrain").read())
