@@ -77,6 +77,19 @@ impl<K: Copy + Ord> SlotHeap<K> {
         replace(&mut self.entries, &mut self.places, Entry { key, slot });
     }
 
+    /// Gives a key to a slot, in place of the one that it may have.
+    ///
+    /// Cost (not proved): as `put`.
+    pub fn set(&mut self, slot: Slot, key: K)
+        requires in_range { slot.0 < length self.old }
+        ensures { self.new ≡ slice_set self.old slot.0 (Some key) }
+    {
+        match self.key(slot) {
+            Some(_) => self.rekey(slot, key),
+            None => self.put(slot, key),
+        }
+    }
+
     /// A slot's key.
     pub fn key(&self, slot: Slot) -> Option<K>
         ensures { result ≡ key_of self.now slot }
