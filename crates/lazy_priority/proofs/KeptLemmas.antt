@@ -1,71 +1,20 @@
 -- What calls of the heap do to the deadlines that slots have.
-use Rattle.std.proofs.Common.{◌≡◌, ℕ, zero, suc, ◌<◌, ◌≤◌, List, [], ◌∷◌, length, replicate}
-use Rattle.std.proofs.Common.{get_or, Option, Some, None, IsSome, IsSomeAnd, option_map, true≢false, refl, sym, ◌∙◌, ap, subst}
-use Rattle.std.proofs.Common.{arith, rules, ◌⊎◌, inl, inr}
+use Rattle.std.proofs.Common.{◌≡◌, ℕ, zero, suc, ◌≤◌, List, [], ◌∷◌, length, replicate, get_or, Option, Some, None}
+use Rattle.std.proofs.Common.{IsSome, IsSomeAnd, option_map, true≢false, refl, sym, ◌∙◌, ap, subst, arith, rules}
+use Rattle.std.proofs.Common.{◌⊎◌, inl, inr}
 use Rattle.std.proofs.Math.ListN.{set}
 use Rattle.std.proofs.lemmas.List.{set-get_or, length-set, length-replicate}
-use Rattle.std.proofs.lemmas.Option.{none-some}
+use Rattle.slot_heap.proofs.ZipLemmas.{get_or-zip2_any}
 use Rattle.lazy_priority.specs.declared.deadlines.Deadline.{Deadline}
 use Rattle.lazy_priority.specs.declared.deadlines.Deadline.TheVariants.{Absent, Stands, Expired}
 use Rattle.lazy_priority.specs.Due.{NoneIsDue}
 use Rattle.lazy_priority.specs.Expired.{NoneExpired}
 use Rattle.lazy_priority.specs.Kept.{from_key, kept, HasKey, IsSoundLazy}
 
--- none at first
-pub kept-none : (n : ℕ) → kept (replicate n None) (replicate n Absent) ≡ replicate n None
-kept-none zero = refl
-kept-none (suc n) = ap (λ (xs : List (Option ℕ)). None ∷ xs) (kept-none n)
-
-pub length-kept : (keys : List (Option ℕ)) (deadlines : List Deadline) → length (kept keys deadlines) ≡ length keys
-length-kept [] deadlines = refl
-length-kept (key ∷ keys) [] = ap suc (length-kept keys [])
-length-kept (key ∷ keys) (one ∷ deadlines) = ap suc (length-kept keys deadlines)
-
 -- the odometer from which a slot is due
 pub kept-at : (keys : List (Option ℕ)) (deadlines : List Deadline) (i : ℕ) → length deadlines ≡ length keys →
     get_or (kept keys deadlines) i None ≡ from_key (get_or deadlines i Absent) (get_or keys i None)
-kept-at [] [] i same = refl
-kept-at [] (one ∷ deadlines) i same = absurd (omega arith)
-kept-at (key ∷ keys) [] i same = absurd (omega arith)
-kept-at (key ∷ keys) (one ∷ deadlines) zero same = refl
-kept-at (key ∷ keys) (one ∷ deadlines) (suc i) same = kept-at keys deadlines i (omega arith)
-
--- where key and deadline of a slot change
-pub kept-set : (keys : List (Option ℕ)) (deadlines : List Deadline) (i : ℕ) (key : Option ℕ) (one : Deadline) →
-    length deadlines ≡ length keys →
-    kept (set keys i key) (set deadlines i one) ≡ set (kept keys deadlines) i (from_key one key)
-kept-set [] [] i key one same = refl
-kept-set [] (_ ∷ deadlines) i key one same = absurd (omega arith)
-kept-set (_ ∷ keys) [] i key one same = absurd (omega arith)
-kept-set (_ ∷ keys) (_ ∷ deadlines) zero key one same = refl
-kept-set (it ∷ keys) (that ∷ deadlines) (suc i) key one same =
-    ap (λ (xs : List (Option ℕ)). from_key that it ∷ xs) (kept-set keys deadlines i key one (omega arith))
-
--- where the deadline alone does
-pub kept-deadline : (keys : List (Option ℕ)) (deadlines : List Deadline) (i : ℕ) (one : Deadline) →
-    length deadlines ≡ length keys →
-    kept keys (set deadlines i one) ≡ set (kept keys deadlines) i (from_key one (get_or keys i None))
-kept-deadline keys deadlines i one same =
-    ap (λ l. kept l (set deadlines i one)) (sym (set-get_or keys i None))
-    ∙ kept-set keys deadlines i (get_or keys i None) one same
-
--- where the key alone does
-pub kept-key : (keys : List (Option ℕ)) (deadlines : List Deadline) (i : ℕ) (key : Option ℕ) →
-    length deadlines ≡ length keys →
-    kept (set keys i key) deadlines ≡ set (kept keys deadlines) i (from_key (get_or deadlines i Absent) key)
-kept-key keys deadlines i key same =
-    ap (kept (set keys i key)) (sym (set-get_or deadlines i Absent))
-    ∙ kept-set keys deadlines i key (get_or deadlines i Absent) same
-
--- a key without a deadline goes
-pub kept-stale : (keys : List (Option ℕ)) (deadlines : List Deadline) (i : ℕ) → length deadlines ≡ length keys →
-    get_or deadlines i Absent ≡ Absent → kept (set keys i None) deadlines ≡ kept keys deadlines
-kept-stale keys deadlines i same none =
-    let gone : get_or (kept keys deadlines) i None ≡ None =
-    kept-at keys deadlines i same ∙ ap (λ it. from_key it (get_or keys i None)) none in
-    kept-key keys deadlines i None same
-    ∙ ap (λ it. set (kept keys deadlines) i (from_key it None)) none
-    ∙ ap (set (kept keys deadlines) i) (sym gone) ∙ set-get_or (kept keys deadlines) i None
+kept-at keys deadlines i = get_or-zip2_any from_key deadlines keys i Absent None
 
 -- where no key is due and no deadline has expired, no slot is due
 pub NoneIsDue-kept : (keys : List (Option ℕ)) (deadlines : List Deadline) (odometer : ℕ) →
@@ -86,20 +35,6 @@ pub absent : (one : Deadline) → (one ≡ Stands → ⊥) → (one ≡ Expired 
 absent Absent other fresh = refl
 absent Stands other fresh = absurd (other refl)
 absent Expired other fresh = absurd (fresh refl)
-
--- how many slots have a key
-abbrev pub how_many : List (Option ℕ) → ℕ
-how_many [] = 0
-how_many (None ∷ keys) = how_many keys
-how_many (Some _ ∷ keys) = suc (how_many keys)
-
-pub how_many-take : (keys : List (Option ℕ)) (i k : ℕ) → get_or keys i None ≡ Some k →
-    how_many (set keys i None) < how_many keys
-how_many-take [] i k some = absurd (none-some k some)
-how_many-take (None ∷ keys) zero k some = absurd (none-some k some)
-how_many-take (Some x ∷ keys) zero k some = omega arith
-how_many-take (None ∷ keys) (suc i) k some = how_many-take keys i k some
-how_many-take (Some x ∷ keys) (suc i) k some = let less = how_many-take keys i k some in omega arith
 
 -- ---- that there are keys where deadlines stand
 

@@ -1,6 +1,7 @@
 -- Deadlines whose keys are kept after they are dropped or have expired.
 -- Words: from_key, kept, HasKey, IsSoundLazy.
-use Rattle.std.specs.Prelude.{◌≡◌, ℕ, ⊤, List, [], ◌∷◌, Option, Some, None, IsSome, length, slice_index_or}
+use Rattle.std.specs.Prelude.{◌≡◌, ℕ, ⊤, List, Option, Some, None, IsSome, length, slice_index_or}
+use Rattle.std.specs.Simd.Lanes.{zip2}
 use Rattle.bintree_addr.specs.declared.slot.Slot.{Slot}
 use Rattle.slot_heap.specs.Keys.{key_of}
 use Rattle.lazy_priority.specs.declared.deadlines.Deadline.{Deadline}
@@ -14,9 +15,7 @@ from_key Expired key = Some 0
 
 -- that of each slot
 abbrev pub kept : List (Option ℕ) → List Deadline → List (Option ℕ)
-kept [] deadlines = []
-kept (key ∷ keys) [] = None ∷ kept keys []
-kept (key ∷ keys) (one ∷ deadlines) = from_key one key ∷ kept keys deadlines
+kept keys deadlines = zip2 from_key deadlines keys
 
 -- where the deadline stands, there is a key
 abbrev pub HasKey : Deadline → Option ℕ → Type 0

@@ -1,9 +1,10 @@
 use Rattle.std.proofs.Common.{rules, ◌≡◌, ℕ, List, Option, Some, None, option_map, slice_set, slice_index_or, refl, sym, ◌∙◌}
 use Rattle.std.proofs.Common.{ap, subst, ◌⊎◌}
 use Rattle.slot_heap.specs.Keys.{key_of}
+use Rattle.slot_heap.proofs.ZipLemmas.{zip2-set_left, zip2-set_right}
 use Rattle.lazy_priority.specs.declared.deadlines.Deadline.TheVariants.{Absent, Stands, Expired}
 use Rattle.lazy_priority.specs.Kept.{kept, HasKey, from_key, IsSoundLazy}
-use Rattle.lazy_priority.proofs.KeptLemmas.{kept-key, kept-deadline, kept-expired, kept-no_expire}
+use Rattle.lazy_priority.proofs.KeptLemmas.{kept-expired, kept-no_expire}
 use Rattle.lazy_priority.proofs.KeptLemmas.{IsSoundLazy-key, IsSoundLazy-deadline}
 use Rattle.lazy_priority.proofs.lazy.Lazy.expire.Goals as goal
 
@@ -41,7 +42,7 @@ returns-then-not-expire c =
     let some = subst (λ d. HasKey d (key_of keys c.args.slot)) stands (c.self.invariant.1 c.args.slot) in
     ap (λ l. kept l c.expire.new.self) c.rekey.ensures
     ∙ ap (kept (slice_set keys i (Some 0))) (c.if-not-expire.ensures.full refl)
-    ∙ kept-key keys deadlines i (Some 0) c.self.invariant.0
+    ∙ zip2-set_right from_key deadlines keys i (Some 0) Absent
     ∙ ap (λ d. slice_set (kept keys deadlines) i (from_key d (Some 0))) stands
     ∙ kept-expired keys deadlines i c.self.invariant.0 stands some ∙ ap (λ l. expired l i) c.self.view_is
 
@@ -53,7 +54,7 @@ returns-else-not-expire c =
     let stands : slice_index_or deadlines i Absent ≡ Stands = sym c.get.ensures ∙ c.in-Stands.is in
     let some = subst (λ d. HasKey d (key_of keys c.args.slot)) stands (c.self.invariant.1 c.args.slot) in
     ap (kept keys) (c.if-not-expire.ensures.noted refl)
-    ∙ kept-deadline keys deadlines i Expired c.self.invariant.0
+    ∙ zip2-set_left from_key deadlines keys i Expired None
     ∙ kept-expired keys deadlines i c.self.invariant.0 stands some ∙ ap (λ l. expired l i) c.self.view_is
 
 pub returns-in-Absent : goal.returns-in-Absent

@@ -1,7 +1,8 @@
 use Rattle.std.proofs.Common.{rules, None, slice_set, sym, ◌∙◌, ap, subst}
+use Rattle.slot_heap.proofs.ZipLemmas.{zip2-set_left}
 use Rattle.lazy_priority.specs.declared.deadlines.Deadline.TheVariants.{Absent}
-use Rattle.lazy_priority.specs.Kept.{kept, IsSoundLazy}
-use Rattle.lazy_priority.proofs.KeptLemmas.{kept-deadline, IsSoundLazy-deadline}
+use Rattle.lazy_priority.specs.Kept.{kept, from_key, IsSoundLazy}
+use Rattle.lazy_priority.proofs.KeptLemmas.{IsSoundLazy-deadline}
 use Rattle.lazy_priority.proofs.lazy.Lazy.forget.Goals as goal
 
 pub invariant_of-self : goal.invariant_of-self
@@ -12,5 +13,5 @@ invariant_of-self c =
 pub returns : goal.returns
 returns c =
     ap (kept c.self.inside.due_from) c.clear.ensures
-    ∙ kept-deadline c.self.inside.due_from c.self.inside.deadlines c.args.slot.0 Absent c.self.invariant.0
+    ∙ zip2-set_left from_key c.self.inside.deadlines c.self.inside.due_from c.args.slot.0 Absent None
     ∙ ap (λ l. slice_set l c.args.slot.0 None) c.self.view_is

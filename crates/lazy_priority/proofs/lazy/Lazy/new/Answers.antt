@@ -1,6 +1,8 @@
 use Rattle.std.proofs.Common.{◌∙◌, ap₂, sym, subst, None, replicate}
-use Rattle.lazy_priority.specs.Kept.{kept, IsSoundLazy}
-use Rattle.lazy_priority.proofs.KeptLemmas.{kept-none, IsSoundLazy-none}
+use Rattle.slot_heap.proofs.ZipLemmas.{zip2-replicate}
+use Rattle.lazy_priority.specs.declared.deadlines.Deadline.TheVariants.{Absent}
+use Rattle.lazy_priority.specs.Kept.{kept, from_key, IsSoundLazy}
+use Rattle.lazy_priority.proofs.KeptLemmas.{IsSoundLazy-none}
 use Rattle.lazy_priority.proofs.lazy.Lazy.new.Goals as goal
 
 pub invariant_of-result : goal.invariant_of-result
@@ -9,4 +11,4 @@ invariant_of-result c =
     (subst (IsSoundLazy (replicate c.args.slots None)) (sym c.in_ok-new-2.ensures) (IsSoundLazy-none c.args.slots))
 
 pub returns : goal.returns
-returns c = ap₂ kept c.in_ok-new.ensures c.in_ok-new-2.ensures ∙ kept-none c.args.slots
+returns c = ap₂ kept c.in_ok-new.ensures c.in_ok-new-2.ensures ∙ zip2-replicate from_key c.args.slots Absent None
