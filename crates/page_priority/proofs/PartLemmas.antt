@@ -1,6 +1,7 @@
 -- The box, the priority and the reading of a triangle by the parts that the code finds.
 use Rattle.std.proofs.Common.{◌≡◌, ℕ, Bool, cond, IsTrue, refl, ◌∙◌, sym}
 use Rattle.mesh_defs.specs.declared.mark.Mark.{Mark}
+use Rattle.mesh_defs.specs.declared.point.Corners.{Corners}
 use Rattle.mesh_defs.specs.Triangle.{corners_of}
 use Rattle.mesh_defs.specs.Priority.{above, seen_ratio}
 use Rattle.view_priority.specs.Bounds.{box_over}
@@ -10,10 +11,11 @@ use Rattle.page_priority.specs.Loaded.{LoadedState, is_open, loaded_wedge, loade
 use Rattle.page_priority.specs.Loaded.{loaded_priority}
 
 -- the box over the corners, from the least to the greatest height
-pub loaded_box-by_parts : (s : LoadedState) (n a : ℕ) (wedge : KnownWedge) → n ≡ s.pages.large →
-    wedge ≡ loaded_wedge s a → box_over s.view.spacing (corners_of n a) wedge.low wedge.high ≡ loaded_box s a
+pub loaded_box-by_parts : (s : LoadedState) (a : ℕ) (corners : Corners) (wedge : KnownWedge) →
+    corners ≡ corners_of s.pages.large a → wedge ≡ loaded_wedge s a →
+    box_over s.view.spacing corners wedge.low wedge.high ≡ loaded_box s a
 unfolding known_box
-loaded_box-by_parts s n a wedge n_is wedge_is = rw (n_is, wedge_is) refl
+loaded_box-by_parts s a corners wedge corners_is wedge_is = rw (corners_is, wedge_is) refl
 
 opened-is : (b : Bool) (p : ℕ) → IsTrue b → cond b p 0 ≡ p
 opened-is b p is = rw is refl

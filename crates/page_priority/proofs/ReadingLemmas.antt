@@ -1,5 +1,5 @@
 -- What a reading tells of priorities from other places, and where two states have the same priorities.
-use Rattle.std.proofs.Common.{◌≡◌, ◌↔◌, ℕ, ◌+◌, ◌-◌, ◌/◌, ◌≤◌, Bool, true, false, cond, IsTrue, List, refl, sym}
+use Rattle.std.proofs.Common.{◌≡◌, ◌↔◌, ℕ, ◌+◌, ◌-◌, ◌≤◌, Bool, true, false, cond, IsTrue, List, refl, sym}
 use Rattle.std.proofs.Common.{◌∙◌, ap, subst, arith}
 use Rattle.std.proofs.lemmas.Bool.{false≢true}
 use Rattle.mesh_defs.specs.declared.mark.Mark.{Mark}
@@ -16,7 +16,7 @@ use Rattle.view_priority.specs.Bounds.{box_priority_at, box_priority, viewed_fro
 use Rattle.page_laws.specs.Pages.{is_known}
 use Rattle.page_laws.specs.Loaded.{known_wedge, known_box, known_priority}
 use Rattle.page_priority.specs.Loaded.{LoadedState, is_open, loaded_wedge, loaded_box, loaded_mark, loaded_distance}
-use Rattle.page_priority.specs.Loaded.{loaded_priority, loaded_readings, loaded_from}
+use Rattle.page_priority.specs.Loaded.{loaded_priority, slack_at, loaded_readings, loaded_from}
 use Rattle.page_priority.specs.Loaded.{loaded_within}
 
 -- readings
@@ -29,7 +29,7 @@ open-slack : (b : Bool) (i j : ℕ) → IsTrue b → cond b i j ≡ i
 open-slack true i j is = refl
 open-slack false i j is = absurd (false≢true is)
 
-module _ (s : LoadedState) (to : CameraAt) (a : ℕ)
+module _ (pace : ℕ) (s : LoadedState) (to : CameraAt) (a : ℕ)
     (above_lo : (view : View) (to : CameraAt) (box : BoundingBox) (thickness slack : ℕ) → IsOrdered box →
     move_length view.camera to ≤ slack → box_priority_at view box thickness (distance_of box view.camera + slack)
     ≤ box_priority (viewed_from to view) box thickness)
@@ -38,11 +38,11 @@ module _ (s : LoadedState) (to : CameraAt) (a : ℕ)
     ≤ box_priority_at view box thickness (distance_of box view.camera - slack))
     (ordered : IsOrdered (loaded_box s a)) where
   -- within the slack of its reading the priority is between its bounds
-  pub in-reading : (odometer : ℕ) → move_length s.view.camera to ≤ (loaded_readings s).slack a →
-      IsInStamp (stamp_now (loaded_readings s) odometer a) (loaded_priority (loaded_from to s) a)
+  pub in-reading : (odometer : ℕ) → move_length s.view.camera to ≤ (loaded_readings pace s).slack a →
+      IsInStamp (stamp_now (loaded_readings pace s) odometer a) (loaded_priority (loaded_from to s) a)
   unfolding known_priority
   in-reading odometer within =
-      let slack = loaded_distance s a / 8 in
+      let slack = slack_at pace (loaded_distance s a) in
       let near : IsTrue (is_open s a) → move_length s.view.camera to ≤ slack =
       λ is. subst (λ k. move_length s.view.camera to ≤ k) (open-slack (is_open s a) slack _ is) within in
       record {

@@ -2,8 +2,9 @@
 -- Source: Duchaineau et al., "ROAMing Terrain", IEEE Visualization 1997, the parts on priority queues and on deferred
 -- priority lists; that what is not open has priority 0 is this project's own.
 -- Words: LoadedState, is_open, loaded_wedge, loaded_box, loaded_mark, loaded_distance, loaded_priority_at,
--- loaded_priority, loaded_priorities, loaded_readings, loaded_from, loaded_within.
-use Rattle.std.specs.Prelude.{ℕ, ◌+◌, ◌-◌, ◌/◌, Bool, cond, List}
+-- loaded_priority, loaded_priorities, halvings, slack_at, loaded_readings, loaded_from, loaded_within.
+use Rattle.std.specs.Prelude.{ℕ, ◌+◌, ◌-◌, ◌/◌, ◌^◌, min, max, Bool, cond, List}
+use Rattle.std.specs.Int.{w64, leading_zeros}
 use Rattle.mesh_defs.specs.declared.mark.Mark.{Mark}
 use Rattle.mesh_defs.specs.declared.point.Point.{Point}
 use Rattle.mesh_defs.specs.BoundingBox.{BoundingBox, CameraAt, distance_of}
@@ -56,13 +57,22 @@ loaded_priority s = opened (is_open s) (known_priority s.pages.large s.height (i
 abbrev pub loaded_priorities : LoadedState → Priorities
 loaded_priorities s = record { n = s.pages.large; of = loaded_priority s }
 
--- and its readings: the slack is an eighth of the distance, and the bounds are the priorities at the ends of the slack;
--- what is not open has priority 0 from each place
-abbrev pub loaded_readings : LoadedState → Readings
-loaded_readings s = record {
-  slack = λ a. cond (is_open s a) (loaded_distance s a / 8) LONGEST_SLACK;
-  upper = λ a. loaded_priority_at s a (loaded_distance s a - loaded_distance s a / 8);
-  lower = λ a. loaded_priority_at s a (loaded_distance s a + loaded_distance s a / 8);
+-- how often a distance is halved to be a slack, for a camera of this pace: half as often as the pace is doubled to be
+-- about as long as the distance, but at least three times and at most eight
+abbrev pub halvings : ℕ → ℕ → ℕ
+halvings pace distance = min (max ((leading_zeros w64 pace + 1 - leading_zeros w64 distance) / 2) 3) 8
+
+-- the slack of a reading: about the geometric mean of pace and distance
+abbrev pub slack_at : ℕ → ℕ → ℕ
+slack_at pace distance = distance / 2 ^ halvings pace distance
+
+-- and its readings, for a camera of this pace: the bounds are the priorities at the ends of the slack; what is not open
+-- has priority 0 from each place
+abbrev pub loaded_readings : ℕ → LoadedState → Readings
+loaded_readings pace s = record {
+  slack = λ a. cond (is_open s a) (slack_at pace (loaded_distance s a)) LONGEST_SLACK;
+  upper = λ a. loaded_priority_at s a (loaded_distance s a - slack_at pace (loaded_distance s a));
+  lower = λ a. loaded_priority_at s a (loaded_distance s a + slack_at pace (loaded_distance s a));
 }
 
 -- the same, viewed from another place

@@ -71,11 +71,11 @@ pub fn nesting_laws()
 pub fn loaded_laws()
     ensures falls { (s : LoadedState) → IsPyramid s.pages →
         IsFalling (loaded_priorities s).n (loaded_priorities s).of }
-    ensures between { (s : LoadedState) (odometer : ℕ) (to : CameraAt) (a : ℕ) →
-        move_length s.view.camera to ≤ (loaded_readings s).slack a →
-        IsInStamp (stamp_now (loaded_readings s) odometer a) (loaded_priority (loaded_from to s) a) }
-    ensures readings { (s : LoadedState) (odometer : ℕ) →
-        ReadingsHold (loaded_priorities s).n (loaded_priorities s).of odometer (loaded_readings s) }
+    ensures between { (pace : ℕ) (s : LoadedState) (odometer : ℕ) (to : CameraAt) (a : ℕ) →
+        move_length s.view.camera to ≤ (loaded_readings pace s).slack a →
+        IsInStamp (stamp_now (loaded_readings pace s) odometer a) (loaded_priority (loaded_from to s) a) }
+    ensures readings { (pace : ℕ) (s : LoadedState) (odometer : ℕ) →
+        ReadingsHold (loaded_priorities s).n (loaded_priorities s).of odometer (loaded_readings pace s) }
     ensures same { (s other : LoadedState) (to : CameraAt) (a : ℕ) → other.view ≡ s.view →
         other.pages.large ≡ s.pages.large → is_open other a ≡ is_open s a →
         (IsTrue (is_open s a) → loaded_wedge other a ≡ loaded_wedge s a) →

@@ -8,6 +8,7 @@ ghost use Rattle.page_priority.specs.Loaded.{is_open, loaded_wedge, loaded_box, 
 ghost use Rattle.page_priority.specs.Loaded.{loaded_priority, loaded_readings};
 ghost use Rattle.page_priority.specs.Scene.{loaded_in};
 
+use crate::reach::slack_at;
 use crate::{LONGEST_SLACK, Viewpoint, nesting_laws};
 use bintree_addr::{Cuboid, Rank, Tri};
 use page_store::PageStore;
@@ -51,22 +52,23 @@ impl<'a> LoadedScene<'a> {
 
     /// The slack of a triangle's reading and the bounds for it. The meter counts one more.
     ///
-    /// At each place of the camera on a way no longer than the slack, the priority lies between the bounds.
+    /// At each place of the camera on a way no longer than the slack, the priority lies between the bounds. The pace is the
+    /// camera's way from frame to frame, in world units.
     /// Cost (not proved): that of `rank`.
-    pub fn bounds_by_slack(&self, t: Tri, meter: &mut Meter) -> (u64, Bounds)
+    pub fn bounds_by_slack(&self, t: Tri, pace: u64, meter: &mut Meter) -> (u64, Bounds)
         requires level { level_of t ≤ 2 * self.now.store.large }
-        ensures slack { result.0 ≡ (loaded_readings (loaded_in self.now)).slack t }
+        ensures slack { result.0 ≡ (loaded_readings pace (loaded_in self.now)).slack t }
         ensures small { result.0 ≤ LONGEST_SLACK }
         ensures hi_tri { result.1.hi.tri ≡ t }
         ensures lo_tri { result.1.lo.tri ≡ t }
-        ensures hi { result.1.hi.p ≡ (loaded_readings (loaded_in self.now)).upper t }
-        ensures lo { result.1.lo.p ≡ (loaded_readings (loaded_in self.now)).lower t }
+        ensures hi { result.1.hi.p ≡ (loaded_readings pace (loaded_in self.now)).upper t }
+        ensures lo { result.1.lo.p ≡ (loaded_readings pace (loaded_in self.now)).lower t }
         ensures count { meter.new ≡ counted meter.old }
     {
         meter.tick();
         match self.factors(t) {
             Some(factors) => {
-                let slack = factors.distance / 8;
+                let slack = slack_at(pace, factors.distance);
                 (slack, factors.bounds(t, slack))
             }
             None => {
@@ -89,9 +91,9 @@ impl<'a> LoadedScene<'a> {
         ensures reach { IfSome result (λ c. IsWithinReach (2 ^ 24) (as_box c)) }
     {
         nesting_laws();
-        let wedge = self.store.wedge(t)?;
-        let n = self.store.large();
-        Some(self.viewpoint.cuboid(n, t, wedge.low, wedge.high))
+        let corners = t.corners(self.store.large());
+        let wedge = self.store.wedge(t, corners)?;
+        Some(self.viewpoint.cuboid(corners, wedge.low, wedge.high))
     }
 
     /// What decides the priority of a triangle, if it is open.
@@ -105,7 +107,8 @@ impl<'a> LoadedScene<'a> {
         ensures threshold { IfSome result (λ f. f.threshold ≡ self.now.view.threshold) }
     {
         nesting_laws();
-        let wedge = self.store.wedge(t)?;
-        Some(self.viewpoint.factors(self.store.large(), t, wedge))
+        let corners = t.corners(self.store.large());
+        let wedge = self.store.wedge(t, corners)?;
+        Some(self.viewpoint.factors(corners, wedge))
     }
 }

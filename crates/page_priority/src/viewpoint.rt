@@ -1,14 +1,14 @@
 //! How a terrain is viewed.
 
-ghost use Rattle.std.specs.Prelude.{◌≡◌, ◌*◌, ◌<◌, ◌≤◌, ◌^◌};
+ghost use Rattle.std.specs.Prelude.{◌≡◌, ◌<◌, ◌≤◌, ◌^◌};
 ghost use Rattle.mesh_defs.specs.BoundingBox.{distance_of};
-ghost use Rattle.mesh_defs.specs.Triangle.{level_of, corners_of};
 ghost use Rattle.mesh_defs.specs.View.{mark_of};
 ghost use Rattle.mesh_defs.specs.declared.level.TheConstants.{GREATEST_LEVEL};
+ghost use Rattle.bintree_laws.specs.Corners.{IsWithin};
 ghost use Rattle.cull_marks.specs.Cuboid.{as_box, IsWithinReach};
 ghost use Rattle.view_priority.specs.Bounds.{box_over};
 
-use bintree_addr::{Cuboid, Tri};
+use bintree_addr::{Corners, Cuboid};
 use cull_marks::Planes;
 use page_laws::KnownWedge;
 use std::marker::Model;
@@ -42,22 +42,21 @@ impl<'a> Model for Viewpoint<'a> {
 }
 
 impl<'a> Viewpoint<'a> {
-    /// What decides the priority of a triangle with this wedge, in a grid of 2^n steps a side.
+    /// What decides the priority of a triangle with these corners and this wedge.
     ///
-    /// Cost (not proved): a step a level, two corners of the box at each plane, and a square root.
-    pub fn factors(&self, n: u32, t: Tri, wedge: KnownWedge) -> Factors
-        requires in_grid { (1 ≤ n) × (n ≤ GREATEST_LEVEL) }
-        requires level { level_of t ≤ 2 * n }
+    /// Cost (not proved): two corners of the box at each plane, and a square root.
+    pub fn factors(&self, corners: Corners, wedge: KnownWedge) -> Factors
+        requires within { IsWithin (2 ^ GREATEST_LEVEL) corners }
         requires ordered { wedge.low ≤ wedge.high }
         ensures mark { result.mark
-            ≡ mark_of self.now.planes (box_over self.now.spacing (corners_of n t) wedge.low wedge.high) }
+            ≡ mark_of self.now.planes (box_over self.now.spacing corners wedge.low wedge.high) }
         ensures thickness { result.thickness ≡ wedge.thickness }
         ensures distance { result.distance
-            ≡ distance_of (box_over self.now.spacing (corners_of n t) wedge.low wedge.high) self.now.camera }
+            ≡ distance_of (box_over self.now.spacing corners wedge.low wedge.high) self.now.camera }
         ensures bounded { result.distance < 2 ^ 31 }
         ensures threshold { result.threshold ≡ self.now.threshold }
     {
-        let cuboid = self.cuboid(n, t, wedge.low, wedge.high);
+        let cuboid = self.cuboid(corners, wedge.low, wedge.high);
         Factors {
             mark: self.planes.mark(&cuboid),
             thickness: wedge.thickness,
@@ -66,14 +65,13 @@ impl<'a> Viewpoint<'a> {
         }
     }
 
-    /// The box around the part of the surface that a triangle with these heights stands for.
-    pub(crate) fn cuboid(&self, n: u32, t: Tri, low: u16, high: u16) -> Cuboid
-        requires in_grid { (1 ≤ n) × (n ≤ GREATEST_LEVEL) }
-        requires level { level_of t ≤ 2 * n }
+    /// The box around the part of the surface that a triangle with these corners and heights stands for.
+    pub(crate) fn cuboid(&self, corners: Corners, low: u16, high: u16) -> Cuboid
+        requires within { IsWithin (2 ^ GREATEST_LEVEL) corners }
         requires ordered { low ≤ high }
-        ensures value { as_box result ≡ box_over self.now.spacing (corners_of n t) low high }
+        ensures value { as_box result ≡ box_over self.now.spacing corners low high }
         ensures reach { IsWithinReach (2 ^ 24) (as_box result) }
     {
-        box_around(t.corners(n), self.spacing, low, high)
+        box_around(corners, self.spacing, low, high)
     }
 }

@@ -92,6 +92,23 @@ module _ {s : Store} {x p k : ℕ} {t : Point} {page : Page} (i : IsTable s) (f 
         (subst (λ u. HasCorners s.n (top_of s - p) u (corners_of (s.n + (top_of s - p) + p) x)) f.square
         (square-corners s.n (top_of s - p) p x i.some low f.deep last))
 
+    -- below the halves they are those of a triangle of the page's grid
+    pub found-local : level_of x ≤ 2 * (p + s.n) → 2 * p < level_of x →
+        local_corners s.n (top_of s - p) t (corners_of s.large x) ≡ corners_of s.n (local_of p x)
+    found-local last deep =
+        let coarse = f.coarse in
+        let fits = i.fits in
+        let e : s.n + (top_of s - p) + p ≡ s.large = omega arith in
+        let h : HasCorners s.n (top_of s - p) t (corners_of s.large x) = record {
+          corners = corners_of s.n (local_of p x);
+          within = IsWithin-corners_of s.n (local_of p x);
+          are = subst (λ k. corners_of k x ≡ page_corners s.n (top_of s - p) t (corners_of s.n (local_of p x))) e
+              (corners-inside s.n (top_of s - p) p x low deep last
+              ∙ ap (λ u. page_corners s.n (top_of s - p) u (corners_of s.n (local_of p x)))
+              (sym (tile-self p x low deep) ∙ f.square));
+        } in
+        local-are h
+
     -- whether the triangle is in reach
 
     -- the page of a parent below the halves is that of the child
@@ -262,6 +279,21 @@ module _ {s : Store} {x p k : ℕ} {t : Point} {page : Page} (i : IsTable s) (f 
       (subst (λ q. HasCorners s.n q t terrain) (sym q-is)
       (subst (HasCorners s.n (top_of s - p) t) (sym (terrain-is ∙ ap (λ m. corners_of m x) large-is))
       (found-corners i f low (omega arith))))
+
+  -- a known triangle has its corners there
+  pub known-last : IsFinest s x p → IsTrue (known_in s x) → level_of x ≤ 2 * (p + n)
+  known-last finest known =
+      let less : level_of x < 2 * (p + s.n) = ltb-true (level_of x) (2 * (p + s.n))
+      (sym (found-known i f low finest) ∙ known) in
+      omega arith
+
+  pub told-local : level_of x ≤ 2 * (p + n) → 2 * p < level_of x →
+      local_corners n (large - n - p) t terrain ≡ corners_of s.n (local_of p x)
+  told-local last deep =
+      ap (λ (m : ℕ × Corners). local_corners m.0 (large - n - p) t m.1)
+      (ap₂ (λ (m : ℕ) (c : Corners). (m, c)) n-is (terrain-is ∙ ap (λ m. corners_of m x) large-is))
+      ∙ ap (λ q. local_corners s.n q t (corners_of s.large x)) q-is
+      ∙ found-local i f low (omega arith) deep
 
   pub told-triangle : IsFinest s x p →
       record { q = large - n - p; square = t; corners = local_corners n (large - n - p) t terrain } ≡ page_triangle s x

@@ -44,7 +44,10 @@ impl Table {
         let below = part.below(2 * side);
         match self.page_in(cuts + 1, below.square) {
             Some(finer) => finer.half(is_upper(below.quarter)),
-            None => page.own(grandchild(part.quarter, side)),
+            None => {
+                let tri = grandchild(part.quarter, side);
+                page.own(tri, tri.corners(page.grid().n()))
+            }
         }
     }
 }

@@ -58,7 +58,7 @@ impl Table {
 }
 
 /// Corners of the terrain, in the grid of a page that has them.
-fn local_corners(n: u32, q: u32, square: Point, corners: Corners) -> Corners
+pub(crate) fn local_corners(n: u32, q: u32, square: Point, corners: Corners) -> Corners
     requires side { n ≤ 14 }
     requires resolution { q ≤ 14 }
     requires apex { IsPagePoint n q square corners.apex }

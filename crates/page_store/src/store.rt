@@ -5,7 +5,7 @@ ghost use Rattle.std.specs.Prelude.{OnErr, IfSome, IsSome, Some, None};
 ghost use Rattle.std.specs.Option.{option_copied};
 ghost use Rattle.mesh_defs.specs.declared.level.TheConstants.{GREATEST_LEVEL};
 ghost use Rattle.mesh_defs.specs.declared.point.Point.{Point};
-ghost use Rattle.mesh_defs.specs.Triangle.{level_of};
+ghost use Rattle.mesh_defs.specs.Triangle.{level_of, corners_of};
 ghost use Rattle.roam_lanes.specs.Raising.{least_change, greatest_change};
 ghost use Rattle.wedgie_tree.specs.Edits.{area_between};
 ghost use Rattle.page_laws.specs.Pages.{IsLoadedPoint};
@@ -22,7 +22,7 @@ ghost use Rattle.page_store.specs.Unload.{IsFree, IsUnloadFault};
 use crate::load::LoadFault;
 use crate::table::{Table, is_turned};
 use crate::unload::UnloadFault;
-use bintree_addr::Tri;
+use bintree_addr::{Corners, Tri};
 use mesh_defs::{NoMemory, Point};
 use page_laws::KnownWedge;
 use page_wedges::PageWedges;
@@ -96,11 +96,12 @@ impl PageStore {
 
     /// The thickness, least and greatest height of a triangle over all that is loaded, where it can be split.
     ///
-    /// None where it or its mate is not known: such a triangle has priority 0.
+    /// None where it or its mate is not known: such a triangle has priority 0. The caller has its corners.
     /// Cost (not proved): a step for each resolution down to the finest page of the triangle, then that of its wedge;
     /// at the last level of a page, that of the mate too.
-    pub fn wedge(&self, tri: Tri) -> Option<KnownWedge>
+    pub fn wedge(&self, tri: Tri, corners: Corners) -> Option<KnownWedge>
         requires level { level_of tri ≤ 2 * self.now.large }
+        requires of_tri { corners ≡ corners_of self.now.large tri }
         ensures opened { IsSome result ↔ IsTrue (with_known_mate (known_in self.now) tri) }
         ensures value { IfSome result (λ w. w
             ≡ known_wedge self.now.large (height_in self.now) (known_in self.now) tri) }
@@ -110,7 +111,7 @@ impl PageStore {
         if !self.table.is_open(tri, found) {
             return None;
         }
-        Some(self.table.wedge_in(tri, found))
+        Some(self.table.wedge_in(tri, corners, found))
     }
 
     /// Loads a page. It comes back with the fault where it is not loaded.

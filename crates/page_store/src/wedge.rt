@@ -1,7 +1,7 @@
 //! Whether a triangle can be split, and its wedge, by the finest page that it lies in.
 
 ghost use Rattle.std.specs.Prelude.{◌≡◌, ◌+◌, ◌-◌, ◌*◌, ◌^◌, ◌%◌, ◌<◌, ◌≤◌, ◌↔◌, IsTrue, IfSome, IsSome, nat_eq, ◌||◌};
-ghost use Rattle.mesh_defs.specs.Triangle.{level_of};
+ghost use Rattle.mesh_defs.specs.Triangle.{level_of, corners_of};
 ghost use Rattle.page_laws.specs.Opened.{with_known_mate};
 ghost use Rattle.page_laws.specs.Loaded.{known_wedge};
 ghost use Rattle.page_wedges.specs.declared.join.TheConstants.{THICKEST};
@@ -9,17 +9,19 @@ ghost use Rattle.page_store.specs.Store.{top_of, height_in, known_in, AreJoined}
 ghost use Rattle.page_store.specs.Walk.{IsFound, IsFinest};
 
 use crate::find::Found;
+use crate::locate::local_corners;
 use crate::table::Table;
-use bintree_addr::Tri;
+use bintree_addr::{Corners, Tri};
 use page_laws::KnownWedge;
 use page_wedges::terrain_laws;
 
 impl Table {
-    /// The wedge of a known triangle, by the finest page that it lies in.
-    pub(crate) fn wedge_in(&self, tri: Tri, found: Found<'_>) -> KnownWedge
+    /// The wedge of a known triangle with these corners, by the finest page that it lies in.
+    pub(crate) fn wedge_in(&self, tri: Tri, corners: Corners, found: Found<'_>) -> KnownWedge
         requires found { IsFound self.now tri found.cuts found.part.quarter found.part.square found.page.now }
         requires finest { IsFinest self.now tri found.cuts }
         requires known { IsTrue (known_in self.now tri) }
+        requires of_tri { corners ≡ corners_of self.now.large tri }
         requires joined { AreJoined self.now (top_of self.now - found.cuts) found.part.square found.page.now }
         ensures value { result ≡ known_wedge self.now.large (height_in self.now) (known_in self.now) tri }
         ensures thin { result.thickness ≤ THICKEST }
@@ -31,7 +33,11 @@ impl Table {
         match tri.level() - 2 * found.cuts {
             0 => found.page.half(is_upper(quarter)),
             1 => found.page.quarter(quarter),
-            below => found.page.own(local(quarter, number, below - 1)),
+            below => {
+                let q = self.large - self.n - found.cuts;
+                let inside = local_corners(self.n, q, found.part.square, corners);
+                found.page.own(local(quarter, number, below - 1), inside)
+            }
         }
     }
 

@@ -9,7 +9,7 @@ ghost use Rattle.page_wedges.specs.declared.join.TheConstants.{THICKEST};
 ghost use Rattle.page_wedges.specs.Page.{own_wedge, quarter_in, with_quarter, joined_in, half_in, IsAlone};
 
 use crate::join::{THICKEST, half_square, joined};
-use bintree_addr::{Tri, corner_laws, level_laws};
+use bintree_addr::{Corners, Tri, corner_laws, level_laws};
 use mesh_defs::NoMemory;
 use page_laws::KnownWedge;
 use pgm_grid::Grid;
@@ -23,6 +23,13 @@ use wedgie_tree::{Area, Wedges, wedge_laws};
 /// the quarter that it has, the lower (0) or the upper one (1).
 #[derive(Debug, Drop)]
 pub struct PageWedges {
+    /// On the heap, so that a place for a page takes no more than a pointer.
+    parts: Box<Parts>,
+}
+
+/// The wedges of the grid, the diagonal, and the wedges of the quarters.
+#[derive(Debug, Drop)]
+struct Parts {
     own: Wedges,
     turned: bool,
     lower: KnownWedge,
@@ -37,17 +44,17 @@ impl Model for PageWedges {
     ghost Value = { Page };
 
     ghost view = { λ w. record {
-      field = w.own;
-      turned = w.turned;
-      lower = w.lower;
-      left = w.left;
-      upper = w.upper;
-      right = w.right;
+      field = w.parts.value.own;
+      turned = w.parts.value.turned;
+      lower = w.parts.value.lower;
+      left = w.parts.value.left;
+      upper = w.parts.value.upper;
+      right = w.parts.value.right;
     } };
 
     ghost use Rattle.page_wedges.specs.Page.{AreThin};
 
-    ghost invariant = { λ w. AreThin w.lower w.left w.upper w.right };
+    ghost invariant = { λ w. AreThin w.parts.value.lower w.parts.value.left w.parts.value.upper w.parts.value.right };
 }
 
 impl PageWedges {
@@ -65,13 +72,16 @@ impl PageWedges {
             low: 0,
             high: 0,
         };
-        let mut page = PageWedges {
+        let parts = Parts {
             own: Wedges::build(alloc, grid)?,
             turned,
             lower: flat,
             left: flat,
             upper: flat,
             right: flat,
+        };
+        let mut page = PageWedges {
+            parts: Box::new(alloc, parts)?,
         };
         page.read_quarters();
         Ok(page)
@@ -87,12 +97,13 @@ impl PageWedges {
         } }
         ensures alone { IsAlone self.new }
     {
+        let parts: &mut Parts = &mut self.parts;
         // The grid has a first level.
-        let _some = self.own.grid();
-        self.lower = own_of(&self.own, quarter(0));
-        self.left = own_of(&self.own, quarter(1));
-        self.upper = own_of(&self.own, quarter(2));
-        self.right = own_of(&self.own, quarter(3));
+        let _some = parts.own.grid();
+        parts.lower = quarter_of(&parts.own, 0);
+        parts.left = quarter_of(&parts.own, 1);
+        parts.upper = quarter_of(&parts.own, 2);
+        parts.right = quarter_of(&parts.own, 3);
     }
 
     /// Makes `h` the height of a point.
@@ -110,7 +121,7 @@ impl PageWedges {
         ensures turned { self.new.turned ≡ self.old.turned }
         ensures alone { IsAlone self.new }
     {
-        self.own.set(x, y, h);
+        self.parts.own.set(x, y, h);
         self.read_quarters();
     }
 
@@ -130,7 +141,7 @@ impl PageWedges {
         ensures turned { self.new.turned ≡ self.old.turned }
         ensures alone { IsAlone self.new }
     {
-        self.own.raise(area, dz);
+        self.parts.own.raise(area, dz);
         self.read_quarters();
     }
 
@@ -139,25 +150,27 @@ impl PageWedges {
         ensures value { result.now ≡ self.now.field }
         ensures valid { IsHeightField self.now.field }
     {
-        self.own.grid()
+        self.parts.own.grid()
     }
 
     /// Says which diagonal cuts the page's square: a page may be built before its place in the terrain is known.
     pub fn cut_by(&mut self, turned: bool)
         ensures value { self.new ≡ record self.old { turned = turned } }
     {
-        self.turned = turned;
+        self.parts.turned = turned;
     }
 
     /// The wedge of a triangle by the page's heights alone, which it has where no finer page lies in its part.
     ///
-    /// Cost (not proved): a read, or at the last levels at most 15 heights.
-    pub fn own(&self, tri: Tri) -> KnownWedge
+    /// The caller has its corners.
+    /// Cost (not proved): a read, or at the last levels a step for each of at most 15 heights.
+    pub fn own(&self, tri: Tri, corners: Corners) -> KnownWedge
         requires level { level_of tri ≤ 2 * self.now.field.n }
+        requires of_tri { corners ≡ corners_of self.now.field.n tri }
         ensures value { result ≡ own_wedge self.now.field tri }
         ensures bounded { result.thickness ≤ THICKEST }
     {
-        own_of(&self.own, tri)
+        own_of(&self.parts.own, tri, corners)
     }
 
     /// The wedge of a quarter, from the lower one (0) clockwise.
@@ -167,10 +180,10 @@ impl PageWedges {
         ensures bounded { result.thickness ≤ THICKEST + 131070 }
     {
         match k {
-            0 => self.lower,
-            1 => self.left,
-            2 => self.upper,
-            _ => self.right,
+            0 => self.parts.lower,
+            1 => self.parts.left,
+            2 => self.parts.upper,
+            _ => self.parts.right,
         }
     }
 
@@ -182,13 +195,10 @@ impl PageWedges {
         ensures bounded { result.thickness ≤ THICKEST + 2 * 131070 }
     {
         let (first, second) = self.children_of(upper);
-        let side = self.own.grid().side() as u32 - 1;
-        joined(
-            self.own.grid(),
-            half_square(side, self.turned, upper),
-            first,
-            second,
-        )
+        let parts: &Parts = &self.parts;
+        let grid = parts.own.grid();
+        let side = grid.side() as u32 - 1;
+        joined(grid, half_square(side, parts.turned, upper), first, second)
     }
 
     ghost use Rattle.page_laws.specs.Pages.{left_quarter, right_quarter};
@@ -200,11 +210,12 @@ impl PageWedges {
         ensures left_small { result.0.thickness ≤ THICKEST + 131070 }
         ensures right_small { result.1.thickness ≤ THICKEST + 131070 }
     {
-        match (self.turned, upper) {
-            (false, false) => (self.lower, self.left),
-            (false, true) => (self.upper, self.right),
-            (true, false) => (self.right, self.lower),
-            (true, true) => (self.left, self.upper),
+        let parts: &Parts = &self.parts;
+        match (parts.turned, upper) {
+            (false, false) => (parts.lower, parts.left),
+            (false, true) => (parts.upper, parts.right),
+            (true, false) => (parts.right, parts.lower),
+            (true, true) => (parts.left, parts.upper),
         }
     }
 
@@ -216,13 +227,14 @@ impl PageWedges {
         ensures value { self.new ≡ with_quarter self.old k
             (joined_in self.old.field (corners_of self.old.field.n (4 + k)) left right) }
     {
-        let grid = self.own.grid();
+        let parts: &mut Parts = &mut self.parts;
+        let grid = parts.own.grid();
         let wedge = joined(grid, quarter(k).corners(grid.n()), left, right);
         match k {
-            0 => self.lower = wedge,
-            1 => self.left = wedge,
-            2 => self.upper = wedge,
-            _ => self.right = wedge,
+            0 => parts.lower = wedge,
+            1 => parts.left = wedge,
+            2 => parts.upper = wedge,
+            _ => parts.right = wedge,
         }
     }
 }
@@ -237,18 +249,30 @@ fn quarter(k: u32) -> Tri
     Tri::at(4 + k).unwrap()
 }
 
+/// The wedge that this quarter has in its grid.
+fn quarter_of(wedges: &Wedges, k: u32) -> KnownWedge
+    requires in_square { k < 4 }
+    ensures value { result ≡ own_wedge wedges.now (4 + k) }
+    ensures bounded { result.thickness ≤ THICKEST }
+{
+    let tri = quarter(k);
+    own_of(wedges, tri, tri.corners(wedges.grid().n()))
+}
+
 /// The wedge of a triangle of a grid.
-fn own_of(wedges: &Wedges, tri: Tri) -> KnownWedge
+fn own_of(wedges: &Wedges, tri: Tri, corners: Corners) -> KnownWedge
     requires level { level_of tri ≤ 2 * wedges.now.n }
+    requires of_tri { corners ≡ corners_of wedges.now.n tri }
     ensures value { result ≡ own_wedge wedges.now tri }
     ensures bounded { result.thickness ≤ THICKEST }
 {
     wedge_laws();
     let _small = wedges.grid().n();
     let _address = tri.number();
+    let wedge = wedges.wedge_at(tri, corners);
     KnownWedge {
-        thickness: wedges.thickness(tri),
-        low: wedges.low(tri),
-        high: wedges.high(tri),
+        thickness: wedge.thickness,
+        low: wedge.low,
+        high: wedge.high,
     }
 }

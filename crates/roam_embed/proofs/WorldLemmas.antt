@@ -18,7 +18,8 @@ use Rattle.mesh_laws.specs.Slots.{split_set}
 use Rattle.view_mesh.specs.Expiry.{IsExpired}
 use Rattle.page_wedges.specs.Page.{Page}
 use Rattle.page_store.specs.Store.{Store, page_at, grid_at, pages_of}
-use Rattle.world_loop.specs.World.{WorldState, priority_in, mesh_seen, IsWorn, IsFrameDone}
+use Rattle.world_loop.specs.World.{WorldState, priority_in, mesh_seen, next_pace, next_way, IsWorn, IsFrameDone}
+use Rattle.world_loop.specs.declared.world.TheConstants.{FIRST_PACE}
 use Rattle.world_loop.specs.declared.note.WorldNote.{WorldNote}
 use Rattle.roam_embed.specs.declared.answer.Answer.{Answer}
 use Rattle.roam_embed.specs.declared.answer.Answer.TheVariants.{Done, BadCamera, Worn}
@@ -34,9 +35,10 @@ pub world-opened : {E : Type 0} (result : Result WorldState E) (page : Page) (la
     IfOk result (λ w. w.store ≡ s) → IfOk result (λ w. w.view ≡ start_view spacing) →
     IfOk result (λ w. w.budget ≡ budget) → IfOk result (λ w. w.most ≡ budget) →
     IfOk result (λ w. (a : ℕ) → split_set w.mesh.pool.pairs a ≡ false) → IfOk result (λ w. w.odometer ≡ 0) →
+    IfOk result (λ w. w.pace ≡ FIRST_PACE) → IfOk result (λ w. w.way ≡ FIRST_PACE) →
     IfOk result (IsWorldOpened page.field large budget spacing)
-world-opened (Err e) page large budget spacing s size side root others store view some most base odometer = tt
-world-opened (Ok w) page large budget spacing s size side root others store view some most base odometer = record {
+world-opened (Err e) page large budget spacing s size side root others store view some most base odometer pace way = tt
+world-opened (Ok w) page large budget spacing s size side root others store view some most base odometer pace way = record {
   large = ap (λ (x : Store). x.large) store ∙ size;
   n = ap (λ (x : Store). x.n) store ∙ side;
   root = ap (λ (x : Store). grid_at x (large - page.field.n) (record { x = 0; y = 0 })) store
@@ -48,11 +50,19 @@ world-opened (Ok w) page large budget spacing s size side root others store view
   most = most;
   base = base;
   odometer = odometer;
+  pace = pace;
+  way = way;
 }
 
 -- the camera, put to a place in its range
 pub camera-moved : (before after : WorldState) (place : CameraAt) → IsCamera place →
-    after ≡ record before { view = viewed_from place before.view; mesh = after.mesh; odometer = after.odometer } →
+    after ≡ record before {
+      view = viewed_from place before.view;
+      mesh = after.mesh;
+      odometer = after.odometer;
+      pace = next_pace before.pace before.way (move_length before.view.camera place);
+      way = next_way before.way (move_length before.view.camera place);
+    } →
     (before.odometer + move_length before.view.camera place ≤ LONGEST_WAY →
     (after.mesh ≡ before.mesh) × (after.odometer ≡ before.odometer + move_length before.view.camera place)) →
     (LONGEST_WAY < before.odometer + move_length before.view.camera place →

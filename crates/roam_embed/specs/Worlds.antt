@@ -28,7 +28,8 @@ use Rattle.page_store.specs.Store.{Store, page_at, grid_at, pages_of, height_in}
 use Rattle.page_store.specs.Change.{AreOthersSame}
 use Rattle.page_store.specs.Load.{CanLoad}
 use Rattle.page_store.specs.Unload.{IsFree}
-use Rattle.world_loop.specs.World.{WorldState, loaded_of, priority_in, mesh_seen, IsWorn, IsFrameDone}
+use Rattle.world_loop.specs.World.{WorldState, loaded_of, priority_in, mesh_seen, next_pace, next_way, IsWorn, IsFrameDone}
+use Rattle.world_loop.specs.declared.world.TheConstants.{FIRST_PACE}
 use Rattle.world_loop.specs.Turn.{is_turned}
 use Rattle.world_loop.specs.declared.note.WorldNote.{WorldNote}
 use Rattle.roam_embed.specs.declared.answer.Answer.{Answer}
@@ -62,6 +63,8 @@ pub record IsWorldOpened (page : HeightField) (exponent triangles spacing : ℕ)
   pub most : w.most ≡ triangles
   pub base : (a : ℕ) → split_set w.mesh.pool.pairs a ≡ false
   pub odometer : w.odometer ≡ 0
+  pub pace : w.pace ≡ FIRST_PACE
+  pub way : w.way ≡ FIRST_PACE
 
 -- a page that was refused is there still, but where memory ran out
 pub record IsKeptPage (page : HeightField) (after : Option HeightField) (answer : Answer) : Type 0 where
@@ -69,7 +72,7 @@ pub record IsKeptPage (page : HeightField) (after : Option HeightField) (answer 
   pub kept : answer ≢ NoMemory → after ≡ Some page
 
 -- The camera is put to a place. Where its way since the odometer was last 0 would be too long to be told, it is 0 again
--- and all stamps are expired.
+-- and all stamps are expired. The pace only decides how often triangles are evaluated.
 pub record IsWorldCameraMoved (before after : WorldState) (place : CameraAt) (answer : Answer) : Type 0 where
   pub done : (answer ≡ Done) ↔ IsCamera place
   pub bad_camera : (answer ≡ BadCamera) ↔ (IsCamera place → ⊥)
@@ -77,6 +80,8 @@ pub record IsWorldCameraMoved (before after : WorldState) (place : CameraAt) (an
     view = viewed_from place before.view;
     mesh = after.mesh;
     odometer = after.odometer;
+    pace = next_pace before.pace before.way (move_length before.view.camera place);
+    way = next_way before.way (move_length before.view.camera place);
   }
   pub near : answer ≡ Done → before.odometer + move_length before.view.camera place ≤ LONGEST_WAY →
       (after.mesh ≡ before.mesh) × (after.odometer ≡ before.odometer + move_length before.view.camera place)

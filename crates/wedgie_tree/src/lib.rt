@@ -20,4 +20,5 @@ mod wedges;
 pub use area::Area;
 pub use laws::{edit_laws, limit_laws, wedge_laws};
 pub use shape::box_around;
+pub use wedge::Wedge;
 pub use wedges::{GREATEST_SPACING, Wedges};

@@ -1,4 +1,4 @@
-//! What the table has of a triangle.
+//! What is told of a triangle, and stands in the table.
 
 /// The thickness of a triangle and the least and the greatest height of its points.
 #[derive(Clone, Copy, Debug, PartialEq, Eq)]

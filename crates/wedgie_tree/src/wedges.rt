@@ -245,8 +245,10 @@ impl Wedges {
         }
     }
 
-    // The same, where the corners are known.
-    fn wedge_at(&self, t: Tri, corners: Corners) -> Wedge
+    /// The thickness, the least and the greatest height of a triangle whose corners are known.
+    ///
+    /// Cost (not proved): a read, and at the last levels a step for each of at most 15 heights.
+    pub fn wedge_at(&self, t: Tri, corners: Corners) -> Wedge
         requires level { level_of t ≤ 2 * self.now.n }
         requires of_tri { corners ≡ corners_of self.now.n t }
         ensures { IsWedge self.now t result }

@@ -1,9 +1,10 @@
 -- A world between two calls: what is loaded of a terrain, a view of it, and the mesh that follows the view.
 -- All of it is this project's own.
--- Words: WorldState, world_of, loaded_of, sight_of, priority_in, is_split, mesh_seen, IsWorld, IsWorn, IsFrameDone,
--- IsStill, IsKept.
-use Rattle.std.specs.Prelude.{◌≡◌, ◌⊎◌, ℕ, ◌*◌, ◌^◌, ◌≤◌, min, Bool, List, length, Option, Some}
+-- Words: WorldState, world_of, loaded_of, sight_of, IsSeenSame, priority_in, is_split, mesh_seen, next_pace, next_way, IsWorld,
+-- IsWorn, IsFrameDone, IsStill, IsKept.
+use Rattle.std.specs.Prelude.{◌≡◌, ◌⊎◌, ℕ, ◌*◌, ◌^◌, ◌≤◌, min, nat_eq, cond, Bool, List, length, Option, Some}
 use Rattle.mesh_defs.specs.declared.counters.TheConstants.{CHANGES_AT_FRAME, LONGEST_WAY}
+use Rattle.mesh_defs.specs.BoundingBox.{CameraAt}
 use Rattle.mesh_defs.specs.ClosedSet.{leaves_of, among}
 use Rattle.mesh_defs.specs.View.{View}
 use Rattle.mesh_laws.specs.Slots.{split_set}
@@ -17,7 +18,8 @@ use Rattle.view_mesh.specs.Sight.{Sight, AreBracketed}
 use Rattle.view_mesh.specs.Advance.{IsAdvanced}
 use Rattle.world_loop.specs.declared.note.WorldNote.{WorldNote}
 
--- the pages, the view and the budget in force; the greatest budget; the mesh; and the way that the camera has gone
+-- the pages, the view and the budget in force; the greatest budget; the mesh; the way that the camera has gone; its pace,
+-- the shorter one of its last two ways; and the last one
 pub record WorldState : Type 0 where
   pub store : Store
   pub view : View
@@ -25,26 +27,34 @@ pub record WorldState : Type 0 where
   pub most : ℕ
   pub mesh : MeshState
   pub odometer : ℕ
+  pub pace : ℕ
+  pub way : ℕ
 
 -- a world, of the values that it is made of
-abbrev pub world_of : Store → View → ℕ → ℕ → MeshState → ℕ → WorldState
-world_of store view budget most mesh odometer = record {
+abbrev pub world_of : Store → View → ℕ → ℕ → MeshState → ℕ → ℕ → ℕ → WorldState
+world_of store view budget most mesh odometer pace way = record {
   store = store;
   view = view;
   budget = budget;
   most = most;
   mesh = mesh;
   odometer = odometer;
+  pace = pace;
+  way = way;
 }
 
--- what a mesh follows over it
-abbrev pub sight_of : LoadedState → Sight
-sight_of s = record {
+-- what a mesh follows over it, with readings for a camera of this pace
+abbrev pub sight_of : ℕ → LoadedState → Sight
+sight_of pace s = record {
   n = s.pages.large;
   camera = s.view.camera;
   from = λ to. loaded_priority (loaded_from to s);
-  readings = loaded_readings s;
+  readings = loaded_readings pace s;
 }
+
+-- the triangle has the same priority in both from every place
+abbrev pub IsSeenSame : LoadedState → LoadedState → ℕ → Type 0
+IsSeenSame before after a = (to : CameraAt) → loaded_priority (loaded_from to after) a ≡ loaded_priority (loaded_from to before) a
 
 -- what is loaded, as it is viewed
 abbrev pub loaded_of : WorldState → LoadedState
@@ -62,6 +72,14 @@ is_split w = among (pool_members w.mesh.pool)
 abbrev pub mesh_seen : WorldState → List ℕ
 mesh_seen w = leaves_of w.store.large (is_split w)
 
+-- the pace of a camera that goes so far, where it goes at all
+abbrev pub next_pace : ℕ → ℕ → ℕ → ℕ
+next_pace pace way length = cond (nat_eq length 0) pace (min length way)
+
+-- and its last way
+abbrev pub next_way : ℕ → ℕ → ℕ
+next_way way length = cond (nat_eq length 0) way length
+
 -- What holds of every world: its budgets, and that its stamps bracket the priorities.
 pub record IsWorld (w : WorldState) : Type 0 where
   pub n : w.mesh.pool.n ≡ w.store.large
@@ -73,7 +91,7 @@ pub record IsWorld (w : WorldState) : Type 0 where
   pub spacing_low : 1 ≤ w.view.spacing
   pub spacing_high : w.view.spacing ≤ GREATEST_SPACING
   pub far : w.odometer ≤ LONGEST_WAY
-  pub kept : AreBracketed (sight_of (loaded_of w)) w.odometer w.mesh
+  pub kept : AreBracketed (sight_of w.pace (loaded_of w)) w.odometer w.mesh
 
 -- the mesh has split or merged as many triangles as its counters can tell
 abbrev pub IsWorn : WorldState → Type 0
@@ -86,7 +104,9 @@ pub record IsFrameDone (before after : WorldState) (note : WorldNote) : Type 0 w
   pub budget : after.budget ≡ before.budget
   pub most : after.most ≡ before.most
   pub odometer : after.odometer ≡ before.odometer
-  pub mesh : IsAdvanced (sight_of (loaded_of before)) before.budget before.odometer before.mesh after.mesh note.steps
+  pub pace : after.pace ≡ before.pace
+  pub way : after.way ≡ before.way
+  pub mesh : IsAdvanced (sight_of before.pace (loaded_of before)) before.budget before.odometer before.mesh after.mesh note.steps
       0 note.evaluations
   pub triangles : note.triangles ≡ length (mesh_seen after)
 

@@ -94,7 +94,7 @@ impl World {
         let _valid = self.store.large();
         let scene = scene_of!(self);
         let _before = self.mesh.pool();
-        let note = advance_mesh(&mut self.mesh, scene, self.budget, self.odometer);
+        let note = advance_mesh(&mut self.mesh, scene, self.pace, self.budget, self.odometer);
         list_changed(self.mesh.pool(), self.mesh.changed(), &mut self.list);
         self.still = Some(note.without_steps());
         note
@@ -110,21 +110,27 @@ impl World {
 }
 
 /// Makes the mesh of a scene from that of the frame before.
-fn advance_mesh(mesh: &mut Mesh, scene: LoadedScene<'_>, budget: u32, odometer: u64) -> WorldNote
+fn advance_mesh(
+    mesh: &mut Mesh,
+    scene: LoadedScene<'_>,
+    pace: u64,
+    budget: u32,
+    odometer: u64,
+) -> WorldNote
     requires n { mesh.old.pool.n ≡ scene.store.large }
     requires some { 2 ≤ budget }
     requires far { odometer ≤ LONGEST_WAY }
     requires room { HasRoom mesh.old.pool.n mesh.old.pool.most budget }
     requires splits { mesh.old.pool.splits < CHANGES_AT_FRAME }
     requires merges { mesh.old.pool.merges < CHANGES_AT_FRAME }
-    requires kept { AreBracketed (sight_of (loaded_in scene)) odometer mesh.old }
-    ensures done { IsAdvanced (sight_of (loaded_in scene.entry)) budget odometer mesh.old mesh.new result.steps 0
+    requires kept { AreBracketed (sight_of pace (loaded_in scene)) odometer mesh.old }
+    ensures done { IsAdvanced (sight_of pace (loaded_in scene.entry)) budget odometer mesh.old mesh.new result.steps 0
         result.evaluations }
     ensures triangles { result.triangles ≡ length (leaves_of scene.entry.store.large (among (pool_members mesh.new.pool))) }
 {
     world_laws();
     let _valid = scene.store.large();
-    let mut gauge = LoadedGauge::new(scene, Meter::new());
+    let mut gauge = LoadedGauge::new(scene, pace, Meter::new());
     let steps = advance(mesh, &mut gauge, budget, odometer);
     WorldNote {
         triangles: mesh.pool().leaf_count(),

@@ -13,10 +13,10 @@ ghost use Rattle.page_store.specs.Change.{AreOthersSame, AreHeightsSame};
 ghost use Rattle.page_priority.specs.Loaded.{LoadedState, loaded_within};
 ghost use Rattle.page_priority.specs.Scene.{loaded_in};
 ghost use Rattle.view_mesh.specs.Expiry.{IsExpired};
-ghost use Rattle.view_mesh.specs.Sight.{IsSound, IsSamePriority};
+ghost use Rattle.view_mesh.specs.Sight.{IsSound};
 ghost use Rattle.world_loop.specs.declared.note.WorldNote.{WorldNote};
 ghost use Rattle.world_loop.specs.Turn.{is_turned};
-ghost use Rattle.world_loop.specs.World.{WorldState, loaded_of, sight_of, IsKept};
+ghost use Rattle.world_loop.specs.World.{WorldState, loaded_of, sight_of, IsSeenSame, IsKept};
 
 use page_laws::{area_laws, height_laws};
 use page_priority::loaded_laws;
@@ -24,7 +24,7 @@ use view_mesh::sight_laws;
 
 /// What is loaded can be followed: priorities fall, and readings bracket them.
 pub fn world_laws()
-    ensures sound { (s : LoadedState) → IsPyramid s.pages → IsSound (sight_of s) }
+    ensures sound { (pace : ℕ) (s : LoadedState) → IsPyramid s.pages → IsSound (sight_of pace s) }
 {
     loaded_laws();
 }
@@ -38,21 +38,21 @@ pub(crate) fn change_laws()
     ensures page { (s more : Store) (q : ℕ) (t : Point) (view : View) → more.large ≡ s.large → more.n ≡ s.n →
         AreOthersSame s more q t → s.n + q ≤ s.large → IsPyramid (pages_of s) → AreHeightsSame s s more → (a : ℕ) →
         2 ≤ a → overlaps (corners_of s.large a) (page_area (pages_of s) q t) ≡ false →
-        IsSamePriority (sight_of (loaded_in (record { store = s; view = view })))
-        (sight_of (loaded_in (record { store = more; view = view }))) a }
+        IsSeenSame (loaded_in (record { store = s; view = view }))
+        (loaded_in (record { store = more; view = view })) a }
     ensures heights { (s more : Store) (area : Area) (view : View) → pages_of more ≡ pages_of s →
         ((p : Point) → is_in_area area p.x p.y ≡ false → height_in more p ≡ height_in s p) → (a : ℕ) → 2 ≤ a →
         overlaps (corners_of s.large a) area ≡ false →
-        IsSamePriority (sight_of (loaded_in (record { store = s; view = view })))
-        (sight_of (loaded_in (record { store = more; view = view }))) a }
+        IsSeenSame (loaded_in (record { store = s; view = view }))
+        (loaded_in (record { store = more; view = view })) a }
     ensures planes { (s : LoadedState) (planes : List ViewPlane) (a : ℕ) → is_turned s planes a ≡ false →
-        IsSamePriority (sight_of s) (sight_of (loaded_within planes s)) a }
+        IsSeenSame s (loaded_within planes s) a }
     ensures again { (w : WorldState) (leaves : List ℕ) (most : ℕ) (still : Option WorldNote) (store : Store)
         (view : View) (mesh : MeshState) (expired : ℕ → Bool) → IsKept w leaves most still →
         OnlyEntriesStamped w.mesh → store.large ≡ w.store.large → view.camera ≡ w.view.camera →
         view.spacing ≡ w.view.spacing → IsExpired w.mesh mesh expired →
-        ((a : ℕ) → IsAddress w.store.large a → expired a ≡ false → IsSamePriority (sight_of (loaded_of w))
-        (sight_of (loaded_in (record { store = store; view = view }))) a) →
+        ((a : ℕ) → IsAddress w.store.large a → expired a ≡ false → IsSeenSame (loaded_of w)
+        (loaded_in (record { store = store; view = view })) a) →
         IsKept (record w { store = store; view = view; mesh = mesh }) leaves most None }
 {
     area_laws();

@@ -25,4 +25,4 @@ pub use mesh_defs::{NoMemory, Point};
 pub use note::{WorldNote, Worn};
 pub use page_store::{LoadFault, PageStore, PageTriangle, PageWedges, UnloadFault};
 pub use view_priority::Camera;
-pub use world::World;
+pub use world::{FIRST_PACE, World};

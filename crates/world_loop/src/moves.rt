@@ -5,6 +5,7 @@ ghost use Rattle.mesh_defs.specs.declared.counters.TheConstants.{LONGEST_WAY};
 ghost use Rattle.mesh_defs.specs.State.{move_length};
 ghost use Rattle.view_priority.specs.Bounds.{viewed_from};
 ghost use Rattle.view_mesh.specs.Expiry.{IsExpired};
+ghost use Rattle.world_loop.specs.World.{next_pace, next_way};
 
 use crate::world::World;
 use mesh_defs::LONGEST_WAY;
@@ -14,12 +15,15 @@ use view_priority::Camera;
 impl World {
     /// Puts the camera to a place.
     ///
-    /// Where the way since the odometer was last 0 would be too long to be told, it is 0 again and all stamps expire.
+    /// Where the way since the odometer was last 0 would be too long to be told, it is 0 again and all stamps expire. The
+    /// pace follows the way, and only decides how often triangles are evaluated.
     pub fn camera(&mut self, camera: Camera)
         ensures rest { self.new ≡ record self.old {
           view = viewed_from camera self.old.view;
           mesh = self.new.mesh;
           odometer = self.new.odometer;
+          pace = next_pace self.old.pace self.old.way (move_length self.old.view.camera camera);
+          way = next_way self.old.way (move_length self.old.view.camera camera);
         } }
         ensures near { self.old.odometer + move_length self.old.view.camera camera ≤ LONGEST_WAY →
             (self.new.mesh ≡ self.old.mesh)
@@ -34,6 +38,8 @@ impl World {
             return;
         }
         self.still = None;
+        self.pace = way.min(self.way);
+        self.way = way;
         self.camera = camera;
         if self.odometer + way > LONGEST_WAY {
             expire_each(&mut self.mesh);

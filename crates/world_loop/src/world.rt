@@ -7,6 +7,7 @@ ghost use Rattle.triangle_pool.specs.declared.pool.TheConstants.{MOST_LEAVES};
 ghost use Rattle.mesh_laws.specs.Slots.{split_set};
 ghost use Rattle.view_mesh.specs.Sight.{AreBracketed};
 ghost use Rattle.world_loop.specs.World.{loaded_of, sight_of, mesh_seen};
+ghost use Rattle.world_loop.specs.declared.world.TheConstants.{FIRST_PACE};
 
 use crate::note::WorldNote;
 use bintree_addr::Tri;
@@ -20,6 +21,9 @@ use std::marker::Model;
 use triangle_pool::Pool;
 use view_mesh::leaf_room;
 use view_priority::Camera;
+
+/// The pace of a camera that has not moved yet, in world units.
+pub const FIRST_PACE: u64 = 8;
 
 /// What is loaded of a terrain, a view of it, and the mesh that follows the view.
 #[derive(Drop)]
@@ -40,6 +44,10 @@ pub struct World {
     pub(crate) budget: u32,
     /// How far the camera has gone since stamps were last given up, added up over the three axes.
     pub(crate) odometer: u64,
+    /// How far the camera goes from frame to frame: the shorter one of its last two ways, so that a jump does not count.
+    pub(crate) pace: u64,
+    /// How far it went last.
+    pub(crate) way: u64,
     /// What a frame would tell, where nothing has changed since the last one.
     pub(crate) still: Option<WorldNote>,
 }
@@ -51,10 +59,10 @@ impl Model for World {
     ghost Value = { WorldState };
 
     ghost view = { λ w. world_of w.store (view_above w.threshold w.camera w.spacing w.planes) w.budget w.most w.mesh
-        w.odometer };
+        w.odometer w.pace w.way };
 
     ghost invariant = { λ w. IsKept (world_of w.store (view_above w.threshold w.camera w.spacing w.planes) w.budget w.most
-        w.mesh w.odometer) w.list.leaves w.list.most w.still };
+        w.mesh w.odometer w.pace w.way) w.list.leaves w.list.most w.still };
 }
 
 impl World {
@@ -78,6 +86,8 @@ impl World {
         ensures most { IfOk result (λ w. w.most ≡ budget) }
         ensures base { IfOk result (λ w. (a : ℕ) → split_set w.mesh.pool.pairs a ≡ false) }
         ensures odometer { IfOk result (λ w. w.odometer ≡ 0) }
+        ensures pace { IfOk result (λ w. w.pace ≡ FIRST_PACE) }
+        ensures way { IfOk result (λ w. w.way ≡ FIRST_PACE) }
     {
         let n = store.large();
         let room = leaf_room(n, budget);
@@ -94,6 +104,8 @@ impl World {
             most: budget,
             budget,
             odometer: 0,
+            pace: FIRST_PACE,
+            way: FIRST_PACE,
             still: None,
         })
     }
@@ -134,7 +146,7 @@ impl World {
         ensures pool { result.now ≡ self.now.mesh.pool }
         ensures n { result.now.n ≡ self.now.store.large }
         ensures room { result.now.most ≡ min self.now.most (2 * 4 ^ self.now.store.large) }
-        ensures kept { AreBracketed (sight_of (loaded_of self.now)) self.now.odometer self.now.mesh }
+        ensures kept { AreBracketed (sight_of self.now.pace (loaded_of self.now)) self.now.odometer self.now.mesh }
     {
         self.mesh.pool()
     }

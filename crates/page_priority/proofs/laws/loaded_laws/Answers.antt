@@ -15,13 +15,13 @@ returns-clause-falls c s pyramid =
     c.box_laws.ensures.nested (λ a. c.pyramid_laws.ensures.parent s.pages a pyramid))
 
 pub returns-clause-between : goal.returns-clause-between
-returns-clause-between c s odometer to a within =
-    in-reading s to a c.box_laws.ensures.below c.box_laws.ensures.above (c.nesting_laws.ensures.ordered s a) odometer
+returns-clause-between c pace s odometer to a within =
+    in-reading pace s to a c.box_laws.ensures.below c.box_laws.ensures.above (c.nesting_laws.ensures.ordered s a) odometer
     within
 
 pub returns-clause-readings : goal.returns-clause-readings
-returns-clause-readings c s odometer a address =
-    returns-clause-between c s odometer s.view.camera a
+returns-clause-readings c pace s odometer a address =
+    returns-clause-between c pace s odometer s.view.camera a
     (let none = c.view_laws.ensures.no_move s.view.camera in omega arith)
 
 pub returns-clause-same : goal.returns-clause-same

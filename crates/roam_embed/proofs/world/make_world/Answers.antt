@@ -14,4 +14,5 @@ returns c =
     (world-opened c.make-2.result c.cut_by.new.self c.args.large c.args.budget c.args.spacing c.in_ok-store.store
     c.in_ok-store.ensures.large c.in_ok-store.ensures.n c.in_ok-store.ensures.root c.in_ok-store.ensures.others
     c.make-2.ensures.store c.make-2.ensures.view c.make-2.ensures.budget c.make-2.ensures.most
-    c.make-2.ensures.base c.make-2.ensures.odometer)
+    c.make-2.ensures.base c.make-2.ensures.odometer
+    c.make-2.ensures.pace c.make-2.ensures.way)

@@ -57,8 +57,8 @@ returns-clause-again c w leaves most still store view mesh expired kept only lar
         spacing_low = rw spacing world.spacing_low;
         spacing_high = rw spacing world.spacing_high;
         far = world.far;
-        kept = c.sight_laws.ensures.edited (sight_of (loaded_of w))
-            (sight_of (loaded_of (record w { store = store; view = view }))) w.odometer w.mesh mesh expired camera world.n
+        kept = c.sight_laws.ensures.edited (sight_of w.pace (loaded_of w))
+            (sight_of w.pace (loaded_of (record w { store = store; view = view }))) w.odometer w.mesh mesh expired camera world.n
             only is same world.kept;
       },
       rw (pool, large) kept.1,

@@ -1,6 +1,7 @@
 -- A half of the finer page where that is loaded, else a triangle of the page's own grid.
 use Rattle.std.proofs.Common.{◌+◌, ◌*◌, ap, sym, ◌∙◌, arith, subst, cond}
-use Rattle.mesh_defs.specs.Triangle.{level_of}
+use Rattle.mesh_defs.specs.HeightField.{HeightField}
+use Rattle.mesh_defs.specs.Triangle.{level_of, corners_of}
 use Rattle.mosaic_laws.specs.Tile.{in_tile}
 use Rattle.page_wedges.specs.Page.{own_wedge, half_in}
 use Rattle.page_store.specs.Store.{IsTable}
@@ -15,9 +16,25 @@ own-requires c =
     let i : IsTable c.args.self.now = subst IsTable c.self.view_is c.self.invariant in
     let side = (i.placed _ _ _ c.requires.page).side in
     let some = i.some in
-    let level = ap level_of c.grandchild.ensures.value ∙ grandchild-level c.args.part.quarter c.args.side
+    let level = ap level_of c.grandchild-tri.ensures.value ∙ grandchild-level c.args.part.quarter c.args.side
     c.requires.quarter c.requires.side in
-    record { level = omega arith }
+    record {
+      level = omega arith;
+      of_tri = c.corners.ensures.value ∙ ap (λ m. corners_of m c.grandchild-tri.result)
+          (c.n.ensures.value ∙ ap (λ (g : HeightField). g.n) c.grid.ensures.value);
+    }
+
+pub corners-requires : goal.corners-requires
+corners-requires c =
+    let i : IsTable c.args.self.now = subst IsTable c.self.view_is c.self.invariant in
+    let side = (i.placed _ _ _ c.requires.page).side in
+    let some = i.some in
+    let n = c.n.ensures.value in
+    let low = c.n.ensures.low in
+    let high = c.n.ensures.high in
+    let level = ap level_of c.grandchild-tri.ensures.value ∙ grandchild-level c.args.part.quarter c.args.side
+    c.requires.quarter c.requires.side in
+    record { in_grid = (omega arith, omega arith); level = omega arith }
 
 -- what the child's two bits say of the finer square
 below : (c : After-below-below) → IsBelow
@@ -53,7 +70,7 @@ returns-in-Some-clause-thin c =
 pub returns-in-None-clause-value : goal.returns-in-None-clause-value
 returns-in-None-clause-value c =
     c.own.ensures.value
-    ∙ ap (own_wedge c.args.page.now.field) c.grandchild.ensures.value
+    ∙ ap (own_wedge c.args.page.now.field) c.grandchild-tri.ensures.value
     ∙ child-own c.args.cuts c.args.part.quarter c.args.side (subst IsTable c.self.view_is c.self.invariant)
     c.requires.coarse c.requires.in_square c.requires.quarter c.requires.side c.requires.page
     (below (goal.at.returns-in-None-clause-value c).After-below-below) (sym c.in-None.ensures.value)

@@ -22,9 +22,9 @@ invariant_of-self-2 c =
         spacing_low = is.spacing_low;
         spacing_high = is.spacing_high;
         far = omega (arith, c.if-self-way-gt-LONGEST_WAY.false);
-        kept = subst (λ way. AreBracketed (sight_of (loaded_in after)) (i.odometer + way) i.mesh)
+        kept = subst (λ way. AreBracketed (sight_of i.pace (loaded_in after)) (i.odometer + way) i.mesh)
             (sym c.way_to-way.ensures.value)
-            (c.sight_laws.ensures.camera (sight_of (loaded_in before)) (sight_of (loaded_in after))
+            (c.sight_laws.ensures.camera (sight_of i.pace (loaded_in before)) (sight_of i.pace (loaded_in after))
             i.odometer i.mesh (λ a to. refl) is.kept);
       },
       c.self.invariant.1,

@@ -27,7 +27,7 @@ invariant_of-self c =
     let mesh = call.new.mesh in
     let n : mesh.pool.n ≡ i.store.large = done.n ∙ is.n in
     let after : WorldState = world_of i.store (view_above i.threshold i.camera i.spacing i.planes) i.budget i.most mesh
-    i.odometer in (
+    i.odometer i.pace i.way in (
       record {
         n = n;
         most_low = is.most_low;
@@ -49,9 +49,11 @@ invariant_of-self c =
         budget = refl;
         most = refl;
         odometer = refl;
-        mesh = c.still_laws.ensures.frame (sight_of (loaded_of after)) i.budget i.odometer i.mesh mesh call.result.steps 0
+        pace = refl;
+        way = refl;
+        mesh = c.still_laws.ensures.frame (sight_of i.pace (loaded_of after)) i.budget i.odometer i.mesh mesh call.result.steps 0
             call.result.evaluations 0
-            (c.world_laws.ensures.sound (loaded_of after) c.large-valid.ensures.valid.table.pyramid) n
+            (c.world_laws.ensures.sound i.pace (loaded_of after) c.large-valid.ensures.valid.table.pyramid) n
             c.pool.ensures.valid done;
         triangles = call.ensures.triangles;
       }),

@@ -3,6 +3,7 @@ use Rattle.mesh_defs.specs.Triangle.{corners_of}
 use Rattle.bintree_laws.specs.Areas.{overlaps}
 use Rattle.page_laws.specs.Pages.{page_area}
 use Rattle.page_store.specs.Store.{pages_of}
+use Rattle.page_store.specs.Change.{AreOthersSame}
 use Rattle.page_store.specs.Unload.{IsUnloadFault}
 use Rattle.view_priority.specs.Camera.{view_above}
 use Rattle.view_mesh.specs.Expiry.{IsExpired}
@@ -40,6 +41,11 @@ invariant_of-self c =
 pub invariant_of-self-in-Err : goal.invariant_of-self-in-Err
 invariant_of-self-in-Err c =
     let same : c.unload.new.self ≡ c.self.inside.store = c.in-Err.ensures.err in rw same c.self.invariant
+
+pub returns-in-Ok-clause-others : goal.returns-in-Ok-clause-others
+returns-in-Ok-clause-others c =
+    subst (λ (w : WorldState). AreOthersSame w.store c.unload.new.self c.args.q c.args.square) c.self.view_is
+    c.in-Ok.ensures.others
 
 pub returns-in-Ok-clause-mesh : goal.returns-in-Ok-clause-mesh
 returns-in-Ok-clause-mesh c = rw (← c.self.view_is) (met c)
