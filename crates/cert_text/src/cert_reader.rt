@@ -1,12 +1,10 @@
 //! A reader of a certificate, line after line.
 
-ghost use Rattle.std.specs.Prelude.{◌≡◌, ◌+◌, ◌≤◌, ◌↔◌, ℕ, None, Some, Ok, Err, OnOk, OnErr, IfOk, IfErr};
-ghost use Rattle.std.specs.Prelude.{All};
+ghost use Rattle.std.specs.Prelude.{◌≡◌, ◌+◌, ◌≤◌, ◌↔◌, None, Some, Ok, Err, OnOk, OnErr, IfOk, IfErr, All};
 ghost use Rattle.mesh_defs.specs.Triangle.{IsAddress, IsSplittable};
 ghost use Rattle.mesh_defs.specs.declared.level.TheConstants.{GREATEST_LEVEL};
 ghost use Rattle.certificate_laws.specs.declared.reason.Reason.{Reason};
-ghost use Rattle.cert_text.specs.CertReader.{nothing_read, read_so_far, AreFew, line_taken, cert_line_in, finished};
-ghost use Rattle.cert_text.specs.CertLine.{IsLineOf};
+ghost use Rattle.cert_text.specs.CertReader.{nothing_read, cert_line_in, finished};
 ghost use Rattle.cert_text.specs.Laws.{line_count};
 ghost use Rattle.cert_text.specs.declared.limits.TheConstants.{MOST_LEAVES, MOST_REASONS};
 ghost use Rattle.cert_text.specs.declared.fault.CertFault.{CertFault};
@@ -83,7 +81,21 @@ impl CertReader {
             (result ≡ Err CertFault.BadLine) ↔ (cert_line_in self.old.n self.old.read bytes.now ≡ None) }
     {
         let outcome = match next_line(self.refusal, bytes, self.n) {
-            Ok(line) => take(&mut self.camera, &mut self.leaves, &mut self.reasons, line),
+            Ok(line) => match line {
+                CertLine::CameraLine(seen_from) if self.camera.is_none() => {
+                    self.camera = Some(seen_from);
+                    Ok(())
+                }
+                CertLine::LeafLine(leaf)
+                    if self.camera.is_some()
+                        && self.reasons.is_empty()
+                        && self.leaves.len() < MOST_LEAVES => { push(&mut self.leaves, leaf) }
+                CertLine::ReasonLine(reason)
+                    if self.camera.is_some() && self.reasons.len() < MOST_REASONS => {
+                    push(&mut self.reasons, reason)
+                }
+                _ => Err(CertFault::BadLine),
+            },
             Err(fault) => Err(fault),
         };
         self.refusal = outcome.err();
@@ -123,34 +135,4 @@ impl CertReader {
             Some(camera) => Ok(Cert::new(camera, leaves, reasons)),
         }
     }
-}
-
-/// Takes a line that may stand behind those before it.
-fn take(
-    camera: &mut Option<Camera>,
-    leaves: &mut Vec<Tri>,
-    reasons: &mut Vec<Reason>,
-    line: CertLine,
-) -> Result<(), CertFault>
-    ensures ok { OnOk result (line_taken (read_so_far camera.old leaves.old.items reasons.old.items) line
-        ≡ Some (read_so_far camera.new leaves.new.items reasons.new.items)) }
-    ensures err { OnErr result (read_so_far camera.new leaves.new.items reasons.new.items
-        ≡ read_so_far camera.old leaves.old.items reasons.old.items) }
-    ensures few { (n : ℕ) → AreFew n leaves.old.items reasons.old.items → IsLineOf n line →
-        AreFew n leaves.new.items reasons.new.items }
-    ensures bad_line { (result ≡ Err CertFault.BadLine)
-        ↔ (line_taken (read_so_far camera.old leaves.old.items reasons.old.items) line ≡ None) }
-{
-    match line {
-        CertLine::CameraLine(seen_from) if camera.is_none() => *camera = Some(seen_from),
-        CertLine::LeafLine(leaf)
-            if camera.is_some() && reasons.is_empty() && leaves.len() < MOST_LEAVES => {
-            push(leaves, leaf)?;
-        }
-        CertLine::ReasonLine(reason) if camera.is_some() && reasons.len() < MOST_REASONS => {
-            push(reasons, reason)?;
-        }
-        _ => return Err(CertFault::BadLine),
-    }
-    Ok(())
 }

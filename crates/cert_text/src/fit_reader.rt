@@ -1,9 +1,8 @@
 //! A reader of a certificate of a fitted mesh, line after line.
 
-ghost use Rattle.std.specs.Prelude.{◌≡◌, ◌+◌, ◌≤◌, ◌↔◌, ℕ, None, Some, Ok, Err, OnOk, OnErr, IfErr, is_some};
+ghost use Rattle.std.specs.Prelude.{◌≡◌, ◌+◌, ◌≤◌, ◌↔◌, None, Some, Ok, Err, OnOk, OnErr, IfErr, is_some};
 ghost use Rattle.mesh_defs.specs.declared.level.TheConstants.{GREATEST_LEVEL};
-ghost use Rattle.cert_text.specs.FitCertReader.{nothing_fit_read, fit_read_so_far, AreFewFitReasons};
-ghost use Rattle.cert_text.specs.FitCertReader.{fit_line_taken, fit_line_in, fit_finished};
+ghost use Rattle.cert_text.specs.FitCertReader.{nothing_fit_read, fit_line_in, fit_finished};
 ghost use Rattle.cert_text.specs.FitLaws.{fit_line_count};
 ghost use Rattle.cert_text.specs.declared.fault.CertFault.{CertFault};
 ghost use Rattle.certificate_laws.specs.declared.limits.TheConstants.{MOST_REASONS};
@@ -75,13 +74,23 @@ impl FitCertReader {
             (result ≡ Err CertFault.BadLine) ↔ (fit_line_in self.old.n self.old.read bytes.now ≡ None) }
     {
         let outcome = match next_line(self.refusal, bytes, self.n) {
-            Ok(line) => take(
-                &mut self.tolerance,
-                &mut self.mesh,
-                &mut self.needed,
-                &mut self.beyond,
-                line,
-            ),
+            Ok(FitLine::ToleranceLine(own)) if self.tolerance.is_none() => {
+                self.tolerance = Some(own);
+                Ok(())
+            }
+            Ok(FitLine::OffLine(off))
+                if self.tolerance.is_some() && !self.mesh && self.needed.len() < MOST_REASONS => {
+                push(&mut self.needed, off)
+            }
+            Ok(FitLine::OffLine(off))
+                if self.tolerance.is_some() && self.mesh && self.beyond.len() < MOST_REASONS => {
+                push(&mut self.beyond, off)
+            }
+            Ok(FitLine::MeshLine) if self.tolerance.is_some() && !self.mesh => {
+                self.mesh = true;
+                Ok(())
+            }
+            Ok(_) => Err(CertFault::BadLine),
             Err(fault) => Err(fault),
         };
         self.refusal = outcome.err();
@@ -127,8 +136,7 @@ impl FitCertReader {
     pub(crate) fn refuse(&mut self, fault: CertFault)
         ensures { self.new ≡ record self.old { refusal = Some fault } }
     {
-        let refusal = Some(fault);
-        self.refusal = refusal;
+        self.refusal = Some(fault);
     }
 
     /// The certificate that was read, or the refusal. Takes no memory.
@@ -151,36 +159,4 @@ impl FitCertReader {
             _ => Err(CertFault::BadLine),
         }
     }
-}
-
-/// Takes a line that may stand behind those before it.
-fn take(
-    tolerance: &mut Option<u32>,
-    mesh: &mut bool,
-    needed: &mut Vec<Witness>,
-    beyond: &mut Vec<Witness>,
-    line: FitLine,
-) -> Result<(), CertFault>
-    ensures ok { OnOk result (fit_line_taken
-        (fit_read_so_far tolerance.old mesh.old needed.old.items beyond.old.items) line
-        ≡ Some (fit_read_so_far tolerance.new mesh.new needed.new.items beyond.new.items)) }
-    ensures err { OnErr result (fit_read_so_far tolerance.new mesh.new needed.new.items beyond.new.items
-        ≡ fit_read_so_far tolerance.old mesh.old needed.old.items beyond.old.items) }
-    ensures few { (n : ℕ) → AreFewFitReasons n needed.old.items beyond.old.items →
-        AreFewFitReasons n needed.new.items beyond.new.items }
-    ensures bad_line { (result ≡ Err CertFault.BadLine)
-        ↔ (fit_line_taken (fit_read_so_far tolerance.old mesh.old needed.old.items beyond.old.items) line ≡ None) }
-{
-    match line {
-        FitLine::ToleranceLine(own) if tolerance.is_none() => *tolerance = Some(own),
-        FitLine::OffLine(off) if tolerance.is_some() && !*mesh && needed.len() < MOST_REASONS => {
-            push(needed, off)?;
-        }
-        FitLine::OffLine(off) if tolerance.is_some() && *mesh && beyond.len() < MOST_REASONS => {
-            push(beyond, off)?;
-        }
-        FitLine::MeshLine if tolerance.is_some() && !*mesh => *mesh = true,
-        _ => return Err(CertFault::BadLine),
-    }
-    Ok(())
 }

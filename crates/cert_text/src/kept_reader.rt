@@ -1,14 +1,14 @@
 //! A reader of a certificate with points, line after line.
 
-ghost use Rattle.std.specs.Prelude.{◌≡◌, ◌+◌, ◌≤◌, [], ◌↔◌, None, Some, Ok, Err, OnOk, OnErr, IfErr, length};
+ghost use Rattle.std.specs.Prelude.{◌≡◌, ◌+◌, ◌≤◌, [], ◌↔◌, None, Some, Ok, Err, OnOk, OnErr, IfErr};
 ghost use Rattle.mesh_defs.specs.declared.level.TheConstants.{GREATEST_LEVEL};
 ghost use Rattle.cert_text.specs.FitCertReader.{nothing_fit_read};
-ghost use Rattle.cert_text.specs.KeptCert.{need_taken, kept_reading, kept_line_in, kept_finished};
+ghost use Rattle.cert_text.specs.KeptCert.{kept_reading, kept_line_in, kept_finished};
 ghost use Rattle.cert_text.specs.KeptLaws.{kept_line_count};
 ghost use Rattle.cert_text.specs.declared.fault.CertFault.{CertFault};
 ghost use Rattle.certificate_laws.specs.declared.limits.TheConstants.{MOST_REASONS};
 
-use crate::fault::CertFault;
+use crate::fault::{CertFault, push};
 use crate::fit_reader::FitCertReader;
 use crate::reading::read_line;
 use bintree_addr::Point;
@@ -71,31 +71,18 @@ impl KeptCertReader {
         if let Some(fault) = self.rest.refusal() {
             return Err(fault);
         }
-        match read_line::<Point>(bytes, self.rest.level()) {
-            None => self.rest.line(bytes),
-            Some(point) => self.take(point),
+        let Some(point) = read_line::<Point>(bytes, self.rest.level()) else {
+            return self.rest.line(bytes);
+        };
+        let outcome = if self.rest.has_tolerance() || self.needs.len() >= MOST_REASONS {
+            Err(CertFault::BadLine)
+        } else {
+            push(&mut self.needs, point)
+        };
+        if let Err(fault) = outcome {
+            self.rest.refuse(fault);
         }
-    }
-
-    /// Takes the line of a point, where it may stand.
-    fn take(&mut self, point: Point) -> Result<(), CertFault>
-        requires goes { self.old.rest.refusal ≡ None }
-        ensures n { self.new.rest.n ≡ self.old.rest.n }
-        ensures err { OnErr result (kept_reading self.new ≡ kept_reading self.old) }
-        ensures refusal { IfErr result (λ fault. self.new.rest.refusal ≡ Some fault) }
-        ensures ok { OnOk result (need_taken (kept_reading self.old) point ≡ Some (kept_reading self.new)) }
-        ensures goes { OnOk result (self.new.rest.refusal ≡ None) }
-        ensures bad_line { (result ≡ Err CertFault.BadLine) ↔ (need_taken (kept_reading self.old) point ≡ None) }
-    {
-        if self.rest.has_tolerance() || self.needs.len() >= MOST_REASONS {
-            self.rest.refuse(CertFault::BadLine);
-            return Err(CertFault::BadLine);
-        }
-        if self.needs.push(point).is_err() {
-            self.rest.refuse(CertFault::NoMemory);
-            return Err(CertFault::NoMemory);
-        }
-        Ok(())
+        outcome
     }
 
     /// How many lines it has read.
