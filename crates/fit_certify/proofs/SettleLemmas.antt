@@ -1,7 +1,8 @@
 -- Splitting what is off, one leaf after the other: what is known, what one split leaves, what a pass leaves, and the end.
 use Rattle.std.proofs.Common.{◌≡◌, ℕ, ◌+◌, ◌-◌, ◌*◌, ◌/◌, ◌^◌, ◌<◌, ◌≤◌, ◌||◌, Bool, true, false, IsTrue, cond}
-use Rattle.std.proofs.Common.{List, [], ◌∷◌, ◌++◌, All, length, Contains, refl, sym, ◌∙◌, subst, arith, ⊎_elim, pow-add, pow_mono}
-use Rattle.std.proofs.lemmas.Bool.{cases_lt, cases_Bool, or_cases, both_ways, false≢true}
+use Rattle.std.proofs.Common.{List, [], ◌∷◌, ◌++◌, All, length, Contains, refl, sym, ◌∙◌, subst, arith, ⊎_elim}
+use Rattle.std.proofs.Common.{pow-add, pow_mono}
+use Rattle.std.proofs.lemmas.Bool.{cases_lt, both_ways, false≢true}
 use Rattle.std.proofs.lemmas.List.Elements.{All-cons, All-nil, All-append, All-contains}
 use Rattle.mesh_defs.specs.declared.point.Point.{Point}
 use Rattle.mesh_defs.specs.Triangle.{level_of, IsAddress, IsSplittable}
@@ -26,7 +27,9 @@ use Rattle.fit_laws.proofs.ErrorLemmas.{error-finest}
 use Rattle.certificate_laws.specs.declared.fit_reason.Witness.{Witness}
 use Rattle.certificate_laws.specs.FitCertificate.{LeadsTo}
 use Rattle.certificate_laws.proofs.LeadLemmas.{leads-next, leads-grown}
-use Rattle.fit_certify.specs.Settling.{AreKnown, AreReady, AreKept, IsGoingOn, HasSplit, IsPass}
+use Rattle.fit_certify.specs.declared.settle.Bounds.{Bounds}
+use Rattle.fit_certify.specs.declared.settle.Settling.{Settling}
+use Rattle.fit_certify.specs.Settling.{AreKnown, leaf_count, IsPass}
 
 -- the error is the greatest way off the plane
 pub error-most : (n : ℕ) (heights : List ℕ) (a tolerance : ℕ) → greatest (offs_in n heights a) ≤ tolerance
@@ -45,7 +48,7 @@ error-within n heights a lower is_over told not = error-most n heights a lower (
 -- a triangle
 
 -- with no mark, and below a split one, it is a leaf
-pub unset-leaf : (n : ℕ) (flags : List Bool) (t : ℕ) → IsClosed n (is_flagged flags) → IsSplittable n t →
+unset-leaf : (n : ℕ) (flags : List Bool) (t : ℕ) → IsClosed n (is_flagged flags) → IsSplittable n t →
     is_flagged flags t ≡ false → (4 ≤ t → IsTrue (is_flagged flags (t / 2))) →
     Contains (leaves_of n (is_flagged flags)) t
 unset-leaf n flags t closed splittable unset parent =
@@ -74,42 +77,34 @@ known-more n heights lower known next t before here added = record {
 
 -- one split
 
--- one thing after the other
-going-through :
-    (n : ℕ) (heights : List ℕ) (tolerance : ℕ) (one two three : List Bool) (first second third : List Witness) →
-    IsGoingOn n heights tolerance one first two second → IsGoingOn n heights tolerance two second three third
-    → IsGoingOn n heights tolerance one first three third
-going-through n heights tolerance one two three first second third p q = record {
-  closed = q.closed;
-  kept = λ a is. q.kept a (p.kept a is);
-  leads = λ has leads. q.leads has (p.leads has leads);
-}
-
-module _ (n : ℕ) (heights : List ℕ) (tolerance : ℕ) (old new : List Bool) (t : ℕ) (closed : IsClosed n (is_flagged old))
-    (leaf : Contains (leaves_of n (is_flagged old)) t)
-    (least : IsLeastClosed n (with_triangle (is_flagged old) t) (is_flagged new)) where
-  -- a leaf that is off is a reason
-  pub split-going : (before after : List Witness) (p : Point) → IsSplittable n t → IsAbove n heights t tolerance p →
-      after ≡ before ++ record { triangle = t; x = p.x; y = p.y } ∷ [] →
-      IsGoingOn n heights tolerance old before new after
-  split-going before after p splittable above more = record {
-    closed = least.closed;
-    kept = λ a is. least.holds a (with-old (is_flagged old) t a is);
-    leads = λ has leads.
-        let r : Witness = record { triangle = t; x = p.x; y = p.y } in
-        subst (λ (l : List Witness). LeadsTo n heights tolerance has l (is_flagged new)) (sym more)
-        (leads-next n heights tolerance has before (is_flagged old) (is_flagged new) r leads
-        record {
-          splittable = splittable;
-          leaf = leaf;
-          off = record { column = above.column; row = above.row; held = above.held; above = above.above };
-        } least);
-  }
-
-  -- and there are more leaves
-  pub split-grown : length (leaves_of n (is_flagged old)) < length (leaves_of n (is_flagged new))
-  split-grown = step-grown n (is_flagged old) (is_flagged new) t closed
-      (outer-leaf n (is_flagged old) t closed (IsIn-contains t (leaves_of n (is_flagged old)) leaf)) least
+-- a leaf that is off is a reason, and there are more leaves
+pub split-pass : (b : Bounds) (old new : Settling) (t : ℕ) (p : Point) → IsClosed b.grid.now.n (is_flagged old.flags.now) →
+    IsSplittable b.grid.now.n t → is_flagged old.flags.now t ≡ false →
+    (4 ≤ t → IsTrue (is_flagged old.flags.now (t / 2))) → IsAbove b.grid.now.n b.grid.now.heights t b.tolerance p →
+    new.reasons.now.items ≡ old.reasons.now.items ++ record { triangle = t; x = p.x; y = p.y } ∷ [] →
+    IsLeastClosed b.grid.now.n (with_triangle (is_flagged old.flags.now) t) (is_flagged new.flags.now) →
+    IsPass b old new true
+split-pass b old new t p closed splittable unset parent above more least =
+    let n : ℕ = b.grid.now.n in
+    let has : ℕ → Bool = is_flagged old.flags.now in
+    let after : ℕ → Bool = is_flagged new.flags.now in
+    let leaf : Contains (leaves_of n has) t = unset-leaf n old.flags.now t closed splittable unset parent in
+    let grown : leaf_count b old < leaf_count b new =
+    step-grown n has after t closed (outer-leaf n has t closed (IsIn-contains t (leaves_of n has) leaf)) least in
+    record {
+      kept = λ a is. least.holds a (with-old has t a is);
+      leads = λ from leads.
+          let r : Witness = record { triangle = t; x = p.x; y = p.y } in
+          subst (λ (l : List Witness). LeadsTo n b.grid.now.heights b.tolerance from l after) (sym more)
+          (leads-next n b.grid.now.heights b.tolerance from old.reasons.now.items has after r leads
+          record {
+            splittable = splittable;
+            leaf = leaf;
+            off = record { column = above.column; row = above.row; held = above.held; above = above.above };
+          } least);
+      more = omega arith;
+      same = λ not. absurd (false≢true (sym not));
+    }
 
 -- a pass
 
@@ -118,57 +113,34 @@ pub neither : (one other next : Bool) → next ≡ (one || other) → next ≡ f
 neither true other next either not = absurd (false≢true (sym not ∙ either))
 neither false other next either not = (refl, sym either ∙ not)
 
--- there are more leaves where one of two parts splits one
-either-more : (n : ℕ) (old mid new : List Bool) (one other next : Bool) → next ≡ (one || other) →
-    (one ≡ true → length (leaves_of n (is_flagged old)) < length (leaves_of n (is_flagged mid))) →
-    (one ≡ false → mid ≡ old) →
-    (other ≡ true → length (leaves_of n (is_flagged mid)) < length (leaves_of n (is_flagged new))) →
-    (other ≡ false → new ≡ mid) → next ≡ true →
-    length (leaves_of n (is_flagged old)) < length (leaves_of n (is_flagged new))
-either-more n old mid new one other next either first same second again did_any =
-    let size : List Bool → ℕ = λ flags. length (leaves_of n (is_flagged flags)) in
-    ⊎_elim
-    (λ (did : one ≡ true).
-    let less : size old < size mid = first did in
-    ⊎_elim
-    (λ (more : other ≡ true). let grown : size mid < size new = second more in omega arith)
-    (λ (did_none : other ≡ false). subst (λ (l : List Bool). size old < size l) (sym (again did_none)) less)
-    (cases_Bool other))
-    (λ (did_not : one ≡ false).
-    let here : other ≡ true = ⊎_elim (λ yet. absurd (both_ways one did_not yet)) (λ now. now)
-    (or_cases one other (sym either ∙ did_any)) in
-    subst (λ (l : List Bool). size l < size new) (same did_not) (second here))
-    (cases_Bool one)
-
--- so of the two parts together
-either-split : (n : ℕ) (old mid new : List Bool) (one other next : Bool) → next ≡ (one || other) →
-    HasSplit n old mid one → HasSplit n mid new other → HasSplit n old new next
-either-split n old mid new one other next either first second = record {
-  more = either-more n old mid new one other next either first.more first.same second.more second.same;
-  same = λ not. let both = neither one other next either not in second.same both.1 ∙ first.same both.0;
-}
+-- one for either is no more than one for each
+either-le : (one other : Bool) → cond (one || other) 1 0 ≤ cond one 1 0 + cond other 1 0
+either-le true true = omega arith
+either-le true false = omega arith
+either-le false true = omega arith
+either-le false false = omega arith
 
 -- one part after the other
-pub pass-through : (n : ℕ) (heights : List ℕ) (tolerance : ℕ) (one two three : List Bool)
-    (first second third : List Witness) (did other next : Bool) → next ≡ (did || other) →
-    IsPass n heights tolerance one first two second did → IsPass n heights tolerance two second three third other →
-    IsPass n heights tolerance one first three third next
-pass-through n heights tolerance one two three first second third did other next either p q = record {
-  going = going-through n heights tolerance one two three first second third p.going q.going;
-  split = either-split n one two three did other next either p.split q.split;
+pub pass-through : (b : Bounds) (one two three : Settling) (did other next : Bool) → next ≡ (did || other) →
+    IsPass b one two did → IsPass b two three other → IsPass b one three next
+pass-through b one two three did other next either p q = record {
+  kept = λ a is. q.kept a (p.kept a is);
+  leads = λ has leads. q.leads has (p.leads has leads);
+  more =
+      let first = p.more in
+      let second = q.more in
+      let most = either-le did other in
+      subst (λ z. leaf_count b one + cond z 1 0 ≤ leaf_count b three) (sym either) (omega arith);
+  same = λ not. let both = neither did other next either not in q.same both.1 ∙ p.same both.0;
 }
 
--- a part of a pass leaves what the next one begins with
-pub ready-on : (n : ℕ) (heights : List ℕ) (tolerance lower : ℕ) (flags known new next : List Bool) →
-    AreReady n heights tolerance lower flags known → AreKept n heights lower flags known new next →
-    IsClosed n (is_flagged new) → AreReady n heights tolerance lower new next
-ready-on n heights tolerance lower flags known new next ready kept closed = record {
-  lower = ready.lower;
-  flags = kept.flags ∙ ready.flags;
-  closed = closed;
-  room = kept.room ∙ ready.room;
-  known = kept.known;
-}
+-- each pass but the last has more leaves
+pub settle-falls : (b : Bounds) (old new : Settling) (was again : Bool) → was ≡ true → IsPass b old new again →
+    cond again 1 0 + 2 * (2 * 4 ^ b.grid.now.n - leaf_count b new)
+    < cond was 1 0 + 2 * (2 * 4 ^ b.grid.now.n - leaf_count b old)
+settle-falls b old new false again is pass = absurd (false≢true is)
+settle-falls b old new true again is pass =
+    let more = pass.more in let most = leaves-most b.grid.now.n (is_flagged new.flags.now) in omega arith
 
 -- a half of a triangle that is split is one of the grid, and its parent is split
 pub half-ready : (n : ℕ) (flags : List Bool) (t half : ℕ) → 2 ≤ t → level_of t < 2 * n → t ≡ half / 2 →
@@ -249,26 +221,3 @@ reasons-few n heights tolerance has reasons after small closed leads =
     let few : 2 * n + 1 ≤ 23 = omega arith in
     let high : 2 ^ (2 * n + 1) ≤ 2 ^ 23 = pow_mono few in
     omega arith
-
--- each pass but the last has more leaves
-settle-smaller : (n : ℕ) (old new : List Bool) (again : Bool) →
-    (again ≡ true → length (leaves_of n (is_flagged old)) < length (leaves_of n (is_flagged new))) →
-    (again ≡ false → new ≡ old) →
-    cond again 1 0 + 2 * (2 * 4 ^ n - length (leaves_of n (is_flagged new)))
-    < 1 + 2 * (2 * 4 ^ n - length (leaves_of n (is_flagged old)))
-settle-smaller n old new true more same =
-    let less = more refl in let most = leaves-most n (is_flagged new) in omega arith
-settle-smaller n old new false more same =
-    subst (λ (l : List Bool). 0 + 2 * (2 * 4 ^ n - length (leaves_of n (is_flagged l))) < 1 + 2 *
-    (2 * 4 ^ n - length (leaves_of n (is_flagged old))))
-    (sym (same refl)) (omega arith)
-
-pub settle-falls : (n : ℕ) (old new : List Bool) (was again : Bool) → was ≡ true →
-    (again ≡ true → length (leaves_of n (is_flagged old)) < length (leaves_of n (is_flagged new))) →
-    (again ≡ false → new ≡ old) →
-    cond again 1 0 + 2 * (2 * 4 ^ n - length (leaves_of n (is_flagged new))) < cond was 1 0 + 2 *
-    (2 * 4 ^ n - length (leaves_of n (is_flagged old)))
-settle-falls n old new was again is more same =
-    subst (λ (b : Bool). cond again 1 0 + 2 * (2 * 4 ^ n - length (leaves_of n (is_flagged new)))
-    < cond b 1 0 + 2 * (2 * 4 ^ n - length (leaves_of n (is_flagged old)))) (sym is)
-    (settle-smaller n old new again more same)

@@ -1,14 +1,16 @@
 -- Reasons that are listed as their triangles are split, and triangles that are known to be within a tolerance. This
 -- project's own words.
--- Words: AreKnown, IsLower, AreReady, AreKept, IsGoingOn, HasSplit, IsPass.
-use Rattle.std.specs.Prelude.{◌≡◌, ℕ, ◌+◌, ◌-◌, ◌*◌, ◌^◌, ◌<◌, ◌≤◌, Bool, true, false, IsTrue, List, length}
+-- Words: AreKnown, IsLower, IsReady, IsSame, HasLed, leaf_count, IsPass, IsWithin, IsSettled.
+use Rattle.std.specs.Prelude.{◌≡◌, ℕ, ◌+◌, ◌-◌, ◌*◌, ◌^◌, ◌≤◌, Bool, false, cond, IsTrue, List, length}
 use Rattle.mesh_defs.specs.ClosedSet.{IsClosed, IsSubset, leaves_of}
+use Rattle.mesh_defs.specs.Priority.{worst_of}
 use Rattle.mesh_laws.specs.Sweep.{is_flagged}
 use Rattle.fit_laws.specs.Error.{error_of}
-use Rattle.certificate_laws.specs.declared.fit_reason.Witness.{Witness}
 use Rattle.certificate_laws.specs.declared.fit_reason.Target.{Target}
 use Rattle.certificate_laws.specs.declared.fit_reason.Target.TheVariants.{Error, Budget}
 use Rattle.certificate_laws.specs.FitCertificate.{LeadsTo}
+use Rattle.fit_certify.specs.declared.settle.Bounds.{Bounds}
+use Rattle.fit_certify.specs.declared.settle.Settling.{Settling}
 
 -- each marked triangle has an error of at most this
 pub record AreKnown (n : ℕ) (heights : List ℕ) (lower : ℕ) (known : List Bool) : Type 0 where
@@ -20,34 +22,38 @@ IsLower (Error tolerance) own lower = lower ≡ own
 IsLower (Budget triangles) own lower = lower ≡ own - 1
 
 -- what a split begins with: flags of a closed set, and marks of triangles known for a tolerance that is no higher
-pub record AreReady (n : ℕ) (heights : List ℕ) (tolerance least : ℕ) (set marks : List Bool) : Type 0 where
-  pub lower : least ≤ tolerance
-  pub flags : length set ≡ 2 ^ (2 * n + 1)
-  pub closed : IsClosed n (is_flagged set)
-  pub room : length marks ≡ 2 ^ (2 * n + 1)
-  pub known : AreKnown n heights least marks
+pub record IsReady (b : Bounds) (s : Settling) : Type 0 where
+  pub lower : b.lower ≤ b.tolerance
+  pub flags : length s.flags.now ≡ 2 ^ (2 * b.grid.now.n + 1)
+  pub closed : IsClosed b.grid.now.n (is_flagged s.flags.now)
+  pub room : length s.known.now ≡ 2 ^ (2 * b.grid.now.n + 1)
+  pub known : AreKnown b.grid.now.n b.grid.now.heights b.lower s.known.now
 
--- as many flags and marks as before, and each marked triangle is known
-pub record AreKept (n : ℕ) (heights : List ℕ) (least : ℕ) (old before new after : List Bool) : Type 0 where
-  pub flags : length new ≡ length old
-  pub room : length after ≡ length before
-  pub known : AreKnown n heights least after
+-- the same references
+pub record IsSame (old new : Settling) : Type 0 where
+  pub flags : new.flags.ghost_name ≡ old.flags.ghost_name
+  pub known : new.known.ghost_name ≡ old.known.ghost_name
+  pub reasons : new.reasons.ghost_name ≡ old.reasons.ghost_name
 
--- the flags go on from old ones to new ones as the list of reasons does
-pub record IsGoingOn (n : ℕ) (heights : List ℕ) (tolerance : ℕ) (old : List Bool) (before : List Witness)
-    (new : List Bool) (after : List Witness) : Type 0 where
-  pub closed : IsClosed n (is_flagged new)
-  pub kept : IsSubset (is_flagged old) (is_flagged new)
-  pub leads : (has : ℕ → Bool) → LeadsTo n heights tolerance has before (is_flagged old)
-      → LeadsTo n heights tolerance has after (is_flagged new)
+-- the reasons lead from this set to the one that is flagged
+abbrev pub HasLed : Bounds → (ℕ → Bool) → Settling → Type 0
+HasLed b has s = LeadsTo b.grid.now.n b.grid.now.heights b.tolerance has s.reasons.now.items (is_flagged s.flags.now)
 
--- whether a leaf was split: then there are more leaves, and else the flags are as they were
-pub record HasSplit (n : ℕ) (old new : List Bool) (again : Bool) : Type 0 where
-  pub more : again ≡ true → length (leaves_of n (is_flagged old)) < length (leaves_of n (is_flagged new))
-  pub same : again ≡ false → new ≡ old
+abbrev pub leaf_count : Bounds → Settling → ℕ
+leaf_count b s = length (leaves_of b.grid.now.n (is_flagged s.flags.now))
 
--- a pass over some triangles, and whether it split a leaf
-pub record IsPass (n : ℕ) (heights : List ℕ) (tolerance : ℕ) (old : List Bool) (before : List Witness) (new : List Bool)
-    (after : List Witness) (again : Bool) : Type 0 where
-  pub going : IsGoingOn n heights tolerance old before new after
-  pub split : HasSplit n old new again
+-- a pass over some triangles: the flags go on as the reasons do, and whether it split a leaf
+pub record IsPass (b : Bounds) (old new : Settling) (again : Bool) : Type 0 where
+  pub kept : IsSubset (is_flagged old.flags.now) (is_flagged new.flags.now)
+  pub leads : (has : ℕ → Bool) → HasLed b has old → HasLed b has new
+  pub more : leaf_count b old + cond again 1 0 ≤ leaf_count b new
+  pub same : again ≡ false → new.flags.now ≡ old.flags.now
+
+-- the triangle is off by no more than the tolerance
+abbrev pub IsWithin : Bounds → ℕ → Type 0
+IsWithin b a = error_of b.grid.now.n b.grid.now.heights a ≤ b.tolerance
+
+-- and so is each leaf
+abbrev pub IsSettled : Bounds → Settling → Type 0
+IsSettled b s =
+    worst_of (error_of b.grid.now.n b.grid.now.heights) (leaves_of b.grid.now.n (is_flagged s.flags.now)) ≤ b.tolerance

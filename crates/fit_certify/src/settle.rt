@@ -10,7 +10,7 @@ ghost use Rattle.mesh_laws.specs.Sweep.{is_flagged};
 ghost use Rattle.fit_laws.specs.Error.{error_of};
 ghost use Rattle.certificate_laws.specs.FitCertificate.{LeadsTo};
 ghost use Rattle.certificate_laws.specs.declared.limits.TheConstants.{MOST_REASONS};
-ghost use Rattle.fit_certify.specs.Settling.{AreKnown, AreReady, AreKept, IsPass};
+ghost use Rattle.fit_certify.specs.Settling.{AreKnown, IsReady, IsSame, IsPass, IsWithin, IsSettled};
 
 use crate::force::force;
 use crate::known::point_off;
@@ -20,6 +20,22 @@ use certificate_laws::Witness;
 use mesh_defs::NoMemory;
 use pgm_grid::Grid;
 use std::alloc::Global;
+
+/// A grid, how far off a leaf may be, and how far those are at most that are not measured again.
+#[derive(Drop)]
+struct Bounds<'a> {
+    grid: &'a Grid,
+    tolerance: u32,
+    lower: u32,
+}
+
+/// What is split, which triangles are known to be within the lower bound, and the reasons so far.
+#[derive(Drop)]
+struct Settling<'a> {
+    flags: &'a mut [bool],
+    known: &'a mut [bool],
+    reasons: &'a mut Vec<Witness>,
+}
 
 /// Splits each leaf that is off by more than the tolerance, with what that forces, until none is. Answers the reasons.
 ///
@@ -49,67 +65,91 @@ pub(crate) fn settle(
         (leaves_of grid.now.n (is_flagged flags.new)) ≤ tolerance) }
     ensures few { IfOk result (λ v. length v.items ≤ MOST_REASONS) }
 {
-    let _level = grid.n();
+    let bounds = Bounds {
+        grid,
+        tolerance,
+        lower,
+    };
     let mut reasons = Vec::new(alloc);
+    let mut settling = Settling {
+        flags,
+        known,
+        reasons: &mut reasons,
+    };
     let mut again = true;
     while again {
-        again = sweep(grid, tolerance, lower, flags, known, &mut reasons)?;
+        again = settling.sweep(&bounds)?;
     }
     Ok(reasons)
 }
 
-/// Splits each of these leaves, and of what comes with that, depth first. Answers whether there was one.
-fn sweep(
-    grid: &Grid,
-    tolerance: u32,
-    lower: u32,
-    flags: &mut [bool],
-    known: &mut [bool],
-    reasons: &mut Vec<Witness>,
-) -> Result<bool, NoMemory>
-    requires ready { AreReady grid.now.n grid.now.heights tolerance lower flags.old known.old }
-    ensures kept { AreKept grid.now.n grid.now.heights lower flags.old known.old flags.new known.new }
-    ensures pass { IfOk result (IsPass grid.now.n grid.now.heights tolerance
-        flags.old reasons.old.items flags.new reasons.new.items) }
-    ensures none { IfOk result (λ again. again ≡ false → worst_of (error_of grid.now.n grid.now.heights)
-        (leaves_of grid.now.n (is_flagged flags.new)) ≤ tolerance) }
-{
-    let _level = grid.n();
-    let below = sweep_under(grid, tolerance, lower, flags, known, reasons, Tri::LOWER)?;
-    let above = sweep_under(grid, tolerance, lower, flags, known, reasons, Tri::UPPER)?;
-    Ok(either(below, above))
-}
+impl Settling<'_> {
+    /// Splits each of these leaves, and of what comes with that, depth first. Answers whether there was one.
+    fn sweep(&mut self, bounds: &Bounds<'_>) -> Result<bool, NoMemory>
+        requires ready { IsReady bounds.now self.old }
+        ensures same { IsSame self.old self.new }
+        ensures ready { IsReady bounds.now self.new }
+        ensures pass { IfOk result (IsPass bounds.now self.old self.new) }
+        ensures none { IfOk result (λ again. again ≡ false → IsSettled bounds.now self.new) }
+    {
+        let _level = bounds.grid.n();
+        let below = self.sweep_under(bounds, Tri::LOWER)?;
+        let above = self.sweep_under(bounds, Tri::UPPER)?;
+        Ok(either(below, above))
+    }
 
-/// Splits each of these leaves that is the triangle or lies in it. The triangle's parent is split.
-fn sweep_under(
-    grid: &Grid,
-    tolerance: u32,
-    lower: u32,
-    flags: &mut [bool],
-    known: &mut [bool],
-    reasons: &mut Vec<Witness>,
-    t: Tri,
-) -> Result<bool, NoMemory>
-    requires address { IsAddress grid.now.n t }
-    requires parent { 4 ≤ t → IsTrue (is_flagged flags.old (t / 2)) }
-    requires ready { AreReady grid.now.n grid.now.heights tolerance lower flags.old known.old }
-    ensures kept { AreKept grid.now.n grid.now.heights lower flags.old known.old flags.new known.new }
-    ensures pass { IfOk result (IsPass grid.now.n grid.now.heights tolerance
-        flags.old reasons.old.items flags.new reasons.new.items) }
-    ensures none { IfOk result (λ again. again ≡ false →
-        All (λ a. error_of grid.now.n grid.now.heights a ≤ tolerance)
-        (leaves_under (2 * grid.now.n - level_of t) (is_flagged flags.new) t)) }
-{
-    if t.level() >= 2 * grid.n() {
-        return Ok(false);
+    /// Splits each of these leaves that is the triangle or lies in it. The triangle's parent is split.
+    fn sweep_under(&mut self, bounds: &Bounds<'_>, t: Tri) -> Result<bool, NoMemory>
+        requires address { IsAddress bounds.now.grid.now.n t }
+        requires parent { 4 ≤ t → IsTrue (is_flagged self.old.flags.now (t / 2)) }
+        requires ready { IsReady bounds.now self.old }
+        ensures same { IsSame self.old self.new }
+        ensures ready { IsReady bounds.now self.new }
+        ensures pass { IfOk result (IsPass bounds.now self.old self.new) }
+        ensures none { IfOk result (λ again. again ≡ false → All (IsWithin bounds.now)
+            (leaves_under (2 * bounds.now.grid.now.n - level_of t) (is_flagged self.new.flags.now) t)) }
+    {
+        if t.level() >= 2 * bounds.grid.n() {
+            return Ok(false);
+        }
+        let is_off = self.split_leaf(bounds, t)?;
+        let flags = &mut *self.flags;
+        if !is_set(flags, t) {
+            return Ok(is_off);
+        }
+        let left = self.sweep_under(bounds, t.left())?;
+        let right = self.sweep_under(bounds, t.right())?;
+        Ok(either(is_off, either(left, right)))
     }
-    let is_off = split_leaf(grid, tolerance, lower, flags, known, reasons, t)?;
-    if !is_set(flags, t) {
-        return Ok(is_off);
+
+    /// Splits the triangle, if it is such a leaf. Its parent is split. Answers whether it is one.
+    fn split_leaf(&mut self, bounds: &Bounds<'_>, t: Tri) -> Result<bool, NoMemory>
+        requires splittable { IsSplittable bounds.now.grid.now.n t }
+        requires parent { 4 ≤ t → IsTrue (is_flagged self.old.flags.now (t / 2)) }
+        requires ready { IsReady bounds.now self.old }
+        ensures same { IsSame self.old self.new }
+        ensures ready { IsReady bounds.now self.new }
+        ensures pass { IfOk result (IsPass bounds.now self.old self.new) }
+        ensures none { IfOk result (λ is. is ≡ false →
+            is_flagged self.new.flags.now t ≡ false → IsWithin bounds.now t) }
+    {
+        let flags = &mut *self.flags;
+        if is_set(flags, t) {
+            return Ok(false);
+        }
+        match point_off(bounds.grid, t, bounds.tolerance, bounds.lower, self.known) {
+            None => Ok(false),
+            Some(point) => {
+                self.reasons.push(Witness {
+                    triangle: t,
+                    x: point.x,
+                    y: point.y,
+                })?;
+                force(flags, bounds.grid.n(), t);
+                Ok(true)
+            }
+        }
     }
-    let left = sweep_under(grid, tolerance, lower, flags, known, reasons, t.left())?;
-    let right = sweep_under(grid, tolerance, lower, flags, known, reasons, t.right())?;
-    Ok(either(is_off, either(left, right)))
 }
 
 /// Whether one of them is true.
@@ -117,40 +157,4 @@ fn either(one: bool, other: bool) -> bool
     ensures { result ≡ (one || other) }
 {
     one || other
-}
-
-/// Splits the triangle, if it is such a leaf. Its parent is split. Answers whether it is one.
-fn split_leaf(
-    grid: &Grid,
-    tolerance: u32,
-    lower: u32,
-    flags: &mut [bool],
-    known: &mut [bool],
-    reasons: &mut Vec<Witness>,
-    t: Tri,
-) -> Result<bool, NoMemory>
-    requires splittable { IsSplittable grid.now.n t }
-    requires parent { 4 ≤ t → IsTrue (is_flagged flags.old (t / 2)) }
-    requires ready { AreReady grid.now.n grid.now.heights tolerance lower flags.old known.old }
-    ensures kept { AreKept grid.now.n grid.now.heights lower flags.old known.old flags.new known.new }
-    ensures pass { IfOk result (IsPass grid.now.n grid.now.heights tolerance
-        flags.old reasons.old.items flags.new reasons.new.items) }
-    ensures none { IfOk result (λ is. is ≡ false →
-        is_flagged flags.new t ≡ false → error_of grid.now.n grid.now.heights t ≤ tolerance) }
-{
-    if is_set(flags, t) {
-        return Ok(false);
-    }
-    match point_off(grid, t, tolerance, lower, known) {
-        None => Ok(false),
-        Some(point) => {
-            reasons.push(Witness {
-                triangle: t,
-                x: point.x,
-                y: point.y,
-            })?;
-            force(flags, grid.n(), t);
-            Ok(true)
-        }
-    }
 }

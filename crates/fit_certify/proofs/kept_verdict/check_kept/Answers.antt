@@ -1,5 +1,5 @@
 -- The marks are those of the points on the grid, and the first reason that is none stands behind the points.
-use Rattle.std.proofs.Common.{◌≡◌, ℕ, ◌+◌, List, All, inl, inr, length, sym, ◌∙◌, ap, subst}
+use Rattle.std.proofs.Common.{ℕ, ◌+◌, List, All, inl, inr, length, sym, ◌∙◌, ap, subst}
 use Rattle.mesh_defs.specs.declared.point.Point.{Point}
 use Rattle.certificate_laws.specs.declared.fit_reason.FitVerdict.{FitVerdict}
 use Rattle.certificate_laws.specs.Keeping.{IsNeed, IsKeptRejected, IsKeptVerdict}
