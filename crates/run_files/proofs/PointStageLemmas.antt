@@ -1,6 +1,6 @@
 -- A file of points that is read byte by byte.
-use Rattle.std.proofs.Common.{Bool, true, drop, Some, ◌≡◌, ◌≢◌, ℕ, ◌+◌, ◌≤◌, ◌<◌, List, [], ◌∷◌, ◌++◌, length, Option}
-use Rattle.std.proofs.Common.{Result, Ok, Err, OnOk, IfOk}
+use Rattle.std.proofs.Common.{◌≡◌, ◌≢◌, ℕ, ◌+◌, ◌≤◌, ◌<◌, List, [], ◌∷◌, ◌++◌, length, Option}
+use Rattle.std.proofs.Common.{Result, Ok, Err, OnOk}
 use Rattle.std.proofs.Common.{sym, ◌∙◌, ap, ap₂, subst, arith, append_assoc, length-append}
 use Rattle.mesh_defs.specs.declared.point.Point.{Point}
 use Rattle.roam_script.specs.declared.limits.TheConstants.{MOST_LINE_BYTES}

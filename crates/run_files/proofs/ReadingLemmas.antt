@@ -1,5 +1,5 @@
 -- A grid that is read from a shelf, piece by piece.
-use Rattle.std.proofs.Common.{arith, ◌+◌, length-append, Result, OnOk, IfOk, Bool, true, ◌≡◌, ◌≢◌, ℕ, List, [], ◌++◌}
+use Rattle.std.proofs.Common.{arith, ◌+◌, length-append, Result, OnOk, IfOk, Bool, ◌≡◌, ◌≢◌, ℕ, List, [], ◌++◌}
 use Rattle.std.proofs.Common.{length, take, drop, Option, Some, Ok, Err, refl, sym, ◌∙◌, ap, append_assoc, append-nil}
 use Rattle.std.proofs.Common.{false, ◌∷◌}
 use Rattle.mesh_defs.specs.HeightField.{HeightField}
@@ -17,7 +17,7 @@ use Rattle.run_files.specs.declared.grid_file.GridStop.{GridStop}
 use Rattle.run_files.specs.declared.grid_file.GridStop.TheVariants as stop
 use Rattle.run_laws.specs.FileStop.{StopsReading}
 use Rattle.run_files.specs.GridStop.{stop_for}
-use Rattle.run_laws.proofs.FileLemmas.{HasReadOf, read-nothing, file-cut, same-unread, stops-behind}
+use Rattle.run_laws.proofs.FileLemmas.{HasReadOf, file-cut, same-unread, stops-behind}
 
 -- the reader has taken these bytes
 pub record IsTaken (reader : Progress) (bytes : List ℕ) : Type 0 where
@@ -27,17 +27,6 @@ pub record IsTaken (reader : Progress) (bytes : List ℕ) : Type 0 where
 -- they were read of the named file
 abbrev pub IsReading : Option (List NamedFile) → Option (List ℕ) → List ℕ → Progress → Type 0
 IsReading files rest name reader = HasReadOf (IsTaken reader) files rest name
-
--- nothing was taken of a file that was just opened
-pub reading-begin : (files : Option (List NamedFile)) (rest : Option (List ℕ)) (name : List ℕ) (reader : Progress)
-    → ((more : List ℕ) → resume reader more ≡ grid_of more) → taken reader ≡ 0
-    → ((all : List NamedFile) → files ≡ Some all → rest ≡ Some (bytes_of all name))
-    → IsReading files rest name reader
-reading-begin files rest name reader means none chosen = record {
-  bytes = [];
-  come = record { means = means; counted = none };
-  in_file = read-nothing files rest name chosen;
-}
 
 -- a piece was taken
 pub taken-more : (bytes piece : List ℕ) (reader next : Progress) → IsTaken reader bytes

@@ -4,8 +4,10 @@ use Rattle.std.proofs.Common.{Option, Some, None, Result, Ok, Err, OnOk, IfOk, i
 use Rattle.std.proofs.Common.{append-nil}
 use Rattle.std.proofs.Math.Seq.{take-append_seam}
 use Rattle.std.proofs.lemmas.List.{take-append-drop, take_more, length-take-le}
-use Rattle.roam_edge.specs.Shelf.{NamedFile, bytes_of}
+use Rattle.roam_edge.specs.Fault.{next_count, IsInTime}
+use Rattle.roam_edge.specs.Shelf.{NamedFile, bytes_of, Reads}
 use Rattle.roam_edge.specs.Told.{StaysTold}
+use Rattle.run_laws.specs.Moment.{Moment, OnlyReads}
 use Rattle.run_laws.specs.Promise.{shelf_state, HasEnded}
 use Rattle.run_laws.specs.FileStop.{StopsReading}
 
@@ -143,52 +145,69 @@ pub record HasReadOf (holds : List ℕ → Type 0) (files : Option (List NamedFi
   pub come : holds bytes
   pub in_file : IsOfFile files rest name bytes
 
-module _ {holds : List ℕ → Type 0} {files : Option (List NamedFile)} {rest : Option (List ℕ)} {name : List ℕ}
-    (reading : HasReadOf holds files rest name) where
-  -- a piece more was read
-  pub read-on : (next : List ℕ → Type 0) (rest' : Option (List ℕ)) (piece : List ℕ) (count : ℕ) →
-      next (reading.bytes ++ piece)
-      → ((unread : List ℕ) → rest ≡ Some unread → rest' ≡ Some (drop count unread))
-      → ((unread : List ℕ) → rest ≡ Some unread → piece ≡ take count unread) → HasReadOf next files rest' name
-  read-on next rest' piece count come takes gives = record {
-    bytes = reading.bytes ++ piece;
+-- the file was opened, and no read of it failed or came to its end
+pub record IsOpen (before now : Moment) : Type 0 where
+  pub open_file : now.shelf.ended ≡ false
+  pub only : OnlyReads before now
+  pub opens : now.shelf.opens ≡ next_count before.shelf.opens
+  pub faults : now.shelf_faults ≡ before.shelf_faults
+  pub in_time : IsInTime before.shelf_late before.shelf_faults now.shelf_late
+
+-- nothing was read of a file that was just opened
+pub read-begin : {holds : List ℕ → Type 0} {files : Option (List NamedFile)} {rest : Option (List ℕ)} {name : List ℕ}
+    → holds [] → ((all : List NamedFile) → files ≡ Some all → rest ≡ Some (bytes_of all name))
+    → HasReadOf holds files rest name
+read-begin {files = files} {rest = rest} {name = name} come chosen =
+    record { bytes = []; come = come; in_file = read-nothing files rest name chosen }
+
+-- One read more gives so many bytes, in front of the buffer.
+module _ {holds : List ℕ → Type 0} {E : Type 0} {files : Option (List NamedFile)} {rest rest' : Option (List ℕ)}
+    {name old new : List ℕ} {count : ℕ} (reading : HasReadOf holds files rest name)
+    (reads : Reads {E = E} rest rest' old new (Ok count)) where
+  -- they are the next of the file
+  pub read-gives : (unread : List ℕ) → rest ≡ Some unread → take count new ≡ take count unread
+  read-gives = piece-read rest count new old reads.within reads.gives
+
+  -- they were taken
+  pub read-on : (next : List ℕ → Type 0) → next (reading.bytes ++ take count new) → HasReadOf next files rest' name
+  read-on next come = record {
+    bytes = reading.bytes ++ take count new;
     come = come;
-    in_file = read-more files rest rest' name reading.bytes piece count reading.in_file takes gives;
+    in_file = read-more files rest rest' name reading.bytes (take count new) count reading.in_file reads.takes read-gives;
   }
 
-  -- what a piece more settles, whatever follows, holds of the file
-  pub read-settles : {A : Type 0} (of_bytes : List ℕ → A) (answer : A) (piece : List ℕ) (count : ℕ)
-      → ((more : List ℕ) → of_bytes ((reading.bytes ++ piece) ++ more) ≡ answer)
-      → ((unread : List ℕ) → rest ≡ Some unread → piece ≡ take count unread)
+  -- what they settle, whatever follows, holds of the file
+  pub read-settles : {A : Type 0} (of_bytes : List ℕ → A) (answer : A)
+      → ((more : List ℕ) → of_bytes ((reading.bytes ++ take count new) ++ more) ≡ answer)
       → (all : List NamedFile) → files ≡ Some all → of_bytes (bytes_of all name) ≡ answer
-  read-settles of_bytes answer piece count settled gives all told =
+  read-settles of_bytes answer settled all told =
       let here = reading.in_file all told in
-      ap of_bytes (file-cut (bytes_of all name) reading.bytes piece here.0 count here.2 (gives here.0 here.1))
+      ap of_bytes (file-cut (bytes_of all name) reading.bytes (take count new) here.0 count here.2
+      (read-gives here.0 here.1))
       ∙ settled (drop count here.0)
 
-  -- where nothing is unread, what holds of the bytes does so of the file
-  pub read-whole : {A : Type 0} (of_bytes : List ℕ → A) (answer : A)
-      → ((unread : List ℕ) → rest ≡ Some unread → unread ≡ []) → of_bytes reading.bytes ≡ answer
+  -- where it gives none, nothing is unread
+  pub none-unread : count ≡ 0 → (unread : List ℕ) → rest ≡ Some unread → unread ≡ []
+  none-unread none unread is = (reads.empty unread is).0 none
+
+  -- and what holds of the bytes does so of the file
+  pub read-whole : {A : Type 0} (of_bytes : List ℕ → A) (answer : A) → count ≡ 0 → of_bytes reading.bytes ≡ answer
       → (all : List NamedFile) → files ≡ Some all → of_bytes (bytes_of all name) ≡ answer
-  read-whole of_bytes answer nothing is all told =
-      ap of_bytes (read-all files rest name reading.bytes reading.in_file nothing all told) ∙ is
+  read-whole of_bytes answer none is all told =
+      ap of_bytes (read-all files rest name reading.bytes reading.in_file (none-unread none) all told) ∙ is
 
   -- the same of what an answer gives
-  pub read-made : {V E A : Type 0} (of_bytes : List ℕ → A) (made : V → A) (answer : Result V E)
-      → ((unread : List ℕ) → rest ≡ Some unread → unread ≡ [])
+  pub read-made : {V F A : Type 0} (of_bytes : List ℕ → A) (made : V → A) (answer : Result V F) → count ≡ 0
       → IfOk answer (λ value. of_bytes reading.bytes ≡ made value)
       → IfOk answer (λ value. (all : List NamedFile) → files ≡ Some all → of_bytes (bytes_of all name) ≡ made value)
-  read-made of_bytes made (Ok value) nothing is = read-whole of_bytes (made value) nothing is
-  read-made of_bytes made (Err error) nothing is = tt
+  read-made of_bytes made (Ok value) none is = read-whole of_bytes (made value) none is
+  read-made of_bytes made (Err error) none is = tt
 
-  -- a read that gives no byte ends the file
-  pub read-ended : {V E : Type 0} (answer : Result V E) (files' : Option (List NamedFile)) (rest' : Option (List ℕ))
-      (opens count : ℕ) (ended : Bool) → files' ≡ files → count ≡ 0 → ended ≡ true → StaysTold rest rest'
-      → ((unread : List ℕ) → rest ≡ Some unread → rest' ≡ Some (drop count unread))
-      → ((unread : List ℕ) → rest ≡ Some unread → unread ≡ [])
-      → OnOk answer (HasEnded (shelf_state files' rest' opens ended))
-  read-ended (Err error) files' rest' opens count ended same none at_end stays takes nothing = tt
-  read-ended (Ok value) files' rest' opens count ended same none at_end stays takes nothing =
-      has-ended files' rest rest' opens ended at_end stays
+  -- the end of the file was read
+  pub read-ended : {V F : Type 0} (answer : Result V F) (files' : Option (List NamedFile)) (opens : ℕ) (ended : Bool)
+      → files' ≡ files → count ≡ 0 → ended ≡ true → OnOk answer (HasEnded (shelf_state files' rest' opens ended))
+  read-ended (Err error) files' opens ended same none at_end = tt
+  read-ended (Ok value) files' opens ended same none at_end =
+      has-ended files' rest rest' opens ended at_end reads.told
       (λ all told. (let here = reading.in_file all (sym same ∙ told) in (here.0, here.1)))
-      (read-end rest rest' count none takes nothing)
+      (read-end rest rest' count none reads.takes (none-unread none))

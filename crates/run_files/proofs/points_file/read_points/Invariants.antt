@@ -1,10 +1,8 @@
-use Rattle.std.proofs.Common.{◌≡◌, ◌+◌, ◌-◌, ◌*◌, false, length}
-use Rattle.roam_edge.specs.Fault.{next_count, IsInTime}
+use Rattle.std.proofs.Common.{◌≡◌, ◌+◌, ◌-◌, ◌*◌, length}
 use Rattle.roam_script.specs.declared.limits.TheConstants.{MOST_LINE_BYTES}
 use Rattle.roam_script.specs.PointText.{most_points}
-use Rattle.run_laws.specs.Moment.{OnlyReads}
 use Rattle.run_laws.specs.PointFile.{HavePointsCome}
-use Rattle.run_laws.proofs.FileLemmas.{HasReadOf}
+use Rattle.run_laws.proofs.FileLemmas.{HasReadOf, IsOpen}
 use Rattle.run_files.specs.PointStage.{point_place, IsPointStage}
 use Rattle.run_files.proofs.points_file.read_points.Given as goal
 
@@ -15,13 +13,8 @@ invariant-pieces g l = record {
       (g.O.Outside.moment l.fn.outside).shelf.files (g.O.Outside.moment l.outside).shelf.rest l.name;
   level : l.stage.n ≡ l.n;
   sound : IsPointStage l.stage;
-  open_file : (g.O.Outside.moment l.outside).shelf.ended ≡ false;
+  opened : IsOpen (g.O.Outside.moment l.fn.outside) (g.O.Outside.moment l.outside);
   same : g.O.Outside.is_same l.fn.outside l.outside;
-  only : OnlyReads (g.O.Outside.moment l.fn.outside) (g.O.Outside.moment l.outside);
-  opens : (g.O.Outside.moment l.outside).shelf.opens ≡ next_count (g.O.Outside.moment l.fn.outside).shelf.opens;
-  faults : (g.O.Outside.moment l.outside).shelf_faults ≡ (g.O.Outside.moment l.fn.outside).shelf_faults;
-  in_time : IsInTime (g.O.Outside.moment l.fn.outside).shelf_late (g.O.Outside.moment l.fn.outside).shelf_faults
-      (g.O.Outside.moment l.outside).shelf_late;
 }
 
 -- each byte makes a line longer, or is the last of an accepted line
