@@ -6,12 +6,14 @@ use Rattle.std.proofs.lemmas.Bool.{cases_lt}
 use Rattle.std.proofs.lemmas.List.{append-nil, take-append-le, take-append-drop, take_all}
 use Rattle.mesh_defs.specs.Triangle.{IsSplittable}
 use Rattle.mesh_defs.proofs.ListLemmas.{IsIn, IsIn-among, among-in}
+use Rattle.mesh_defs.specs.State.{priority_seen}
 use Rattle.mesh_laws.specs.Sweep.{is_flagged}
 use Rattle.certificate_laws.specs.declared.reason.Reason.{Reason}
 use Rattle.certificate_laws.specs.declared.reason.Kind.{Kind}
 use Rattle.certificate_laws.specs.Certificate.{reason_triangles, named_in, IsWhy, AreReasons, AreAllReasons}
-use Rattle.roam_certify.specs.Making.{AreReasonsListed, IsPushed, left_out, listed, HasCauses, AreGrownReasons}
-use Rattle.roam_certify.specs.Making.{AreWanted, IsQueue}
+use Rattle.roam_certify.specs.declared.making.Wants.{Wants}
+use Rattle.roam_certify.specs.declared.making.Listing.{Listing}
+use Rattle.roam_certify.specs.Making.{IsListed, IsPushed, left_out, listed, HasCauses, AreGrownReasons, AreWanted, IsQueue}
 use Rattle.certificate_laws.proofs.SoundLemmas.{earlier_cases, earlier_new, reasons_next}
 use Rattle.roam_certify.proofs.CheckingLemmas.{named-next, with-same, take-next}
 
@@ -61,117 +63,114 @@ causes-grown n before after b g c = record {
 
 -- a push
 
-module _ (n limit : ℕ) (kind : Kind) (t : ℕ) (flags : List Bool) (reasons : List Reason) where
+module _ (w : Wants) (kind : Kind) (t : ℕ) (old new : Listing) where
   -- the list grows
-  pub pushed-grown : (flags_after : List Bool) (after : List Reason) →
-      IsPushed limit kind t flags reasons flags_after after → AreGrownReasons reasons after
-  pushed-grown flags_after after (left_out why same_flags same) = grown-same reasons after same
-  pushed-grown flags_after after (listed new less room added grown) = record {
+  pub pushed-grown : IsPushed w.limit kind t old new → AreGrownReasons old.reasons.items new.reasons.items
+  pushed-grown (left_out why flags same) = grown-same old.reasons.items new.reasons.items same
+  pushed-grown (listed fresh less room added grown) = record {
     extra = (record { kind = kind; triangle = t }) ∷ [];
     grown = grown;
   }
 
   -- as many flags
-  pub pushed-room : (flags_after : List Bool) (after : List Reason) →
-      IsPushed limit kind t flags reasons flags_after after → length flags_after ≡ length flags
-  pushed-room flags_after after (left_out why same_flags same) = ap (λ (l : List Bool). length l) same_flags
-  pushed-room flags_after after (listed new less room added grown) = room
+  pushed-room : IsPushed w.limit kind t old new → length new.flags.now ≡ length old.flags.now
+  pushed-room (left_out why flags same) = ap (λ (l : List Bool). length l) flags
+  pushed-room (listed fresh less room added grown) = room
 
   -- the flags are those of the list
-  pub pushed-same : (flags_after : List Bool) (after : List Reason) →
-      ((a : ℕ) → is_flagged flags a ≡ named_in reasons a) → IsPushed limit kind t flags reasons flags_after after →
-      (a : ℕ) → is_flagged flags_after a ≡ named_in after a
-  pushed-same flags_after after same (left_out why same_flags kept) a =
-      ap (λ l. is_flagged l a) same_flags ∙ same a ∙ sym (ap (λ l. named_in l a) kept)
-  pushed-same flags_after after same (listed new less room added grown) a =
-      added a ∙ with-same (is_flagged flags) (named_in reasons) t a (same a)
-      ∙ sym (ap (λ l. named_in l a) grown ∙ named-next reasons (record { kind = kind; triangle = t }) a)
+  pushed-same : ((a : ℕ) → is_flagged old.flags.now a ≡ named_in old.reasons.items a) →
+      IsPushed w.limit kind t old new → (a : ℕ) → is_flagged new.flags.now a ≡ named_in new.reasons.items a
+  pushed-same same (left_out why flags kept) a =
+      ap (λ l. is_flagged l a) flags ∙ same a ∙ sym (ap (λ l. named_in l a) kept)
+  pushed-same same (listed fresh less room added grown) a =
+      added a ∙ with-same (is_flagged old.flags.now) (named_in old.reasons.items) t a (same a)
+      ∙ sym (ap (λ l. named_in l a) grown
+      ∙ named-next old.reasons.items (record { kind = kind; triangle = t }) a)
 
   -- the triangle is listed unless the list is full
-  pub pushed-listed : (flags_after : List Bool) (after : List Reason) →
-      ((a : ℕ) → is_flagged flags a ≡ named_in reasons a) → IsPushed limit kind t flags reasons flags_after after →
-      length after < limit → IsTrue (named_in after t)
-  pushed-listed flags_after after same (left_out (inl old) same_flags kept) less =
-      ap (λ l. named_in l t) kept ∙ sym (same t) ∙ old
-  pushed-listed flags_after after same (left_out (inr full) same_flags kept) less =
+  pub pushed-named : IsListed w old → IsPushed w.limit kind t old new → length new.reasons.items < w.limit →
+      IsTrue (named_in new.reasons.items t)
+  pushed-named m (left_out (inl old_one) flags kept) less = ap (λ l. named_in l t) kept ∙ sym (m.same t) ∙ old_one
+  pushed-named m (left_out (inr full) flags kept) less =
       absurd (let e = ap (λ (l : List Reason). length l) kept in omega arith)
-  pushed-listed flags_after after same (listed new room_left room added grown) less =
+  pushed-named m (listed fresh room_left room added grown) less =
       subst (λ l. IsTrue (named_in l t)) (sym grown)
-      (among-in t (reason_triangles (reasons ++ (record { kind = kind; triangle = t }) ∷ []))
-      (earlier_new reasons (record { kind = kind; triangle = t })))
+      (among-in t (reason_triangles (old.reasons.items ++ (record { kind = kind; triangle = t }) ∷ []))
+      (earlier_new old.reasons.items (record { kind = kind; triangle = t })))
 
-  -- so the list is kept
-  pub pushed-list : (flags_after : List Bool) (after : List Reason) →
-      AreReasonsListed n limit flags reasons → IsSplittable n t →
-      (pushed : IsPushed limit kind t flags reasons flags_after after) → AreReasonsListed n limit flags_after after
-  pushed-list flags_after after m splittable pushed = record {
-    room = pushed-room flags_after after pushed ∙ m.room;
-    same = pushed-same flags_after after m.same pushed;
-    splittable = λ a h. by_case flags_after after pushed a h;
-    short = short_after flags_after after pushed;
+  -- only triangles that may be split are
+  pushed-splittable : IsListed w old → IsSplittable w.n t → IsPushed w.limit kind t old new → (a : ℕ) →
+      IsTrue (named_in new.reasons.items a) → IsSplittable w.n a
+  pushed-splittable m splittable (left_out why flags kept) a h =
+      m.splittable a (subst (λ l. IsTrue (named_in l a)) kept h)
+  pushed-splittable m splittable (listed fresh less room added grown) a h = ⊎_elim
+      (λ earlier. m.splittable a (among-in a (reason_triangles old.reasons.items) earlier))
+      (λ same. subst (λ z. IsSplittable w.n z) same splittable)
+      (earlier_cases old.reasons.items (record { kind = kind; triangle = t }) a
+      (IsIn-among a (reason_triangles (old.reasons.items ++ (record { kind = kind; triangle = t }) ∷ []))
+      (subst (λ l. IsTrue (named_in l a)) grown h)))
+
+  -- no more than the limit
+  pushed-short : IsListed w old → IsPushed w.limit kind t old new → length new.reasons.items ≤ w.limit
+  pushed-short m (left_out why flags kept) =
+      let short = m.short in let e = ap (λ (l : List Reason). length l) kept in omega arith
+  pushed-short m (listed fresh less room added grown) =
+      let e = ap (λ (l : List Reason). length l) grown in
+      omega (arith, length-append old.reasons.items ((record { kind = kind; triangle = t }) ∷ []))
+
+  -- and they are reasons
+  pushed-reasoned : IsListed w old → IsSplittable w.n t →
+      IsWhy w.n (priority_seen w.scene.now) w.worst (named_in old.reasons.items) kind t →
+      IsPushed w.limit kind t old new → AreReasons w.n (priority_seen w.scene.now) w.worst [] new.reasons.items
+  pushed-reasoned m splittable why (left_out left flags kept) =
+      subst (λ l. AreReasons w.n (priority_seen w.scene.now) w.worst [] l) (sym kept) m.reasoned
+  pushed-reasoned m splittable why (listed fresh less room added grown) =
+      subst (λ l. AreReasons w.n (priority_seen w.scene.now) w.worst [] l) (sym grown)
+      (reasons_next w.n (priority_seen w.scene.now) w.worst [] old.reasons.items
+      (record { kind = kind; triangle = t }) m.reasoned
+      record { splittable = splittable; new = sym (m.same t) ∙ fresh; why = why })
+
+  -- so a triangle with a cause keeps the list
+  pub pushed-list : IsListed w old → IsSplittable w.n t →
+      IsWhy w.n (priority_seen w.scene.now) w.worst (named_in old.reasons.items) kind t →
+      IsPushed w.limit kind t old new → IsListed w new
+  pushed-list m splittable why pushed = record {
+    in_grid = m.in_grid;
+    grid = m.grid;
+    room = pushed-room pushed ∙ m.room;
+    same = pushed-same m.same pushed;
+    splittable = pushed-splittable m splittable pushed;
+    short = pushed-short m pushed;
+    reasoned = pushed-reasoned m splittable why pushed;
   }
-    where
-      by_case : (flags_after : List Bool) (after : List Reason) →
-          IsPushed limit kind t flags reasons flags_after after → (a : ℕ) → IsTrue (named_in after a) → IsSplittable n a
-      by_case flags_after after (left_out why same_flags kept) a h =
-          m.splittable a (subst (λ l. IsTrue (named_in l a)) kept h)
-      by_case flags_after after (listed new less room added grown) a h = ⊎_elim
-          (λ old. m.splittable a (among-in a (reason_triangles reasons) old))
-          (λ same. subst (λ z. IsSplittable n z) same splittable)
-          (earlier_cases reasons (record { kind = kind; triangle = t }) a
-          (IsIn-among a (reason_triangles (reasons ++ (record { kind = kind; triangle = t }) ∷ []))
-          (subst (λ l. IsTrue (named_in l a)) grown h)))
-
-      short_after : (flags_after : List Bool) (after : List Reason) →
-          IsPushed limit kind t flags reasons flags_after after → length after ≤ limit
-      short_after flags_after after (left_out left same_flags kept) =
-          let s = m.short in
-          let e = ap (λ (l : List Reason). length l) kept in
-          omega arith
-      short_after flags_after after (listed new less room added grown) =
-          let e = ap (λ (l : List Reason). length l) grown in
-          omega (arith, length-append reasons ((record { kind = kind; triangle = t }) ∷ []))
-
-  -- and a triangle with a cause keeps them reasons
-  pub pushed-reasoned : (priority : ℕ → ℕ) (worst : ℕ) (flags_after : List Bool) (after : List Reason) →
-      AreReasonsListed n limit flags reasons → IsSplittable n t →
-      IsWhy n priority worst (named_in reasons) kind t → AreReasons n priority worst [] reasons →
-      IsPushed limit kind t flags reasons flags_after after →
-      AreReasons n priority worst [] after
-  pushed-reasoned priority worst flags_after after m splittable why are (left_out left same_flags kept) =
-      subst (λ l. AreReasons n priority worst [] l) (sym kept) are
-  pushed-reasoned priority worst flags_after after m splittable why are (listed new less room added grown) =
-      subst (λ l. AreReasons n priority worst [] l) (sym grown)
-      (reasons_next n priority worst [] reasons (record { kind = kind; triangle = t }) are
-      record { splittable = splittable; new = sym (m.same t) ∙ new; why = why })
 
 -- the turns of the two loops
 
 -- wanted ones stay wanted, and a turn lists one more or finds that it is not wanted
-pub wanted-next : (limit : ℕ) (priority : ℕ → ℕ) (worst k : ℕ) (before after : List Reason) →
-    AreGrownReasons before after → AreWanted limit priority worst k before →
-    (length after < limit → worst ≤ priority k → IsTrue (named_in after k)) →
-    AreWanted limit priority worst (k + 1) after
-wanted-next limit priority worst k before after g wanted own less a low high big = ⊎_elim
+pub wanted-next : (w : Wants) (k : ℕ) (before after : List Reason) → AreGrownReasons before after →
+    AreWanted w k before →
+    (length after < w.limit → w.worst ≤ priority_seen w.scene.now k → IsTrue (named_in after k)) →
+    AreWanted w (k + 1) after
+wanted-next w k before after g wanted own less a low high big = ⊎_elim
     (λ earlier. named-grown before after a g
     (wanted (let more = length-grown before after g in omega arith) a low earlier big))
     (λ last.
     let e : k ≡ a = omega arith in
-    subst (λ z. worst ≤ priority z → IsTrue (named_in after z)) e (own less) big)
+    subst (λ z. w.worst ≤ priority_seen w.scene.now z → IsTrue (named_in after z)) e (own less) big)
     (cases_lt a k)
 
 -- a turn of the queue
-pub queue-next : (n limit next : ℕ) (before after : List Reason) (r : Reason) → AreGrownReasons before after →
+pub queue-next : (w : Wants) (next : ℕ) (before after : List Reason) (r : Reason) → AreGrownReasons before after →
     next < length before → r ≡ get_or before next r →
-    IsQueue n limit next before → (length after < limit → HasCauses n after r.triangle) →
-    IsQueue n limit (next + 1) after
-queue-next n limit next before after r g within is queue own less b h =
+    IsQueue w next before → (length after < w.limit → HasCauses w.n after r.triangle) →
+    IsQueue w (next + 1) after
+queue-next w next before after r g within is queue own less b h =
     let first : take (next + 1) after ≡ take next before ++ r ∷ [] =
     take-grown before after (next + 1) g (omega arith) ∙ take-next before next r within is in
     ⊎_elim
-    (λ old. causes-grown n before after b g (queue (let more = length-grown before after g in omega arith) b
+    (λ old. causes-grown w.n before after b g (queue (let more = length-grown before after g in omega arith) b
     (among-in b (reason_triangles (take next before)) old)))
-    (λ same. subst (λ z. HasCauses n after z) same (own less))
+    (λ same. subst (λ z. HasCauses w.n after z) same (own less))
     (earlier_cases (take next before) r b
     (IsIn-among b (reason_triangles (take next before ++ r ∷ [])) (subst (λ l. IsTrue (named_in l b)) first h)))
 
@@ -189,11 +188,10 @@ named-at reasons k r within is =
 -- the end
 
 -- a queue that was gone through has all reasons
-pub all-queue : (n limit : ℕ) (priority : ℕ → ℕ) (worst : ℕ) (reasons : List Reason) →
-    AreWanted limit priority worst (2 ^ (2 * n + 1)) reasons →
-    IsQueue n limit (length reasons) reasons → ((a : ℕ) → IsSplittable n a → a < 2 ^ (2 * n + 1)) →
-    (limit ≤ length reasons) ⊎ AreAllReasons n priority worst reasons
-all-queue n limit priority worst reasons wanted queue below = ⊎_elim
+pub all-queue : (w : Wants) (reasons : List Reason) → AreWanted w (2 ^ (2 * w.n + 1)) reasons →
+    IsQueue w (length reasons) reasons → ((a : ℕ) → IsSplittable w.n a → a < 2 ^ (2 * w.n + 1)) →
+    (w.limit ≤ length reasons) ⊎ AreAllReasons w.n (priority_seen w.scene.now) w.worst reasons
+all-queue w reasons wanted queue below = ⊎_elim
     (λ less. inr record {
       wants = λ a s high. wanted less a s.low (below a s) high;
       parents = λ b h big. (queue less b
@@ -202,11 +200,10 @@ all-queue n limit priority worst reasons wanted queue below = ⊎_elim
           (subst (λ l. IsTrue (named_in l b)) (sym (take_all (length reasons) reasons (omega arith))) h)).mate m mate;
     })
     (λ full. inl full)
-    (cases_lt (length reasons) limit)
+    (cases_lt (length reasons) w.limit)
 
 -- what was wanted is still listed in a longer list
-pub wanted-grown : (limit : ℕ) (priority : ℕ → ℕ) (worst bound : ℕ) (before after : List Reason) →
-    AreGrownReasons before after → AreWanted limit priority worst bound before →
-    AreWanted limit priority worst bound after
-wanted-grown limit priority worst bound before after g wanted less a low few high =
+pub wanted-grown : (w : Wants) (bound : ℕ) (before after : List Reason) → AreGrownReasons before after →
+    AreWanted w bound before → AreWanted w bound after
+wanted-grown w bound before after g wanted less a low few high =
     named-grown before after a g (wanted (let more = length-grown before after g in omega arith) a low few high)
