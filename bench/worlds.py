@@ -3,7 +3,8 @@
 
 usage: bench/worlds.py [PEER]    takes some minutes, 600 MB of memory, a C compiler and crates/roam_c/out/libroam_c.a. PEER is
        another program, which is timed by turns: it takes the words of worlds.c and behind them the coarsest resolution, and
-       prints a line with `X ms a frame (most Y)` and, of pages, `load X` and `frame after a page at most Y;`"""
+       prints a line with `X ms a frame (most Y)`, `changes X` and, of pages, `load X` and `frame after a page at most Y;`. It has
+       to fly over the heights of made.h: one that changes another number of triangles a frame stops the run."""
 import re
 import subprocess
 import sys
@@ -12,7 +13,7 @@ from pathlib import Path
 
 TOP = Path(__file__).resolve().parent.parent
 TERRAINS = [("alone", 11, 11, 0), ("pages", 9, 12, 3), ("pages", 9, 14, 3)]
-FLIGHTS = [(terrain, budget, step) for budget in (20_000, 200_000) for step in (30, 600) for terrain in TERRAINS]
+FLIGHTS = [(terrain, budget, step) for budget in (20_000, 200_000) for step in (4, 30, 600) for terrain in TERRAINS]
 FRAMES = 60
 
 
@@ -38,10 +39,12 @@ def number(pattern, line):
     return found[1] if found else "-"
 
 
-def beside(peer, flight):
+def beside(peer, flight, changes):
     """Of three runs the one of the least mean: a frame, the worst, the worst behind a load, and a load."""
     lines = [ran(peer, *flight, flight[2] - flight[1]) for _ in range(3)]
     line = min(lines, key=lambda it: float(number(r"([0-9.]+) ms a frame", it)))
+    if (theirs := number(r"changes ([0-9]+)", line)) != changes:
+        sys.exit(f"worlds.py: {peer} changes {theirs} triangles a frame, not {changes}: it flies over other heights")
     return [number(it, line) for it in (r"([0-9.]+) ms a frame", r"ms a frame \(most ([0-9.]+)\)",
                                         r"after a page at most ([0-9.]+);", r" load ([0-9.]+) ")]
 
@@ -55,7 +58,7 @@ def row(program, peer, terrain, budget, step):
              "; ".join(it[name] for name in ("unloads", "unload", "unload_worst")), f"{it['make']} ms, {it['page']} bytes",
              f"{it['bytes']}; {it['a_triangle']}"]
     if peer:
-        their = beside(peer, flight)
+        their = beside(peer, flight, it["changes"])
         cells += ["; ".join(their), f"{float(it['mean']) / float(their[0]):.2f}"]
     return f"| {' | '.join(cells)} |"
 
