@@ -13,23 +13,11 @@ crates=$(sed -n 's/#.*//; s/^\([a-z0-9_]*\).*:.*/\1/p' crates.txt | sort)
 
 none no_handle_is_allowed "$(diff <(echo 'Handles allowed: none.') HANDLES)"
 
-# lines_of_code FOLDER: the lines of a crate's code without blank lines, comments and modules for tests alone.
-lines_of_code() {
-  local file tests
-  tests=$(awk 'test && /^mod / { gsub(/[;]/, "", $2); print $2 } { test = /^#\[cfg\(test\)\]$/ }' "$1"/src/lib.rt "$1"/src/main.rt 2>/dev/null)
-  for file in "$1"/src/*.rt; do
-    grep -qxF "$(basename "$file" .rt)" <<<"$tests" || cat "$file"
-  done | grep -cv '^[[:space:]]*\(//.*\)\{0,1\}$'
-}
-
-# The law crates, whose functions have empty bodies: no edit of their code could turn a meaning.
+# The law crates, whose functions have empty bodies.
 laws=$(sed -n 's/^|\[`\([a-z0-9_]*\)`\].*)|law|.*/\1/p' docs/CRATES.md)
 
-# says NAME WORDS: whether a line of the crate's README begins with these words, a colon and a reason.
-says() { grep -q "^$2: [^ ]" "crates/$1/README.md" 2>/dev/null; }
-
-# The most edits that a crate has without a reason: each costs the gate 6 to 40 seconds.
-most_edits=6
+# The most edits of a crate: each costs the gate 6 to 40 seconds, and the first the crate's proof once more.
+most_edits=5
 
 for name in $crates; do
   why=()
@@ -41,15 +29,12 @@ for name in $crates; do
   grep -q "^|\[\`$name\`\](../crates/$name/README.md)|\(law\|code\)|" docs/CRATES.md || why+=("no row in docs/CRATES.md")
   edits=("crates/$name"/must-fail/*.edit)
   [ -e "${edits[0]}" ] || edits=()
-  if [ "${#edits[@]}" -eq 0 ] && [[ $name != *_tests ]] && ! grep -qx "$name" <<<"$laws" && [ "$(lines_of_code "crates/$name")" -gt 60 ]; then
-    says "$name" 'No edit that must fail' || why+=("no edit that must fail, and no line 'No edit that must fail: ..' in README.md")
-  fi
   if [ "${#edits[@]}" -gt "$most_edits" ]; then
-    says "$name" 'More than six edits' || why+=("${#edits[@]} edits that must fail, and no line 'More than six edits: ..' in README.md")
+    why+=("${#edits[@]} edits that must fail")
   fi
   # A crate with tests is proved twice, so they stand in the crates of tests alone.
   if [[ $name != *_tests ]] && grep -rqE '^[[:space:]]*#\[test\]' "crates/$name/src"; then
-    says "$name" 'Tests of its own' || why+=("tests of its own, and no line 'Tests of its own: ..' in README.md")
+    why+=("tests of its own")
   fi
   decide "crate_$name" ${why[0]+"${why[@]}"}
 done
