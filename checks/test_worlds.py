@@ -39,6 +39,11 @@ def test_what_is_known_and_open_is_that_of_the_docs() -> None:
     assert world.wedge(2) == (20, 0, 16)
 
 
+def test_wedges_of_a_page_of_nine_points() -> None:
+    page = worlds.World([3 * x + y ** 2 for y in (2, 1, 0) for x in (0, 1, 2)], 1, 1, 32)
+    assert [page.wedge(a) for a in range(2, 8)] == [(4, 0, 6), (4, 4, 10), (0, 0, 6), (2, 0, 4), (0, 4, 10), (2, 4, 10)]
+
+
 @table(
     "square, may",
     ("a_page_over_the_coarsest", (0, 1, 0), True),

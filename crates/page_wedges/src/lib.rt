@@ -9,8 +9,6 @@
 mod join;
 mod laws;
 mod page;
-#[cfg(test)]
-mod worked;
 
 pub use join::THICKEST;
 pub use laws::terrain_laws;
