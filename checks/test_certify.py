@@ -47,6 +47,31 @@ def test_certificate(hill: Place, certificate: bytes, budget: int, status: int, 
     hill.expect(status, f"{report}\n".encode())
 
 
+@table(
+    "certificate, report",
+    *((f"a_first_line_that_is_bad_{k}", line, "rejected: bad line 1") for k, line in enumerate((
+        b"# c", b"leaf 2", b"camera 0 0", b"camera 0 0 0 0", b"camera 1073741825 0 0", b"Camera 0 0 0"))),
+    *((f"a_second_line_that_is_bad_{k}", b"camera 0 0 0\n" + line, "rejected: bad line 2") for k, line in enumerate((
+        b"", b"camera 0 0 0", b"leaf 1", b"leaf 16", b"leaf", b"leaf 2 3", b"leaf -2", b"want 8", b"want 1", b"least 2"))),
+    ("lines_of_each_kind_with_tabs_and_zeros",
+     b" camera\t-1073741824 007 -0 \r\nleaf 15\nleaf\t2\r\nwant 7\nparent 03\nmate 2", "rejected: not conforming"),
+)
+def test_lines(hill: Place, certificate: bytes, report: str) -> None:
+    hill.write("c", certificate + b"\n")
+    hill.run("certify", "check", "g", "o", "c", 2, 1)
+    hill.expect(7, f"{report}\n".encode())
+
+
+# Each byte of the mesh is another one in turn, and each prefix of it is the whole file.
+def test_a_mesh_differs_at_its_first_wrong_byte_or_where_it_ends(hill: Place) -> None:
+    hill.write("c", SOUND)
+    for at in range(len(HALVES)):
+        for mesh in (HALVES[:at], HALVES[:at] + b"x" + HALVES[at + 1:]):
+            hill.write("o", mesh)
+            hill.run("certify", "check", "g", "o", "c", 2, 1)
+            hill.expect(7, b"rejected: mesh differs at %d\n" % at)
+
+
 # Of each the mesh, or none, the certificate, or none, status, report, and what standard error says.
 @table(
     "mesh, certificate, status, report, said",

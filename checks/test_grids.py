@@ -1,9 +1,11 @@
 """Grids of each form before the built program: which are accepted and as what, which are refused and by which words."""
 from __future__ import annotations
 
+from collections.abc import Callable
 from typing import Any
 
 from place import Place, flat, flat_mesh, lines, table
+from terrain import Terrain
 
 
 @table("side", *((f"a_grid_of_side_{2 ** k + 1}", 2 ** k + 1) for k in range(1, 12)))
@@ -56,6 +58,8 @@ def test_heights_of_the_four_corners(place: Place) -> None:
     ("plain", b"P2\n3 3\n65535\n0 0 0\n0 10 0\n0 0 0\n", "side 3 maxval 65535 low 0 high 10 thickness 20"),
     ("plain_with_comments_in_the_header", b"P2\n# a\n3 # b\n3\n#c\n255\n65 65 65 65 75 65 65 65 65\n",
      "side 3 maxval 255 low 65 high 75 thickness 20"),
+    ("plain_with_a_comment_that_a_cr_ends", b"P2 #\r#9\n 3 # x\n3\n#\n9\n0 0 0 0 9 0 0 0 0",
+     "side 3 maxval 9 low 0 high 9 thickness 18"),
     ("plain_that_rises_evenly", b"P2\n3 3\n9\n1 2 3\n4 5 6\n7 8 9\n", "side 3 maxval 9 low 1 high 9 thickness 0"),
     ("plain_with_whitespace_of_each_kind", b"P2\n3 3\n9\n\t\r\n 0 0\t0\r0\r\n9 0 00 000000000 0\n\n \t",
      "side 3 maxval 9 low 0 high 9 thickness 18"),
@@ -123,6 +127,12 @@ def test_wrong_byte(place: Place, at: int) -> None:
     "grid, refusal",
     ("a_colour_image", b"P6\n3 3\n255\n", "bad magic"),
     ("a_bitmap", b"P4\n3 3\n", "bad magic"),
+    ("a_plain_bitmap", b"P1", "bad magic"),
+    ("a_plain_colour_image", b"P3 3 3 1 ", "bad magic"),
+    ("a_digit_alone", b"5", "bad magic"),
+    ("a_second_p", b"PP", "bad magic"),
+    ("a_blank_behind_the_p", b"P ", "bad magic"),
+    ("a_number_sign_behind_the_p", b"P#", "bad magic"),
     ("a_small_p", b"p5\n3 3\n255\nAAAAKAAAA", "bad magic"),
     ("an_lf_before_the_magic", b"\nP5\n3 3\n255\nAAAAKAAAA", "bad magic"),
     ("a_mark_of_utf_8_before_the_magic", b"\xef\xbb\xbfP5\n3 3\n255\nAAAAKAAAA", "bad magic"),
@@ -135,6 +145,13 @@ def test_wrong_byte(place: Place, at: int) -> None:
     ("a_letter_after_a_comment", b"P5\n# a\n x3 3\n255\nAAAAKAAAA", "bad header at 8"),
     ("a_comment_that_hides_the_width", b"P5\n# 3\n3\n255\nAAAAKAAAA", "bad header at 13"),
     ("a_tenth_digit_in_the_header", b"P5\n0000000003 3\n255\nAAAAKAAAA", "bad header at 12"),
+    ("a_tenth_digit_of_the_height", b"P5 3 1234567890 ", "bad header at 14"),
+    ("a_tenth_digit_of_the_maxval", b"P2 3 3 0000065535 ", "bad header at 16"),
+    ("a_vertical_tab_behind_the_magic", b"P5\x0b3 3 1 ", "bad header at 2"),
+    ("a_form_feed_behind_the_width", b"P5 3\x0c3 1 ", "bad header at 4"),
+    ("a_wrong_byte_at_the_last_place_of_a_header", b"P5\n" + 65_532 * b" " + b"x", "bad header at 65535"),
+    ("a_plain_header_of_blanks", b"P2" + 65_536 * b" ", "header too long"),
+    ("a_file_that_ends_in_nine_digits", b"P5 123456789", "truncated"),
     ("a_zero_byte_in_a_gap", b"P5\n\x003 3\n255\nAAAAKAAAA", "bad header at 3"),
     ("a_form_feed_in_a_gap", b"P5\n\x0c3 3\n255\nAAAAKAAAA", "bad header at 3"),
     ("a_file_that_ends_in_a_comment", b"P5\n# 3 3", "truncated"),
@@ -147,6 +164,7 @@ def test_wrong_byte(place: Place, at: int) -> None:
     ("a_side_of_1", b"P5\n1 1\n255\nA", "bad side"),
     ("a_side_of_2", b"P5\n2 2\n255\nAAAA", "bad side"),
     ("a_side_of_256", b"P5\n256 256\n255\nAAAA", "bad side"),
+    ("a_side_of_2048", b"P5\n2048 2048\n255\nAAAA", "bad side"),
     ("a_side_of_4097", b"P5\n4097 4097\n255\n", "bad side"),
     ("a_plain_grid_of_side_4", b"P2\n4 4\n255\n", "bad side"),
     ("a_grid_of_one_byte_a_sample_that_lacks_one", b"P5\n3 3\n255\nAAAAKAAA", "truncated"),
@@ -158,6 +176,9 @@ def test_wrong_byte(place: Place, at: int) -> None:
     ("plain_samples_after_a_raw_header", b"P5\n3 3\n255\n0 0 0 0 0 0 0 0 0\n", "trailing byte at 20"),
     ("a_sample_of_one_byte_above_the_maxval", b"P5\n3 3\n74\nAAAAKAAAA", "above maxval at sample 4"),
     ("a_sample_of_two_bytes_above_the_maxval", b"P5\n3 3\n256\n\x01\x01\x00\x00", "above maxval at sample 0"),
+    ("a_last_sample_of_two_bytes_above_the_maxval", b"P5\n3 3\n300\n" + bytes(16) + b"\x01\x2d\0",
+     "above maxval at sample 8"),
+    ("a_trailing_byte_above_the_maxval", b"P5\n3 3\n75\nAAAAKAAAAZ", "trailing byte at 19"),
     ("half_a_sample_is_no_sample", b"P5\n3 3\n256\n\x02", "truncated"),
     ("above_maxval_comes_before_truncated", b"P5\n3 3\n74\nAAAAK", "above maxval at sample 4"),
     ("above_maxval_comes_before_a_trailing_byte", b"P5\n3 3\n74\nAAAAAAAAKAA", "above maxval at sample 8"),
@@ -173,6 +194,7 @@ def test_wrong_byte(place: Place, at: int) -> None:
     ("a_plain_sample_above_the_maxval", b"P2\n3 3\n9\n0 0 0\n0 10 0\n0 0 0\n", "above maxval at sample 4"),
     ("a_pending_sample_above_the_maxval", b"P2\n3 3\n9\n0 0 0 0 0 0 0 0 10", "above maxval at sample 8"),
     ("a_pending_sample_comes_before_truncated", b"P2\n3 3\n9\n0 0 0 0 10", "above maxval at sample 4"),
+    ("above_maxval_comes_before_a_later_bad_sample", b"P2\n3 3\n9\n0 0 0 0 10 x", "above maxval at sample 4"),
     ("a_bad_sample_comes_before_above_maxval", b"P2\n3 3\n9\n10x", "bad sample at 11"),
     ("eight_plain_samples", b"P2\n3 3\n9\n0 0 0 0 0 0 0 0\n", "truncated"),
     ("a_plain_header_alone", b"P2\n3 3\n9\n", "truncated"),
@@ -184,6 +206,40 @@ def test_refused(place: Place, grid: bytes, refusal: str) -> None:
     place.write("g", grid)
     place.run("info", "g")
     place.expect(3, f"grid refused: {refusal}\n".encode())
+
+
+@table(
+    "grid",
+    ("each_prefix_of_a_raw_grid_is_truncated", b"P5\n3 3\n65535\n" + bytes(18)),
+    ("each_prefix_of_a_header_with_a_comment_is_truncated", b"P5 # a comment\n 3 3 65535 "),
+    ("each_prefix_of_a_plain_grid_is_truncated", b"P2 3 3 9\n5 0 0 0 0 0 0 0 0"),
+)
+def test_prefixes(place: Place, grid: bytes) -> None:
+    for length in range(len(grid)):
+        place.write("g", grid[:length])
+        place.run("info", "g")
+        place.expect(3, b"grid refused: truncated\n")
+
+
+# 4,225 samples, each the last two digits of its place and so much more: longer than a block of a kernel and than a chunk of the
+# reader. The thickness is that of terrain.py; and the first of the greatest is refused where it is too large.
+@table(
+    "more, written",
+    ("many_samples_of_one_byte", 0, lambda samples, maxval: b"P5 65 65 %d " % maxval + bytes(samples)),
+    ("many_samples_of_two_bytes", 300,
+     lambda samples, maxval: b"P5 65 65 %d " % maxval + b"".join(it.to_bytes(2, "big") for it in samples)),
+    ("many_plain_samples", 1000, lambda samples, maxval: b"P2 65 65 %d\n" % maxval + b"\n".join(b"%d" % it for it in samples)),
+)
+def test_many_samples(place: Place, more: int, written: Callable[[list[int], int], bytes]) -> None:
+    samples = [more + at % 100 for at in range(65 * 65)]
+    plain = Terrain((6, 65535, {(x, 64 - row): samples[65 * row + x] for row in range(65) for x in range(65)}), 1, 2)
+    thickness = max(plain.wedge(2)[0], plain.wedge(3)[0])
+    place.write("g", written(samples, more + 99))
+    place.run("info", "g")
+    place.expect(0, b"side 65 maxval %d low %d high %d thickness %d\n" % (more + 99, more, more + 99, thickness))
+    place.write("g", written(samples, more + 98))
+    place.run("info", "g")
+    place.expect(3, b"grid refused: above maxval at sample 99\n")
 
 
 # A header with a comment of so many bytes has 13 bytes more than the comment's text.

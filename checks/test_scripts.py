@@ -62,6 +62,11 @@ def test_example(examples: Path, program: Path, name: str) -> None:
     ("a_budget_beyond_that_of_the_words_is_refused", b"budget 3\n", 4, 0, b"line 1 refused: out of range in field 1\n"),
     ("a_seventh_plane_is_refused", 7 * b"plane 0 0 1 9\n", 4, 0,
      b"line 7 refused: too many planes\n"),
+    ("wrong_fields_come_before_too_many_planes", 6 * b"plane 0 0 1 9\n" + b"plane 0 0 0\n", 4, 0,
+     b"line 7 refused: wrong fields\n"),
+    ("a_bad_number_comes_before_too_many_planes", 6 * b"plane 0 0 1 9\n" + b"plane 0 0 0 z\n", 4, 0,
+     b"line 7 refused: bad number in field 4\n"),
+    ("dropped_planes_do_not_count", 6 * b"plane 0 0 1 9\n" + b"noplanes\nplane 0 0 1 9\n", 0, 0, b""),
     ("a_camera_over_a_flat_grid_changes_nothing", b"camera 1 1 40\nframe\n", 0, 1, b""),
     ("edits_that_leave_the_heights", b"set 1 1 9\nset 1 1 0\nraise 0 0 2 2 -5\nframe\n", 0, 1, b""),
     ("a_sixth_letter_is_refused", b"frames\n", 4, 0, b"line 1 refused: unknown command\n"),
@@ -93,6 +98,72 @@ def test_long_script(place: Place, script: bytes, status: int, meshes: int, refu
     place.write("s", script)
     place.run("mesh", "g", "s", "out", 2, 1)
     place.expect(status, lines(meshes) + refusal, meshes=meshes)
+
+
+@table(
+    "line, status, meshes, refusal",
+    ("ten_million_lines", b"", 0, 1, b""),
+    ("a_line_behind_ten_million", b"noplanes\n", 4, 1, b"line 10000001 refused: too many lines\n"),
+    ("a_line_behind_ten_million_that_is_too_long", 201 * b"#", 4, 1, b"line 10000001 refused: too many lines\n"),
+)
+def test_most_lines(place: Place, line: bytes, status: int, meshes: int, refusal: bytes) -> None:
+    place.write("s", b"frame\n" + 9_999_999 * b"\n" + line)
+    place.run("mesh", "g", "s", "out", 2, 1)
+    place.expect(status, lines(meshes) + refusal, meshes=meshes)
+
+
+# --- Lines alone, over a grid of side 5 with heights to 255 and a budget of 8: which are accepted, and why others are not. ---
+
+INSIDE = (
+    b"", b" \t ", b"\r", b"\t\r", b"#", b"  # frame \r \r", b"#frame 1 2 3", b"noplanes", b" \tnoplanes\t ", b"noplanes\r",
+    b"camera\t1  2 \t3\r", b"camera 001 2 -0\r", b"camera -1073741824 1073741824 0",
+    b"camera 1073741824 -1073741824 1073741824", b"camera 0 0 -1073741824", b"set 0 4 0", b"set 4 0 255", b"set -0 -0 -0",
+    b"plane -1048576 1048576 -1048576 1125899906842624", b"plane 1048576 -1048576 1048576 -1125899906842624",
+    b"plane 000000000000000001 0 0 0", b"budget 2", b"budget 8", b"raise 0 0 0 0 65535", b"raise -0 -0 -0 -0 -0",
+    b"raise 4 4 4 4 -65535", b"raise 0 0 4 4 0", b"raise 3 1 3 1 1", b"raise 1 3 4 4 1", 199 * b"#" + b"\r",
+    191 * b" " + b"noplanes\r",
+)
+REFUSED = {
+    "unknown command": (b"fly", b"fram", b"frame\r\r", b"\rframe", b"frame\x0b", b"frame#", b"\0", 195 * b" " + b"frams"),
+    "wrong fields": (
+        b"frame # x", b"camera", b"camera 1 2", b"camera 1 2 3 4", b"camera a b", b"set", b"set 9 9", b"set 0 0 0 0",
+        b"plane 1 0 0", b"plane 1 0 0 0 0", b"noplanes 0", b"budget", b"budget 2 3", b"raise 0 0 1 1", b"raise 0 0 1 1 1 1",
+        b"raise 0 0 1 1 1 # up"),
+    "bad number in field 1": (b"camera - 2 3", b"camera +1 2 3", b"camera 1.0 2 3", b"camera 0000000000000000001 2 3",
+                              b"budget +2", b"budget 2\r\r"),
+    "bad number in field 2": (b"camera 1 two 3", b"camera 1 1- 3", b"camera 1 -0000000000000000001 3", b"set 0 x 999"),
+    "bad number in field 3": (b"camera 1 2 --1",),
+    "bad number in field 4": (b"plane 0 0 0 d",),
+    "bad number in field 5": (b"raise 0 0 0 0 #", b"raise 0 0 0 0 --1"),
+    "out of range in field 1": (
+        b"camera -1073741825 0 0", b"camera 1073741825 0 0", b"set -1 0 0", b"set 5 0 0", b"plane -1048577 0 0 0",
+        b"plane 1048577 0 0 0", b"budget 1", b"budget 9", b"budget -0", b"raise -1 0 4 4 0", b"raise 5 0 4 4 0"),
+    "out of range in field 2": (
+        b"camera 0 -1073741825 0", b"camera 0 1073741825 0", b"set 0 -1 0", b"set 0 5 x", b"plane 0 -1048577 0 0",
+        b"plane 0 1048577 0 0", b"raise 0 -1 4 4 0", b"raise 0 5 4 4 0"),
+    "out of range in field 3": (
+        b"camera 0 0 -1073741825", b"camera 0 0 1073741825", b"camera 0 0 999999999999999999", b"set 0 0 -1", b"set 0 0 256",
+        b"plane 0 0 -1048577 0", b"plane 0 0 1048577 0", b"raise 0 0 -1 4 0", b"raise 2 0 1 4 0", b"raise 2 0 5 4 0"),
+    "out of range in field 4": (b"plane 0 0 0 -1125899906842625", b"plane 0 0 0 1125899906842625", b"raise 0 0 4 -1 0",
+                                b"raise 0 2 4 1 0", b"raise 0 2 4 5 0"),
+    "out of range in field 5": (b"raise 0 0 4 4 -65536", b"raise 0 0 4 4 65536"),
+    "line too long": (201 * b"#", 200 * b"#" + b"\r", 201 * b" ", 194 * b" " + b"frame  ", 195 * b" " + b"frame\r"),
+}
+
+
+@table(
+    "line, refusal",
+    *((f"accepted_line_{k}", line, "") for k, line in enumerate(INSIDE)),
+    *((f"{why.replace(' ', '_')}_line_{k}", line, why) for why, rows in REFUSED.items() for k, line in enumerate(rows)),
+)
+def test_line(place: Place, line: bytes, refusal: str) -> None:
+    place.write("g", b"P5\n5 5\n255\n" + bytes(25))
+    place.write("s", line + b"\n")
+    place.run("mesh", "g", "s", "out", 8, 1)
+    if refusal:
+        place.expect(4, f"line 1 refused: {refusal}\n".encode())
+    else:
+        place.expect(0, said="roam: no 'frame' line in the script, so no mesh was made")
 
 
 # --- Worked runs: reports and last meshes that were worked by hand. ---
@@ -203,6 +274,8 @@ def expect_last(place: Place, status: int, report: bytes, mesh: Optional[bytes])
      b"measure 1 deviation 0 over 2 thickness 0\n", None),
     ("worked_measure_over_4", "measure g s 2 1", spots(5, (0, 0, 1)), b"frame\n", 0,
      b"measure 1 deviation 3 over 4 thickness 3\n", None),
+    ("worked_measure_of_a_cliff", "measure g s 2 1", spots(5, *((x, y, 65535) for x in (3, 4) for y in range(5))), b"frame\n", 0,
+     b"measure 1 deviation 131070 over 4 thickness 262140\n", None),
     ("worked_thickness_that_adds_up", "info g", spots(5, (1, 0, 10), (2, 2, 10)), b"frame\n", 0,
      b"side 5 maxval 65535 low 0 high 10 thickness 50\n", None),
 )
