@@ -12,8 +12,6 @@ use std::rc::Rc;
 pub(crate) struct FlakyFiles {
     pub(crate) calls: Rc<Cell<u64>>,
     pub(crate) fails: u64,
-    /// The one name that can be opened.
-    pub(crate) name: &'static str,
 }
 
 /// An open file, and its unread bytes.
@@ -89,11 +87,8 @@ impl Files for FlakyFiles {
 
     type Dir = FlakyFile;
 
-    fn open_file(&self, _how: &OpenOptions, path: &str) -> io::Result<FlakyFile> {
+    fn open_file(&self, _how: &OpenOptions, _path: &str) -> io::Result<FlakyFile> {
         count(&self.calls, self.fails)?;
-        if path != self.name {
-            return not_offered();
-        }
         Ok(FlakyFile {
             calls: self.calls.clone()?,
             fails: self.fails,

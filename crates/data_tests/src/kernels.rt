@@ -109,66 +109,37 @@ fn the_range_is_found_at_every_length(rt: HostRuntime) {
     }
 }
 
-/// Raises a row by the lanes, and answers whether that could be asked.
-fn raise_by_lanes(row: &mut [u16], delta: i32, maxval: u16) -> bool
+/// Raises a row by the lanes and a row by the plain twin, and answers whether that could be asked.
+fn raise_both(lanes: &mut [u16], plain: &mut [u16], delta: i32, maxval: u16) -> bool
     requires at_least { least_change ≤ℤ delta }
     requires at_most { delta ≤ℤ greatest_change }
 {
-    if first_above(row, maxval).is_some() {
+    if first_above(lanes, maxval).is_some() {
         return false;
     }
-    raise_row(row, delta, maxval);
-    true
-}
-
-/// Raises a row by the plain twin, and answers whether that could be asked.
-fn raise_plainly(row: &mut [u16], delta: i32, maxval: u16) -> bool
-    requires at_least { least_change ≤ℤ delta }
-    requires at_most { delta ≤ℤ greatest_change }
-{
-    if first_above_plain(row, maxval).is_some() {
+    if first_above_plain(plain, maxval).is_some() {
         return false;
     }
-    raise_row_plain(row, delta, maxval);
+    raise_row(lanes, delta, maxval);
+    raise_row_plain(plain, delta, maxval);
     true
-}
-
-/// Whether the first samples of both rows could be raised, and the rows are then the same.
-fn stay_alike(lanes: &mut [u16; 40], plain: &mut [u16; 40], length: usize, delta: i32) -> bool
-    requires length { length ≤ 40 }
-    requires at_least { least_change ≤ℤ delta }
-    requires at_most { delta ≤ℤ greatest_change }
-{
-    raise_by_lanes(&mut lanes[..length], delta, 60_000)
-        && raise_plainly(&mut plain[..length], delta, 60_000)
-        && *lanes == *plain
-}
-
-/// A row of nine samples after a raise within 100.
-fn nine_raised(row: [u16; 9], delta: i32) -> Option<[u16; 9]>
-    requires at_least { least_change ≤ℤ delta }
-    requires at_most { delta ≤ℤ greatest_change }
-{
-    let mut row = row;
-    if raise_by_lanes(&mut row, delta, 100) {
-        Some(row)
-    } else {
-        None
-    }
 }
 
 #[test]
 fn a_row_is_raised_and_lowered_within_its_bounds(rt: HostRuntime) {
     for length in 0..=40 {
         let (mut lanes, mut plain) = (row_of_forty(), row_of_forty());
-        let raised = stay_alike(&mut lanes, &mut plain, length, 3000);
-        let lowered = stay_alike(&mut lanes, &mut plain, length, -40_000);
-        assert_eq!(rt; (raised, lowered), (true, true), "{length} samples");
+        assert!(rt; raise_both(&mut lanes[..length], &mut plain[..length], 3000, 60_000));
+        assert_eq!(rt; lanes, plain, "{length} samples, raised");
+        assert!(rt; raise_both(&mut lanes[..length], &mut plain[..length], -40_000, 60_000));
+        assert_eq!(rt; lanes, plain, "{length} samples, lowered");
     }
-    let first = [0, 1, 99, 100, 50, 51, 0, 0, 60];
-    let raised = [50, 51, 100, 100, 100, 100, 50, 50, 100];
-    let lowered = [0, 0, 49, 49, 49, 49, 0, 0, 49];
-    assert_eq!(rt; nine_raised(first, 50), Some(raised));
-    assert_eq!(rt; nine_raised(raised, -51), Some(lowered));
-    assert_eq!(rt; nine_raised(lowered, 65535), Some([100; 9]));
+    let mut lanes = [0, 1, 99, 100, 50, 51, 0, 0, 60];
+    let mut plain = lanes;
+    assert!(rt; raise_both(&mut lanes, &mut plain, 50, 100));
+    assert_eq!(rt; lanes, [50, 51, 100, 100, 100, 100, 50, 50, 100]);
+    assert!(rt; raise_both(&mut lanes, &mut plain, -51, 100));
+    assert_eq!(rt; lanes, [0, 0, 49, 49, 49, 49, 0, 0, 49]);
+    assert!(rt; raise_both(&mut lanes, &mut plain, 65535, 100));
+    assert_eq!(rt; (lanes, plain), ([100; 9], [100; 9]));
 }

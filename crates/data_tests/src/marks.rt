@@ -15,16 +15,6 @@ const BASE: Cuboid = Cuboid {
     z1: 10,
 };
 
-/// The box of that grid's triangle 5, which lies at the left side.
-const LEFT: Cuboid = Cuboid {
-    x0: 0,
-    x1: 1,
-    y0: 0,
-    y1: 2,
-    z0: 0,
-    z1: 10,
-};
-
 /// The largest box.
 const REACH: Cuboid = Cuboid {
     x0: -16777216,
@@ -38,8 +28,10 @@ const REACH: Cuboid = Cuboid {
 /// The slopes of a plane along x, y and z, and its offset.
 type Slopes = (i64, i64, i64, i64);
 
-/// The planes with these slopes and offsets.
-fn planes_of(slopes: &[Slopes]) -> Option<Planes> {
+/// The mark of a box under these planes.
+fn mark_under(cuboid: &Cuboid, slopes: &[Slopes]) -> Option<Mark>
+    requires { IsWithinReach (2 ^ 24) (as_box cuboid.now) }
+{
     let mut planes = Planes::none();
     for (a, b, c, d) in slopes {
         if planes.len() >= 6 {
@@ -47,45 +39,32 @@ fn planes_of(slopes: &[Slopes]) -> Option<Planes> {
         }
         planes.add(Plane::new(*a, *b, *c, *d)?);
     }
-    Some(planes)
+    Some(planes.mark(cuboid))
 }
 
-/// How many planes these are, and the mark of a box under them.
-fn mark_under(cuboid: &Cuboid, slopes: &[Slopes]) -> Option<(u32, Mark)>
-    requires { IsWithinReach (2 ^ 24) (as_box cuboid.now) }
-{
-    let planes = planes_of(slopes)?;
-    Some((planes.len(), planes.mark(cuboid)))
-}
-
-/// Whether a corner of a box is outside a plane. The corner has the upper end along x, y and z where the bit of 1, 2
-/// and 4 is set.
-fn is_outside(slopes: Slopes, cuboid: &Cuboid, corner: u32) -> bool {
-    let (a, b, c, d) = slopes;
-    let x = if corner & 1 == 0 {
-        cuboid.x0
-    } else {
-        cuboid.x1
-    };
-    let y = if corner & 2 == 0 {
-        cuboid.y0
-    } else {
-        cuboid.y1
-    };
-    let z = if corner & 4 == 0 {
-        cuboid.z0
-    } else {
-        cuboid.z1
-    };
-    let across = a.wrapping_mul(x).wrapping_add(b.wrapping_mul(y));
-    across.wrapping_add(c.wrapping_mul(z)).wrapping_add(d) < 0
-}
-
-/// The mark of a box under one plane by all its eight corners: the plain form of `mark`.
+/// The mark of a box under one plane by all its eight corners: the plain form of `mark`. A corner has the upper end
+/// along x, y and z where the bit of 1, 2 and 4 is set.
 fn mark_by_corners(slopes: Slopes, cuboid: &Cuboid) -> Mark {
+    let (a, b, c, d) = slopes;
     let mut outside = 0u32;
-    for corner in 0..8 {
-        if is_outside(slopes, cuboid, corner) {
+    for corner in 0u32..8 {
+        let x = if corner & 1 == 0 {
+            cuboid.x0
+        } else {
+            cuboid.x1
+        };
+        let y = if corner & 2 == 0 {
+            cuboid.y0
+        } else {
+            cuboid.y1
+        };
+        let z = if corner & 4 == 0 {
+            cuboid.z0
+        } else {
+            cuboid.z1
+        };
+        let across = a.wrapping_mul(x).wrapping_add(b.wrapping_mul(y));
+        if across.wrapping_add(c.wrapping_mul(z)).wrapping_add(d) < 0 {
             outside = outside.saturating_add(1);
         }
     }
@@ -97,53 +76,29 @@ fn mark_by_corners(slopes: Slopes, cuboid: &Cuboid) -> Mark {
 }
 
 #[test]
-fn one_plane_marks_by_the_corners_of_the_box(rt: HostRuntime) {
+fn a_plane_marks_by_the_corners_and_the_worst_of_all_planes_counts(rt: HostRuntime) {
     let cases = [
-        (1, 0, 0, -3, Mark::Outside, Mark::Outside),
-        (1, 0, 0, -2, Mark::Cut, Mark::Outside),
-        (1, 0, 0, -1, Mark::Cut, Mark::Cut),
-        (1, 0, 0, 0, Mark::Inside, Mark::Inside),
-        (-1, 0, 0, 1, Mark::Cut, Mark::Inside),
-        (-1, 0, 0, -1, Mark::Outside, Mark::Outside),
-        (0, 1, 0, -2, Mark::Cut, Mark::Cut),
-        (0, -1, 0, 2, Mark::Inside, Mark::Inside),
-        (0, 0, -1, 9, Mark::Cut, Mark::Cut),
-        (0, 0, 1, -11, Mark::Outside, Mark::Outside),
-        (1, -1, 0, 0, Mark::Cut, Mark::Cut),
-        (1, 1, 1, -14, Mark::Cut, Mark::Outside),
+        (1, 0, 0, -3, Mark::Outside),
+        (1, 0, 0, -2, Mark::Cut),
+        (1, 0, 0, 0, Mark::Inside),
+        (-1, 0, 0, 1, Mark::Cut),
+        (-1, 0, 0, -1, Mark::Outside),
+        (0, 1, 0, -2, Mark::Cut),
+        (0, -1, 0, 2, Mark::Inside),
+        (0, 0, -1, 9, Mark::Cut),
+        (0, 0, 1, -11, Mark::Outside),
+        (1, -1, 0, 0, Mark::Cut),
+        (1, 1, 1, -14, Mark::Cut),
     ];
-    for (a, b, c, d, base, left) in cases {
+    for (a, b, c, d, mark) in cases {
         let slopes = (a, b, c, d);
-        let found = [mark_under(&BASE, &[slopes]), mark_under(&LEFT, &[slopes])];
-        assert_eq!(rt; found, [Some((1, base)), Some((1, left))], "{slopes:?}");
-        let plain = [
-            mark_by_corners(slopes, &BASE),
-            mark_by_corners(slopes, &LEFT),
-        ];
-        assert_eq!(rt; plain, [base, left], "{slopes:?}");
+        let found = (mark_under(&BASE, &[slopes]), mark_by_corners(slopes, &BASE));
+        assert_eq!(rt; found, (Some(mark), mark), "{slopes:?}");
     }
-}
-
-/// How many planes there are, and the mark of the base's box, once all planes are taken out of force.
-fn mark_once_cleared(slopes: &[Slopes]) -> Option<(u32, Mark)> {
-    let mut planes = planes_of(slopes)?;
-    planes.clear();
-    Some((planes.len(), planes.mark(&BASE)))
-}
-
-#[test]
-fn the_worst_of_all_planes_counts(rt: HostRuntime) {
-    let slopes = [(1, 0, 0, 0), (0, 0, 1, -5), (1, 0, 0, -3), (0, 1, 0, 0)];
-    let inside = Some((0, Mark::Inside));
-    assert_eq!(rt; mark_under(&BASE, &[]), inside);
-    assert_eq!(rt; mark_under(&BASE, &slopes[..1]), Some((1, Mark::Inside)));
-    assert_eq!(rt; mark_under(&BASE, &slopes[..2]), Some((2, Mark::Cut)));
-    assert_eq!(rt; mark_under(&BASE, &slopes), Some((4, Mark::Outside)));
-    assert_eq!(rt; mark_once_cleared(&slopes), inside);
-}
-
-#[test]
-fn planes_end_at_their_greatest_numbers(rt: HostRuntime) {
+    let four = [(1, 0, 0, 0), (0, 0, 1, -5), (1, 0, 0, -3), (0, 1, 0, 0)];
+    assert_eq!(rt; mark_under(&BASE, &[]), Some(Mark::Inside));
+    assert_eq!(rt; mark_under(&BASE, &four[..2]), Some(Mark::Cut));
+    assert_eq!(rt; mark_under(&BASE, &four), Some(Mark::Outside));
     let (slope, offset) = (1 << 20, 1 << 50);
     for (a, b, c, d) in [
         (slope + 1, 0, 0, 0),
@@ -153,10 +108,10 @@ fn planes_end_at_their_greatest_numbers(rt: HostRuntime) {
     ] {
         assert!(rt; Plane::new(a, b, c, d).is_none());
     }
-    let slopes = [
+    let greatest = [
         (slope, slope, slope, offset),
         (-slope, slope, -slope, -offset),
     ];
-    assert_eq!(rt; mark_under(&REACH, &slopes[..1]), Some((1, Mark::Inside)));
-    assert_eq!(rt; mark_under(&REACH, &slopes), Some((2, Mark::Outside)));
+    assert_eq!(rt; mark_under(&REACH, &greatest[..1]), Some(Mark::Inside));
+    assert_eq!(rt; mark_under(&REACH, &greatest), Some(Mark::Outside));
 }

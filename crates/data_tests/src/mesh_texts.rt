@@ -3,7 +3,6 @@
 ghost use Rattle.std.specs.Prelude.{◌≡◌, false};
 
 use crate::leaves::{finest, leaves_of};
-use crate::pieces::Pieces;
 use cull_marks::{Plane, Planes};
 use obj_write::{MeshView, SparseView, VertexTable, number_vertices, write_mesh, write_sparse};
 use pgm_grid::{Grid, side_for};
@@ -52,54 +51,6 @@ g cut\nf 2 5 1\ng inside\nf 2 3 5\ng cut\nf 4 5 7\nf 4 1 5\ng inside\nf 8 5 9\ng
 
 const MIXED_TEXT: &str =
     "v 0 0 0\nv 1 0 0\nv 2 0 0\nv 1 1 10\nv 2 1 0\nv 0 2 0\nv 2 2 0\nf 5 7 4\nf 1 3 6\nf 2 4 1\nf 7 6 3\n";
-
-/// The vertex numbers of these triangles of the square of side 2, and how many there are.
-fn vertex_numbers(alloc: Global, numbers: &[u32]) -> Result<([u32; 9], u32), Fail> {
-    let leaves = leaves_of(alloc, 1, numbers)?;
-    let mut found = [9; 9];
-    let count = number_vertices(leaves.as_slice(), 1, &mut found);
-    Ok((found, count))
-}
-
-#[test]
-fn vertices_are_numbered_by_y_and_then_by_x(rt: HostRuntime) -> Result<(), Fail> {
-    let cases: [(&[u32], [u32; 9], u32); 4] = [
-        (&HALVES, [1, 0, 2, 0, 0, 0, 3, 0, 4], 4),
-        (&QUARTERS, [1, 0, 2, 0, 3, 0, 4, 0, 5], 5),
-        (&[3], [0, 0, 1, 0, 0, 0, 2, 0, 3], 3),
-        (&[], [0, 0, 0, 0, 0, 0, 0, 0, 0], 0),
-    ];
-    for (numbers, want, count) in cases {
-        assert_eq!(rt; vertex_numbers(rt.alloc(), numbers)?, (want, count));
-    }
-    Ok(())
-}
-
-/// Whether a table gives these triangles of a grid of 33 points a side the numbers that a slice has.
-fn are_numbered_alike(
-    alloc: Global,
-    table: &mut VertexTable,
-    numbers: &[u32],
-) -> Result<bool, Fail> {
-    if table.numbers().len() != 1089 {
-        return Ok(false);
-    }
-    let leaves = leaves_of(alloc, 5, numbers)?;
-    let mut want = vec![in alloc; 0; 1089]?;
-    let count = number_vertices(leaves.as_slice(), 5, want.as_mut_slice());
-    Ok(table.number(leaves.as_slice(), 5) == count && table.numbers() == want.as_slice())
-}
-
-/// A coarse mesh after a fine one.
-#[test]
-fn a_table_numbers_one_mesh_after_another(rt: HostRuntime) -> Result<(), Fail> {
-    let fine = finest(rt.alloc())?;
-    let mut table = VertexTable::new(rt.alloc(), 5)?;
-    for numbers in [&HALVES[..], fine.as_slice(), &QUARTERS[..]] {
-        assert!(rt; are_numbered_alike(rt.alloc(), &mut table, numbers)?);
-    }
-    Ok(())
-}
 
 /// Writes the mesh of these triangles with the numbers of a slice, and answers whether that ended well.
 fn write_by_slice<M: MeshSink>(
@@ -158,22 +109,6 @@ fn write_to<M: MeshSink>(
     Ok(write_sparse(&view, "out", 7, out).is_ok())
 }
 
-/// The square of side 2 whose middle has height 10.
-fn middle(alloc: Global) -> Result<Wedges, Fail> {
-    let mut grid = Grid::flat(alloc, 1, 65535)?;
-    grid.put(1, 1, 10);
-    Ok(Wedges::build(alloc, grid)?)
-}
-
-/// The plane with slope 1 along x and this offset, if there is one.
-fn planes_of(offset: Option<i64>) -> Result<Planes, Fail> {
-    let mut planes = Planes::none();
-    if let Some(offset) = offset {
-        planes.add(Plane::new(1, 0, 0, offset).ok_or("a plane")?);
-    }
-    Ok(planes)
-}
-
 /// Whether a sink has one mesh, which has its name and this text, and is finished.
 fn has_mesh(out: &MemMeshes, want: &str) -> bool {
     if out.count() != 1 {
@@ -193,7 +128,10 @@ fn is_written_as(
     offset: Option<i64>,
     want: &str,
 ) -> Result<bool, Fail> {
-    let planes = planes_of(offset)?;
+    let mut planes = Planes::none();
+    if let Some(offset) = offset {
+        planes.add(Plane::new(1, 0, 0, offset).ok_or("a plane")?);
+    }
     let mut by_table = MemMeshes::new(alloc, &[], 1, 1024)?;
     let mut by_slice = MemMeshes::new(alloc, &[], 1, 1024)?;
     let first = write_to(alloc, wedges, numbers, spacing, &planes, &mut by_table)?;
@@ -213,7 +151,9 @@ fn a_mesh_is_written_as_its_text(rt: HostRuntime) -> Result<(), Fail> {
         (&EIGHTHS, 50, Some(-50), EIGHTHS_AT_50),
         (&MIXED, 1, None, MIXED_TEXT),
     ];
-    let wedges = middle(rt.alloc())?;
+    let mut grid = Grid::flat(rt.alloc(), 1, 65535)?;
+    grid.put(1, 1, 10);
+    let wedges = Wedges::build(rt.alloc(), grid)?;
     for (numbers, spacing, offset, want) in cases {
         let is_it = is_written_as(rt.alloc(), &wedges, numbers, spacing, offset, want)?;
         assert!(rt; is_it, "{want}");
@@ -221,105 +161,26 @@ fn a_mesh_is_written_as_its_text(rt: HostRuntime) -> Result<(), Fail> {
     Ok(())
 }
 
-/// Writes the quarters where this call fails: whether that ends well, how many meshes are there, and whether the
-/// first of them has these bytes and no end.
-fn quarters_cut(
-    alloc: Global,
-    wedges: &Wedges,
-    call: MeshCall,
-    want: &str,
-) -> Result<(bool, u64, bool), Fail> {
-    let mut out = MemMeshes::new(alloc, &[call], 1, 1024)?;
-    let done = write_to(alloc, wedges, &QUARTERS, 1, &Planes::none(), &mut out)?;
-    let count = out.count();
-    let is_cut = count == 0 || (!out.finished(0) && out.bytes(0) == want.as_bytes());
-    Ok((done, count, is_cut))
-}
-
-#[test]
-fn a_failed_call_leaves_a_prefix_of_the_text(rt: HostRuntime) -> Result<(), Fail> {
-    let cases = [
-        (MeshCall::Begin(1), 0, ""),
-        (MeshCall::Write(1), 1, ""),
-        (MeshCall::Finish(1), 1, QUARTERS_TEXT),
-    ];
-    let wedges = middle(rt.alloc())?;
-    for (call, count, bytes) in cases {
-        let found = quarters_cut(rt.alloc(), &wedges, call, bytes)?;
-        assert_eq!(rt; found, (false, count, true), "{call:?}");
-    }
-    Ok(())
-}
-
-/// Writes the finest triangles of the flat grid of 33 points a side, and answers whether that ended well.
-fn write_finest<M: MeshSink>(alloc: Global, out: &mut M) -> Result<bool, Fail>
-    requires { M.under_way out.old ≡ false }
-{
+/// Writes the finest triangles of the flat grid of 33 points a side where the piece of this number fails: whether that
+/// ended well, and how many bytes are there.
+fn write_finest(alloc: Global, fails: u64) -> Result<(bool, usize), Fail> {
     let wedges = Wedges::build(alloc, Grid::flat(alloc, 5, 1)?)?;
     let numbers = finest(alloc)?;
-    write_to(alloc, &wedges, numbers.as_slice(), 1, &Planes::none(), out)
-}
-
-/// Whether one sink has the whole text, and the other no more than its first piece.
-fn is_first_piece(whole: &MemMeshes, cut: &MemMeshes) -> bool {
-    if whole.count() != 1 || cut.count() != 1 {
-        return false;
+    let mut out = MemMeshes::new(alloc, &[MeshCall::Write(fails)], 1, 65536)?;
+    let planes = Planes::none();
+    let done = write_to(alloc, &wedges, numbers.as_slice(), 1, &planes, &mut out)?;
+    if out.count() != 1 {
+        return Ok((done, 0));
     }
-    let (text, piece) = (whole.bytes(0), cut.bytes(0));
-    let are_ended = whole.finished(0) && !cut.finished(0);
-    let is_cut = 8192 <= piece.len() && piece.len() < WHOLE && text.starts_with(piece);
-    are_ended && text.len() == WHOLE && is_cut
-}
-
-/// Writes a mesh twice, the second time with a second piece that fails: whether each ends well, and whether the first
-/// piece is left.
-fn second_piece_fails(alloc: Global) -> Result<[bool; 3], Fail> {
-    let mut whole = MemMeshes::new(alloc, &[], 1, 65536)?;
-    let mut cut = MemMeshes::new(alloc, &[MeshCall::Write(2)], 1, 65536)?;
-    let done = write_finest(alloc, &mut whole)?;
-    let broken = write_finest(alloc, &mut cut)?;
-    Ok([done, broken, is_first_piece(&whole, &cut)])
-}
-
-#[test]
-fn a_second_piece_that_fails_leaves_the_first(rt: HostRuntime) -> Result<(), Fail> {
-    assert_eq!(rt; second_piece_fails(rt.alloc())?, [true, false, true]);
-    Ok(())
-}
-
-/// Whether the finest triangles are written as the same text with the numbers of a slice as with those of a table.
-fn finest_texts_are_one(alloc: Global) -> Result<bool, Fail> {
-    let wedges = Wedges::build(alloc, Grid::flat(alloc, 5, 1)?)?;
-    let numbers = finest(alloc)?;
-    let mut by_table = MemMeshes::new(alloc, &[], 1, 65536)?;
-    let mut by_slice = MemMeshes::new(alloc, &[], 1, 65536)?;
-    let first = write_finest(alloc, &mut by_table)?;
-    let second = write_by_slice(
-        alloc,
-        &wedges,
-        numbers.as_slice(),
-        1,
-        &Planes::none(),
-        &mut by_slice,
-    )?;
-    if by_table.count() != 1 || by_slice.count() != 1 {
-        return Ok(false);
-    }
-    let text = by_slice.bytes(0);
-    Ok(first && second && text.len() == WHOLE && text == by_table.bytes(0))
-}
-
-#[test]
-fn numbers_of_a_slice_and_of_a_table_give_one_text(rt: HostRuntime) -> Result<(), Fail> {
-    assert!(rt; finest_texts_are_one(rt.alloc())?);
-    Ok(())
+    Ok((done, out.bytes(0).len()))
 }
 
 #[test]
 fn text_comes_in_pieces_of_8_kib_at_least_but_for_the_last(rt: HostRuntime) -> Result<(), Fail> {
-    let mut out = Pieces::new();
-    let done = write_finest(rt.alloc(), &mut out)?;
-    let found = (done, out.count(), out.short(), out.bytes());
-    assert_eq!(rt; found, (true, 3, 0, WHOLE as u64));
+    let (first, second) = (write_finest(rt.alloc(), 2)?, write_finest(rt.alloc(), 3)?);
+    assert_eq!(rt; (first.0, second.0), (false, false));
+    assert!(rt; first.1 >= 8192 && second.1 >= first.1.saturating_add(8192));
+    assert_eq!(rt; write_finest(rt.alloc(), 1)?, (false, 0));
+    assert_eq!(rt; write_finest(rt.alloc(), 4)?, (true, WHOLE));
     Ok(())
 }

@@ -1,18 +1,14 @@
 //! Texts and numbers of `roam_num`, worked by hand.
 
 use arrayvec::ArrayVec;
-use roam_edge::{Failed, MemSink, NoMemory};
 use roam_num::{
-    dec, push_bytes, push_decimal, push_number, put_dec, read_dec, read_signed, read_thousandths,
+    dec, push_bytes, push_decimal, push_number, read_dec, read_signed, read_thousandths,
 };
-use std::alloc::Global;
-use std::test::Fail;
 
 #[test]
-fn one_to_nineteen_digits_are_read(rt: HostRuntime) {
-    let cases: [(&[u8], Option<u64>); 9] = [
+fn numbers_are_read_up_to_their_most_digits(rt: HostRuntime) {
+    let cases: [(&[u8], Option<u64>); 8] = [
         (b"0", Some(0)),
-        (b"2097152", Some(2_097_152)),
         (b"007", Some(7)),
         (b"9999999999999999999", Some(9_999_999_999_999_999_999)),
         (b"00000000000000000001", None),
@@ -24,15 +20,10 @@ fn one_to_nineteen_digits_are_read(rt: HostRuntime) {
     for (text, number) in cases {
         assert_eq!(rt; read_dec(text), number);
     }
-}
-
-#[test]
-fn a_minus_and_one_to_eighteen_digits_are_read(rt: HostRuntime) {
-    let cases: [(&[u8], Option<i64>); 10] = [
+    let cases: [(&[u8], Option<i64>); 9] = [
         (b"0", Some(0)),
         (b"-0", Some(0)),
         (b"-29", Some(-29)),
-        (b"1073741824", Some(1_073_741_824)),
         (b"999999999999999999", Some(999_999_999_999_999_999)),
         (b"-999999999999999999", Some(-999_999_999_999_999_999)),
         (b"1000000000000000000", None),
@@ -43,15 +34,9 @@ fn a_minus_and_one_to_eighteen_digits_are_read(rt: HostRuntime) {
     for (text, number) in cases {
         assert_eq!(rt; read_signed(text), number);
     }
-}
-
-#[test]
-fn digits_with_at_most_three_behind_a_point_are_thousandths(rt: HostRuntime) {
-    let cases: [(&[u8], Option<u64>); 14] = [
-        (b"0", Some(0)),
+    let cases: [(&[u8], Option<u64>); 12] = [
         (b"20", Some(20_000)),
         (b"2.5", Some(2_500)),
-        (b"0.25", Some(250)),
         (b"0.125", Some(125)),
         (b"007.050", Some(7_050)),
         (b"65535.999", Some(65_535_999)),
@@ -69,7 +54,7 @@ fn digits_with_at_most_three_behind_a_point_are_thousandths(rt: HostRuntime) {
 }
 
 #[test]
-fn a_fraction_over_a_power_of_two_is_written_exactly(rt: HostRuntime) {
+fn numbers_and_fractions_over_powers_of_two_are_written_exactly(rt: HostRuntime) {
     let cases: [(u32, u32, &[u8]); 7] = [
         (0, 1, b"0"),
         (20, 1, b"10"),
@@ -84,10 +69,6 @@ fn a_fraction_over_a_power_of_two_is_written_exactly(rt: HostRuntime) {
         push_decimal(&mut written, count, n);
         assert_eq!(rt; written.as_slice(), text);
     }
-}
-
-#[test]
-fn a_number_is_written_without_leading_zeros(rt: HostRuntime) {
     let cases: [(i64, &[u8]); 4] = [
         (0, b"0"),
         (-7, b"-7"),
@@ -97,31 +78,9 @@ fn a_number_is_written_without_leading_zeros(rt: HostRuntime) {
     for (number, text) in cases {
         assert_eq!(rt; dec(number).as_slice(), text);
     }
-}
-
-#[test]
-fn a_number_is_appended_to_a_text(rt: HostRuntime) {
     let mut text = ArrayVec::<u8, 26>::new();
     push_bytes(&mut text, b"line ");
     push_number(&mut text, u64::MAX);
     push_bytes(&mut text, b".");
     assert_eq!(rt; text.as_slice(), b"line 18446744073709551615.".as_slice());
-}
-
-/// What three numbers answer that are put into a sink whose third write fails, and whether it then has this text.
-fn put_three(alloc: Global, want: &str) -> Result<([Result<(), Failed>; 3], bool), NoMemory> {
-    let mut sink = MemSink::new(alloc, &[3], 16)?;
-    let answers = [
-        put_dec(&mut sink, 218_453),
-        put_dec(&mut sink, -1),
-        put_dec(&mut sink, 5),
-    ];
-    Ok((answers, sink.bytes() == want.as_bytes()))
-}
-
-#[test]
-fn numbers_are_put_one_after_another(rt: HostRuntime) -> Result<(), Fail> {
-    let want = ([Ok(()), Ok(()), Err(Failed)], true);
-    assert_eq!(rt; put_three(rt.alloc(), "218453-1")?, want);
-    Ok(())
 }
