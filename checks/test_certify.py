@@ -33,6 +33,9 @@ def hill(place: Place) -> Place:
     ("a_mate_as_a_reason", b"camera 0 0 0\nleaf 2\nleaf 3\nwant 2\nmate 3\n", 3, 0,
      "certified camera 0 0 0 triangles 2 worst 1310720"),
     ("a_mate_named_twice", b"camera 0 0 0\nleaf 2\nleaf 3\nwant 2\nmate 3\nmate 3\n", 3, 7, "rejected: bad reason 3"),
+    ("a_mate_that_nothing_forces", b"camera 0 0 0\nleaf 2\nleaf 3\nmate 3\n", 2, 7, "rejected: bad reason 1"),
+    ("a_reason_where_all_leaves_are_finest", b"camera 0 0 0\nleaf 4\nleaf 5\nleaf 6\nleaf 7\nparent 2\n", 4, 7,
+     "rejected: bad reason 1"),
     ("a_reason_of_priority_0", b"camera 0 0 0\nleaf 2\nleaf 3\nwant 4\n", 2, 7, "rejected: bad reason 1"),
     ("a_leaf_left_out", b"camera 0 0 0\nleaf 2\nwant 2\n", 2, 7, "rejected: not conforming"),
     ("a_camera_alone", b"camera 0 0 0\n", 2, 7, "rejected: not conforming"),
@@ -178,6 +181,10 @@ def test_a_certificate_of_nine_triangles(place: Place) -> None:
     ("a_fit_certificate_with_the_mesh_twice", b"tolerance 20\nmesh\nmesh\n", "budget 2", 7, "rejected: bad line 3"),
     ("a_fit_certificate_without_a_tolerance", b"mesh\n", "budget 2", 7, "rejected: bad line 1"),
     ("a_fit_certificate_without_bytes", b"", "budget 2", 7, "rejected: bad line 1"),
+    ("a_fit_reason_before_the_tolerance", b"off 2 1 1\n", "budget 2", 7, "rejected: bad line 1"),
+    ("a_fit_tolerance_of_33_bits", b"tolerance 4294967296\n", "budget 2", 7, "rejected: bad line 1"),
+    ("a_reason_of_a_view_in_a_fit_certificate", b"tolerance 20\nmesh\noff 3 2 2\nwant 2\n", "budget 2", 7,
+     "rejected: bad line 4"),
     ("a_blank_line_of_a_fit_certificate", b"tolerance 20\n\nmesh\n", "budget 2", 7, "rejected: bad line 2"),
     ("a_fit_reason_of_a_finest_triangle", b"tolerance 20\nmesh\noff 8 1 1\n", "budget 2", 7, "rejected: bad line 3"),
     ("a_fit_reason_past_the_last_column", b"tolerance 20\nmesh\noff 2 3 1\n", "budget 2", 7, "rejected: bad line 3"),
@@ -195,6 +202,49 @@ def test_quarters_certified_by_their_reason(hill: Place) -> None:
     hill.write("c", "tolerance 0\noff 2 1 1\nmesh\n")
     hill.run("certify", "check-fit", "g", "out000001.obj", "c", "budget", 4, 1)
     hill.expect(0, b"certified fit triangles 4 deviation 0 over 2 error 0\n")
+
+
+# Over 25 points, of which a corner is 1 high: 4 and 5 are leaves only once 2 is split.
+@table(
+    "certificate, goal, status, report",
+    ("fit_reasons_that_make_leaves_for_others", b"tolerance 2\noff 2 1 0\noff 4 1 0\noff 5 0 1\nmesh\n", "error 0.5", 0,
+     "certified fit triangles 6 deviation 2 over 4 error 0.5"),
+    ("fit_reasons_behind_the_mesh_that_do", b"tolerance 3\nmesh\noff 2 1 0\noff 4 1 0\noff 5 0 1\n", "budget 5", 0,
+     "certified fit triangles 2 deviation 3 over 4 error 0.75"),
+    ("fit_reasons_in_another_order", b"tolerance 2\noff 4 1 0\noff 2 1 0\noff 5 0 1\nmesh\n", "error 0.5", 7,
+     "rejected: bad reason 1"),
+)
+def test_reasons_in_order(place: Place, certificate: bytes, goal: str, status: int, report: str) -> None:
+    place.write("g", spots(5, (0, 0, 1)))
+    place.run("fit", "g", "out", *goal.split(), 1)
+    place.write("c", certificate)
+    place.run("certify", "check-fit", "g", "out000001.obj", "c", *goal.split(), 1)
+    place.expect(status, f"{report}\n".encode())
+
+
+# Of a mesh that keeps the middle and (1, 0), with which the middle comes. A point stands before the tolerance alone.
+@table(
+    "certificate, status, report",
+    ("a_kept_certificate_of_the_point_that_brings_the_other", b"need 1 0\ntolerance 20\nmesh\n", 0,
+     "certified fit triangles 5 deviation 0 over 2 error 0"),
+    ("a_kept_certificate_with_blanks_and_cr", b" need\t01  1\r\nneed 1 0\ntolerance 20\nmesh\n", 0,
+     "certified fit triangles 5 deviation 0 over 2 error 0"),
+    ("a_kept_certificate_with_a_column_past_the_grid", b"need 2 2\nneed 3 0\n", 7, "rejected: bad line 2"),
+    ("a_kept_certificate_with_a_row_past_the_grid", b"need 0 3\n", 7, "rejected: bad line 1"),
+    ("a_kept_certificate_with_a_point_of_one_number", b"need 1\n", 7, "rejected: bad line 1"),
+    ("a_kept_certificate_with_a_point_of_three_numbers", b"need 1 1 1\n", 7, "rejected: bad line 1"),
+    ("a_kept_certificate_with_a_reason_before_the_tolerance", b"need 1 1\noff 2 1 1\n", 7, "rejected: bad line 2"),
+    ("a_kept_certificate_with_a_point_behind_the_tolerance", b"tolerance 20\nneed 1 1\n", 7, "rejected: bad line 2"),
+    ("a_kept_certificate_with_a_point_behind_the_mesh", b"need 1 1\ntolerance 20\noff 4 1 0\nmesh\nneed 1 1\n", 7,
+     "rejected: bad line 5"),
+)
+def test_kept_certificate(hill: Place, certificate: bytes, status: int, report: str) -> None:
+    words = ("error", 10, 1, "keep", "p")
+    hill.write("p", "1 1\n1 0\n")
+    hill.run("fit", "g", "out", *words)
+    hill.write("c", certificate)
+    hill.run("certify", "check-fit", "g", "out000001.obj", "c", *words)
+    hill.expect(status, f"{report}\n".encode())
 
 
 @table(

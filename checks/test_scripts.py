@@ -201,6 +201,15 @@ def expect_last(place: Place, status: int, report: bytes, mesh: Optional[bytes])
      b"frame 1 triangles 2 vertices 4 worst 1310720 splits 0 merges 0 blocked 2 needs 4\n", HALVES),
     ("worked_border_at_4", "mesh g s out 4 1", spots(3, (1, 0, 10)), b"frame\n", 0,
      b"frame 1 triangles 4 vertices 5 worst 1310720 splits 2 merges 0 blocked 4 needs 5\n", None),
+    ("worked_border_at_5", "mesh g s out 5 1", spots(3, (1, 0, 10)), b"frame\n", 0,
+     b"frame 1 triangles 5 vertices 6 worst 0 splits 3 merges 0 blocked none\n", None),
+    # The ranking of these two is 3, 7, 2, 4: the greater priority goes before the lesser address.
+    ("worked_two_hills_at_3", "mesh g s out 3 1", spots(3, (1, 0, 10), (2, 1, 30)), b"frame\n", 0,
+     b"frame 1 triangles 2 vertices 4 worst 3932160 splits 0 merges 0 blocked 3 needs 4\n", HALVES),
+    ("worked_two_hills_at_4", "mesh g s out 4 1", spots(3, (1, 0, 10), (2, 1, 30)), b"frame\n", 0,
+     b"frame 1 triangles 4 vertices 5 worst 1966080 splits 2 merges 0 blocked 7 needs 5\n", None),
+    ("worked_two_hills_at_5", "mesh g s out 5 1", spots(3, (1, 0, 10), (2, 1, 30)), b"frame\n", 0,
+     b"frame 1 triangles 5 vertices 6 worst 1310720 splits 3 merges 0 blocked 4 needs 6\n", None),
     ("worked_corner_at_9", "mesh g s out 9 1", spots(5, (1, 0, 10)), b"frame\n", 0,
      b"frame 1 triangles 9 vertices 9 worst 0 splits 7 merges 0 blocked none\n", NINE),
     ("worked_corner_at_8", "mesh g s out 8 1", spots(5, (1, 0, 10)), b"frame\n", 0,
@@ -226,6 +235,11 @@ def expect_last(place: Place, status: int, report: bytes, mesh: Optional[bytes])
      b"frame 1 triangles 2 vertices 4 worst 0 splits 0 merges 0 blocked none inside 0 cut 0 outside 2\n", None),
     ("worked_plane_with_a_quarter_outside", "mesh g s out 8 1", spots(3, (1, 0, 10)), b"plane 0 1 0 -2\nframe\n", 0,
      b"frame 1 triangles 4 vertices 5 worst 0 splits 2 merges 0 blocked none inside 0 cut 3 outside 1\n", None),
+    ("worked_plane_that_leaves_all_out_and_goes", "mesh g s out 4 1", spots(3, (1, 1, 10)),
+     b"plane 1 0 0 -2\nframe\nnoplanes\nplane 1 0 0 -3\nframe\nnoplanes\nframe\n", 0,
+     b"frame 1 triangles 4 vertices 5 worst 0 splits 2 merges 0 blocked none inside 0 cut 3 outside 1\n"
+     b"frame 2 triangles 2 vertices 4 worst 0 splits 0 merges 2 blocked none inside 0 cut 0 outside 2\n"
+     b"frame 3 triangles 4 vertices 5 worst 0 splits 2 merges 0 blocked none\n", QUARTERS),
     ("worked_planes_that_are_dropped", "mesh g s out 8 1", spots(3), b"plane 1 0 0 -2\nnoplanes\nframe\n", 0,
      b"frame 1 triangles 2 vertices 4 worst 0 splits 0 merges 0 blocked none\n", HALVES),
     ("worked_budget_that_falls_and_comes_back", "mesh g s out 9 1", spots(5, (1, 0, 10)),
@@ -238,6 +252,12 @@ def expect_last(place: Place, status: int, report: bytes, mesh: Optional[bytes])
      b"line 2 refused: out of range in field 1\n", NINE),
     ("worked_raised_middle", "mesh g s out 4 1", spots(3), b"raise 1 1 1 1 10\nframe\n", 0,
      b"frame 1 triangles 4 vertices 5 worst 0 splits 2 merges 0 blocked none\n", QUARTERS),
+    # The triangles to the left have the raised column 2 as their border, and no more of the area.
+    ("worked_raise_that_only_borders_meet", "mesh g s out 12 1", spots(5),
+     b"frame\nraise 2 0 4 4 5\nframe\nraise 2 0 4 4 -5\nframe\n", 0,
+     b"frame 1 triangles 2 vertices 4 worst 0 splits 0 merges 0 blocked none\n"
+     b"frame 2 triangles 12 vertices 11 worst 163840 splits 10 merges 0 blocked 23 needs 14\n"
+     b"frame 3 triangles 2 vertices 4 worst 0 splits 0 merges 10 blocked none\n", None),
     ("worked_raised_to_the_maxval", "mesh g s out 4 1", spots(3), b"raise 0 0 2 2 65535\nraise 1 1 1 1 1\nframe\n", 0,
      b"frame 1 triangles 2 vertices 4 worst 0 splits 0 merges 0 blocked none\n", HIGH_HALVES),
     ("worked_least_below_the_worst", "least g s out 1310719 1", spots(3, (1, 1, 10)), b"frame\n", 0,
