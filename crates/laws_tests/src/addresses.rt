@@ -1,54 +1,7 @@
-//! Addresses, levels, corners, mates and ranks, against tables worked by hand.
+//! Addresses with their levels, centres, held points and ranks, against tables worked by hand.
 
-use bintree_addr::{Corners, Point, Rank, Tri};
+use bintree_addr::{Rank, Tri};
 use std::cmp::Ordering;
-
-// The corners as (apex, v0, v1), each a pair of coordinates.
-type Row = ((u32, u32), (u32, u32), (u32, u32));
-
-fn corners_from(row: Row) -> Corners {
-    let (apex, v0, v1) = row;
-    Corners {
-        apex: Point {
-            x: apex.0,
-            y: apex.1,
-        },
-        v0: Point { x: v0.0, y: v0.1 },
-        v1: Point { x: v1.0, y: v1.1 },
-    }
-}
-
-/// The corners of a triangle, if the grid of side 2 ^ n has one with this address.
-fn corners_of(n: u32, number: u32) -> Option<Corners> {
-    let tri = Tri::new(number)?;
-    if n < 1 || n > 14 || tri.level() > 2 * n {
-        return None;
-    }
-    Some(tri.corners(n))
-}
-
-/// The number of the parent, 0 for a base triangle.
-fn parent_of(number: u32) -> Option<u32> {
-    Some(Tri::new(number)?.parent().map_or(0, Tri::number))
-}
-
-/// The number of the mate in the grid of side 4, 0 where there is none.
-fn mate_of(number: u32) -> Option<u32> {
-    let tri = Tri::new(number)?;
-    if tri.level() > 4 {
-        return None;
-    }
-    Some(tri.mate(2).map_or(0, Tri::number))
-}
-
-/// The numbers of the children.
-fn children_of(number: u32) -> Option<(u32, u32)> {
-    let tri = Tri::new(number)?;
-    if tri.level() >= 28 {
-        return None;
-    }
-    Some((tri.left().number(), tri.right().number()))
-}
 
 /// The centre in the grid of side 4.
 fn centre_of(number: u32) -> Option<(u32, u32)> {
@@ -75,93 +28,29 @@ fn points_held(number: u32) -> Option<u32> {
     Some(held)
 }
 
+// What a grid of 2^11 a side has, and what a finer one has.
 #[test]
-fn addresses_are_two_to_sixteen_million(rt: HostRuntime) {
+fn addresses_have_these_levels(rt: HostRuntime) {
     let cases = [
-        (0, None),
-        (1, None),
-        (2, Some(2)),
-        (3, Some(3)),
-        (16_777_215, Some(16_777_215)),
-        (16_777_216, None),
-        (u32::MAX, None),
+        (0, None, None),
+        (1, None, None),
+        (2, Some(0), Some(0)),
+        (3, Some(0), Some(0)),
+        (4, Some(1), Some(1)),
+        (7, Some(1), Some(1)),
+        (8, Some(2), Some(2)),
+        (15, Some(2), Some(2)),
+        (17, Some(3), Some(3)),
+        (8_388_607, Some(21), Some(21)),
+        (16_777_215, Some(22), Some(22)),
+        (16_777_216, None, Some(23)),
+        (1_073_741_823, None, Some(28)),
+        (1_073_741_824, None, None),
+        (u32::MAX, None, None),
     ];
-    for (number, address) in cases {
-        assert_eq!(rt; Tri::new(number).map(Tri::number), address, "{number}");
-    }
-}
-
-#[test]
-fn deep_addresses_are_two_to_a_thousand_million(rt: HostRuntime) {
-    let cases = [
-        (1, None),
-        (2, Some(0)),
-        (16_777_215, Some(22)),
-        (16_777_216, Some(23)),
-        (1_073_741_823, Some(28)),
-        (1_073_741_824, None),
-        (u32::MAX, None),
-    ];
-    for (number, level) in cases {
-        assert_eq!(rt; Tri::at(number).map(Tri::level), level, "{number}");
-    }
-}
-
-#[test]
-fn levels_of_addresses(rt: HostRuntime) {
-    let cases = [
-        (2, 0),
-        (3, 0),
-        (4, 1),
-        (7, 1),
-        (8, 2),
-        (15, 2),
-        (17, 3),
-        (8_388_607, 21),
-        (16_777_215, 22),
-    ];
-    for (number, level) in cases {
-        assert_eq!(rt; Tri::new(number).map(Tri::level), Some(level), "{number}");
-    }
-}
-
-#[test]
-fn children_double_the_address(rt: HostRuntime) {
-    for number in 2..18 {
-        let children = (2 * number, 2 * number + 1);
-        assert_eq!(rt; children_of(number), Some(children), "{number}");
-    }
-}
-
-#[test]
-fn corners_in_the_grids_of_sides_two_and_four(rt: HostRuntime) {
-    let cases: [(u32, u32, Row); 19] = [
-        (1, 2, ((0, 0), (2, 0), (0, 2))),
-        (1, 3, ((2, 2), (0, 2), (2, 0))),
-        (1, 4, ((1, 1), (0, 0), (2, 0))),
-        (1, 5, ((1, 1), (0, 2), (0, 0))),
-        (1, 6, ((1, 1), (2, 2), (0, 2))),
-        (1, 7, ((1, 1), (2, 0), (2, 2))),
-        (1, 8, ((1, 0), (1, 1), (0, 0))),
-        (1, 9, ((1, 0), (2, 0), (1, 1))),
-        (1, 10, ((0, 1), (1, 1), (0, 2))),
-        (1, 11, ((0, 1), (0, 0), (1, 1))),
-        (1, 12, ((1, 2), (1, 1), (2, 2))),
-        (1, 13, ((1, 2), (0, 2), (1, 1))),
-        (1, 14, ((2, 1), (1, 1), (2, 0))),
-        (1, 15, ((2, 1), (2, 2), (1, 1))),
-        (2, 2, ((0, 0), (4, 0), (0, 4))),
-        (2, 7, ((2, 2), (4, 0), (4, 4))),
-        (2, 8, ((2, 0), (2, 2), (0, 0))),
-        (2, 13, ((2, 4), (0, 4), (2, 2))),
-        (2, 17, ((1, 1), (0, 0), (2, 0))),
-    ];
-    for (n, number, row) in cases {
-        assert_eq!(rt;
-            corners_of(n, number),
-            Some(corners_from(row)),
-            "{number} at n = {n}"
-        );
+    for (number, level, deep) in cases {
+        assert_eq!(rt; Tri::new(number).map(Tri::level), level, "{number}");
+        assert_eq!(rt; Tri::at(number).map(Tri::level), deep, "{number}");
     }
 }
 
@@ -181,37 +70,6 @@ fn centres_are_midpoints_of_bases(rt: HostRuntime) {
     ];
     for (number, centre) in cases {
         assert_eq!(rt; centre_of(number), Some(centre), "{number}");
-    }
-}
-
-#[test]
-fn base_triangles_have_no_parent(rt: HostRuntime) {
-    for (number, parent) in [(2, 0), (3, 0), (4, 2), (7, 3), (17, 8)] {
-        assert_eq!(rt; parent_of(number), Some(parent), "{number}");
-    }
-}
-
-#[test]
-fn mates_in_the_grid_of_side_four(rt: HostRuntime) {
-    let cases = [
-        (2, 3),
-        (3, 2),
-        (4, 0),
-        (5, 0),
-        (6, 0),
-        (7, 0),
-        (8, 11),
-        (9, 14),
-        (10, 13),
-        (11, 8),
-        (12, 15),
-        (13, 10),
-        (14, 9),
-        (15, 12),
-        (17, 0),
-    ];
-    for (number, mate) in cases {
-        assert_eq!(rt; mate_of(number), Some(mate), "{number}");
     }
 }
 

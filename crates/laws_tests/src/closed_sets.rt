@@ -15,12 +15,6 @@ fn splittable(number: u32) -> Option<Tri>
     if t.level() < 4 { Some(t) } else { None }
 }
 
-/// By how many members the empty set would grow.
-fn first_gain(alloc: Global, number: u32) -> Option<u32> {
-    let t = splittable(number)?;
-    Split::base(alloc, 2).gain(alloc, t).ok()
-}
-
 /// Splits a triangle by force. Tells by how many members the set grows.
 fn split(set: &mut Split, number: u32) -> Option<u32>
     requires { set.old.n ≡ 2 }
@@ -68,37 +62,12 @@ fn leaves_after(alloc: Global, number: u32) -> Option<[u32; 10]> {
 }
 
 #[test]
-fn gains_on_the_empty_set(rt: HostRuntime) {
-    for (number, gain) in [(2, 2), (4, 3), (8, 6), (17, 7)] {
-        assert_eq!(rt; first_gain(rt.alloc(), number), Some(gain), "of {number}");
-    }
-}
-
-#[test]
 fn a_forced_split_adds_the_mate_and_the_parents(rt: HostRuntime) {
     let leaves = [16, 17, 9, 10, 22, 23, 6, 7, 0, 0];
     assert_eq!(rt; leaves_after(rt.alloc(), 8), Some(leaves));
-}
-
-#[test]
-fn corner_triangles_close_to_seven_members(rt: HostRuntime) {
     // 2, 3, 4, 5, 8, 11 and 17.
     let members = 1 << 2 | 1 << 3 | 1 << 4 | 1 << 5 | 1 << 8 | 1 << 11 | 1 << 17;
     let gains = [Some(2), Some(1), Some(3), Some(1)];
     let wanted = (gains, Some(0), 2, 7, members);
     assert_eq!(rt; corner_set(rt.alloc()), wanted);
-}
-
-#[test]
-fn the_empty_set_has_the_two_halves_as_leaves(rt: HostRuntime) {
-    assert_eq!(rt; base_leaves(rt.alloc()), Some((2, 2, 3)));
-}
-
-/// How many leaves the empty set of the greatest grid has, and the addresses of the first two.
-fn base_leaves(alloc: Global) -> Option<(usize, u32, u32)> {
-    let leaves = Split::base(alloc, 11).leaves(alloc).ok()?;
-    match leaves.as_slice() {
-        [first, second, ..] => Some((leaves.len(), first.number(), second.number())),
-        _ => None,
-    }
 }

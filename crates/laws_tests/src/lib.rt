@@ -1,4 +1,4 @@
-//! Tests of the laws, of the worked numbers of their definitions, and of addresses and closed sets.
+//! Worked numbers of the definitions, and tests of addresses and closed sets.
 //!
 //! For whoever changes a law crate, `bintree_addr` or `diamond_rel`: these crates have no tests of their own, since a
 //! crate with tests is proved twice. The worked numbers are computed by the check. There is no code here that another
@@ -10,8 +10,6 @@
 mod addresses;
 #[cfg(test)]
 mod closed_sets;
-#[cfg(test)]
-mod law_calls;
 mod worked_frames;
 #[cfg(test)]
 mod worked_numbers;
