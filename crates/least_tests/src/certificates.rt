@@ -1,97 +1,29 @@
-//! Certificates of small grids for `roam_certify`, worked by hand, seen from the origin at spacing 1.
+//! Certificates of small grids, worked by hand: one that `roam_certify` makes of a view, and verdicts of `fit_certify`
+//! on meshes that keep points, also on parts that no file can hold.
+//!
+//! A reason is an address, a column and a row; a point a column and a row.
 
-use crate::hill::hill;
-use cert_text::{Cert, CertReader};
-use certificate_laws::certificate_laws;
-use cull_marks::Planes;
-use plain_mesh::plain_frame;
-use roam_certify::{Reject, Verdict, certify_mesh, check, make_cert};
+ghost use Rattle.std.specs.Prelude.{◌≤◌, ◌^◌, All, IfOk, length};
+ghost use Rattle.bintree_laws.specs.Corners.{IsInSquare};
+ghost use Rattle.certificate_laws.specs.declared.limits.TheConstants.{MOST_REASONS};
+
+use bintree_addr::{Point, Tri};
+use cert_text::Cert;
+use fit_certify::{FitCert, FitReject, FitVerdict, KeptCert, MOST_REASONS, Witness, check_kept};
+use pgm_grid::Grid;
+use roam_certify::make_cert;
 use std::alloc::Global;
 use std::test::Fail;
 use view_priority::Camera;
-
-/// The verdict on the certificate of these lines, of the grid of side 2 whose middle is a hill.
-fn verdict_on(alloc: Global, lines: &[&str], budget: u32) -> Result<Verdict, Fail> {
-    let wedges = hill(alloc, 1, 1, 1)?;
-    let mut reader = CertReader::new(alloc, 1);
-    for line in lines {
-        reader.line(line.as_bytes())?;
-    }
-    let cert = reader.finish()?;
-    Ok(check(alloc, &wedges, &cert, 1, budget)?)
-}
-
-/// The verdict that a certificate is rejected.
-fn rejected(why: Reject) -> Verdict {
-    Verdict::Rejected { why }
-}
-
-// Both halves of the square have priority 1310720, and their children 0.
-#[test]
-fn the_halves_are_certified_by_enough_reasons(rt: HostRuntime) -> Result<(), Fail> {
-    let certified = Verdict::Certified {
-        triangles: 2,
-        worst: 1310720,
-    };
-    let want = ["camera 0 0 0", "leaf 2", "leaf 3", "want 2"];
-    let both = ["camera 0 0 0", "leaf 2", "leaf 3", "want 2", "mate 3"];
-    let cases: [(&[&str], u32, Verdict); 3] = [
-        (&want, 2, certified),
-        (&want, 3, rejected(Reject::TooFewReasons)),
-        (&both, 3, certified),
-    ];
-    for (lines, budget, verdict) in cases {
-        assert_eq!(rt; verdict_on(rt.alloc(), lines, budget)?, verdict, "{budget}");
-    }
-    Ok(())
-}
-
-// Reasons are counted from 1, and looked at where the worst is 0, too: triangle 4 is a finest one.
-#[test]
-fn each_cause_of_a_rejection_is_told(rt: HostRuntime) -> Result<(), Fail> {
-    let none = ["camera 0 0 0"];
-    let half = ["camera 0 0 0", "leaf 2", "want 2"];
-    let four = ["camera 0 0 0", "leaf 4", "leaf 5", "leaf 6", "leaf 7"];
-    let repeated = ["camera 0 0 0", "leaf 3", "leaf 2", "want 2", "want 2"];
-    let causeless = ["camera 0 0 0", "leaf 3", "leaf 2", "mate 3"];
-    let finest = [
-        "camera 0 0 0",
-        "leaf 4",
-        "leaf 5",
-        "leaf 6",
-        "leaf 7",
-        "parent 2",
-    ];
-    let cases: [(&[&str], u32, Reject); 6] = [
-        (&half, 2, Reject::NotConforming),
-        (&none, 2, Reject::NotConforming),
-        (&four, 3, Reject::OverBudget),
-        (&repeated, 2, Reject::BadReason { index: 2 }),
-        (&causeless, 2, Reject::BadReason { index: 1 }),
-        (&finest, 4, Reject::BadReason { index: 1 }),
-    ];
-    for (lines, budget, why) in cases {
-        let verdict = verdict_on(rt.alloc(), lines, budget)?;
-        assert_eq!(rt; verdict, rejected(why), "{why:?}");
-    }
-    Ok(())
-}
+use wedgie_tree::Wedges;
 
 /// The certificate of the best mesh of 8 triangles of the grid of side 4 with a hill at the lower border. That mesh
 /// stops at 17, which needs 9.
-fn cert_of_mesh(alloc: Global) -> Result<Cert, Fail> {
-    certificate_laws();
-    let camera = Camera::new(0, 0, 0).ok_or("a camera")?;
-    let wedges = hill(alloc, 2, 1, 0)?;
-    let frame = plain_frame(alloc, &wedges, &camera, 1, &Planes::none(), 8)?;
-    let leaves = frame.split.leaves(alloc)?;
-    Ok(certify_mesh(alloc, &wedges, &camera, 1, 8, leaves, frame.worst)?)
-}
-
-/// The certificate that is made of the same grid for the same budget.
 fn cert_of_budget(alloc: Global) -> Result<Cert, Fail> {
     let camera = Camera::new(0, 0, 0).ok_or("a camera")?;
-    let wedges = hill(alloc, 2, 1, 0)?;
+    let mut grid = Grid::flat(alloc, 2, 65535)?;
+    grid.put(1, 0, 10);
+    let wedges = Wedges::build(alloc, grid)?;
     Ok(make_cert(alloc, &wedges, &camera, 1, 8)?)
 }
 
@@ -111,10 +43,140 @@ fn parts_of(cert: &Cert, leaves: &[u32]) -> ((i64, i64, i64), bool, usize) {
 }
 
 #[test]
-fn a_certificate_is_made_of_a_mesh_or_of_a_budget(rt: HostRuntime) -> Result<(), Fail> {
+fn a_certificate_is_made_of_a_budget(rt: HostRuntime) -> Result<(), Fail> {
     let leaves = [16, 17, 9, 10, 22, 23, 6, 7];
     let want = ((0, 0, 0), true, 7);
-    assert_eq!(rt; parts_of(&cert_of_mesh(rt.alloc())?, &leaves), want);
     assert_eq!(rt; parts_of(&cert_of_budget(rt.alloc())?, &leaves), want);
+    Ok(())
+}
+
+/// Some points, as rows.
+type Rows<'a> = &'a [(u32, u32)];
+
+/// The points of these rows.
+fn points(alloc: Global, rows: Rows) -> Result<Vec<Point>, Fail>
+    ensures { IfOk result (λ v. length v.items ≤ MOST_REASONS) }
+{
+    let mut points = Vec::new(alloc);
+    for (x, y) in rows {
+        points.push(Point { x: *x, y: *y })?;
+    }
+    if points.len() > MOST_REASONS {
+        return Err("not too many points".into());
+    }
+    Ok(points)
+}
+
+/// The points of these rows, which are of the grid of side 2^n.
+fn points_on(alloc: Global, n: u32, rows: Rows) -> Result<Vec<Point>, Fail>
+    requires in_grid { n ≤ 14 }
+    ensures inside { IfOk result (λ v. All (IsInSquare (2 ^ n)) v.items) }
+    ensures few { IfOk result (λ v. length v.items ≤ MOST_REASONS) }
+{
+    let side = 1 << n;
+    let mut points = Vec::new(alloc);
+    for (x, y) in rows {
+        if *x > side || *y > side {
+            return Err("points of the grid".into());
+        }
+        points.push(Point { x: *x, y: *y })?;
+    }
+    if points.len() > MOST_REASONS {
+        return Err("not too many points".into());
+    }
+    Ok(points)
+}
+
+/// The reasons of these rows.
+fn reasons(alloc: Global, rows: &[(u32, u32, u32)]) -> Result<Vec<Witness>, Fail>
+    ensures { IfOk result (λ v. length v.items ≤ MOST_REASONS) }
+{
+    let mut reasons = Vec::new(alloc);
+    for (address, x, y) in rows {
+        let triangle = Tri::new(*address).ok_or("an address")?;
+        reasons.push(Witness {
+            triangle,
+            x: *x,
+            y: *y,
+        })?;
+    }
+    if reasons.len() > MOST_REASONS {
+        return Err("not too many reasons".into());
+    }
+    Ok(reasons)
+}
+
+/// The points, the tolerance, and the reasons before the mesh and behind it.
+type Parts<'a> = (Rows<'a>, u32, &'a [(u32, u32, u32)], &'a [(u32, u32, u32)]);
+
+/// The certificate of these parts.
+fn cert_of(alloc: Global, parts: Parts) -> Result<KeptCert, Fail> {
+    let (needs, tolerance, needed, beyond) = parts;
+    let rest = FitCert::new(tolerance, reasons(alloc, needed)?, reasons(alloc, beyond)?);
+    Ok(KeptCert::new(points(alloc, needs)?, rest))
+}
+
+/// The verdict on it, for a mesh of this error that keeps these points, over nine points of which the middle one has
+/// the height 10: each half is off by 20 there, and no quarter is off.
+fn verdict_on(alloc: Global, parts: Parts, tolerance: u32, kept: Rows) -> Result<FitVerdict, Fail> {
+    let mut grid = Grid::flat(alloc, 1, 65535)?;
+    grid.put(1, 1, 10);
+    let cert = cert_of(alloc, parts)?;
+    let kept = points_on(alloc, grid.n(), kept)?;
+    Ok(check_kept(alloc, &grid, &cert, tolerance, &kept)?)
+}
+
+// The middle is the centre of 2 and of 3, and (1, 0) that of 4, which stands on 2. The tests come in this order; a
+// reason behind two points is the third.
+#[test]
+fn certificates_that_keep_points_have_the_verdicts_by_hand(rt: HostRuntime) -> Result<(), Fail> {
+    let middle = [(1, 1)];
+    let side = [(1, 0)];
+    let both = [(1, 1), (1, 0)];
+    let corners = [(0, 0), (2, 0), (0, 2), (2, 2)];
+    let top = [(2, 1, 1)];
+    let first = FitReject::BadReason { index: 1 };
+    let second = FitReject::BadReason { index: 2 };
+    let third = FitReject::BadReason { index: 3 };
+    let cases: [(Parts, u32, Rows, Result<(u32, u32), FitReject>); 17] = [
+        ((&[], 20, &[], &[]), 20, &corners, Ok((2, 20))),
+        ((&middle, 20, &[], &[]), 20, &middle, Ok((4, 0))),
+        ((&side, 20, &[], &[]), 20, &side, Ok((5, 0))),
+        ((&[(1, 0), (1, 0)], 20, &[], &[]), 20, &side, Ok((5, 0))),
+        ((&side, 20, &[], &[]), 20, &both, Ok((5, 0))),
+        ((&[], 0, &top, &[]), 0, &middle, Ok((4, 0))),
+        (
+            (&both, 20, &[], &[]),
+            19,
+            &[],
+            Err(FitReject::OtherTolerance),
+        ),
+        ((&side, 20, &[], &[]), 20, &middle, Err(first)),
+        ((&both, 20, &[], &[]), 20, &middle, Err(second)),
+        ((&[(0, 0)], 20, &[], &[]), 20, &corners, Err(first)),
+        ((&[(3, 1)], 20, &[], &[]), 20, &middle, Err(first)),
+        ((&[], 0, &[(2, 3, 0)], &[]), 0, &[], Err(first)),
+        ((&both, 0, &top, &[]), 0, &both, Err(third)),
+        (
+            (&[], 19, &[], &top),
+            19,
+            &middle,
+            Err(FitReject::OverTolerance),
+        ),
+        ((&middle, 20, &[], &top), 20, &side, Err(first)),
+        ((&middle, 20, &[], &top), 20, &middle, Err(second)),
+        ((&[], 0, &top, &[]), 0, &both, Err(FitReject::TooFewReasons)),
+    ];
+    for (parts, tolerance, kept, told) in cases {
+        let verdict = verdict_on(rt.alloc(), parts, tolerance, kept)?;
+        let wanted = match told {
+            Ok((triangles, deviation)) => FitVerdict::Certified {
+                triangles,
+                deviation,
+            },
+            Err(why) => FitVerdict::Rejected { why },
+        };
+        assert_eq!(rt; verdict, wanted, "{tolerance} {kept:?}");
+    }
     Ok(())
 }

@@ -1,5 +1,6 @@
-//! Tests of the crates over meshes that no engine follows: least meshes, meshes by their error, terrains of many tiles,
-//! certificates and strips.
+//! Tests of certificates, of terrains of many tiles, and of the triangles of points. Least meshes, meshes by their
+//! error and strips are tried through program and library: `checks/test_scripts.py`, `test_meshes.py`,
+//! `test_tiles.py`.
 //!
 //! For whoever changes one of them. They stand here, above those crates, so that each of those is proved without
 //! tests, and once. A test calls what is public, and shows what no clause says: that the definitions mean what
@@ -10,22 +11,8 @@
 #[cfg(test)]
 mod certificates;
 #[cfg(test)]
-mod fit;
-#[cfg(test)]
-mod fit_certificates;
-#[cfg(test)]
-mod fit_required;
-#[cfg(test)]
-mod hill;
-#[cfg(test)]
-mod kept_certificates;
-#[cfg(test)]
-mod least_frames;
-#[cfg(test)]
 mod mosaics;
 #[cfg(test)]
 mod points;
-#[cfg(test)]
-mod strips;
 #[cfg(test)]
 mod terrain;

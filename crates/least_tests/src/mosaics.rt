@@ -139,19 +139,14 @@ fn in_one(alloc: Global, tolerance: u32) -> Result<Vec<u64>, Fail> {
     Ok(all)
 }
 
+// No height is above 127, and errors are counted in parts of 2^3 = 8: with 127 each tile has just its quarters.
 #[test]
 fn tiles_in_rounds_are_the_mesh_of_one_grid(rt: HostRuntime) -> Result<(), Fail> {
+    assert_eq!(rt; in_rounds(rt.alloc(), 127 * 8)?.len(), 6 * 4);
     for tolerance in [0, 50, 100, 200, 300, 400, 600, 1000] {
         // An error of the large grid is counted in parts four times as small.
         let tiles = in_rounds(rt.alloc(), tolerance)?;
         assert!(rt; tiles == in_one(rt.alloc(), 4 * tolerance)?, "{tolerance}");
     }
-    Ok(())
-}
-
-#[test]
-fn where_nothing_is_off_by_more_each_tile_has_its_quarters(rt: HostRuntime) -> Result<(), Fail> {
-    // No height is above 127, and errors are counted in parts of 2^3 = 8.
-    assert_eq!(rt; in_rounds(rt.alloc(), 127 * 8)?.len(), 6 * 4);
     Ok(())
 }
