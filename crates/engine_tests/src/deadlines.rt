@@ -57,20 +57,17 @@ fn calls_that_go(alloc: Global, calls: &[Call]) -> Option<usize> {
     Some(count)
 }
 
+// A slot is due once and only past its deadline; one that expired is due at once, and a forgotten one never until it
+// has another deadline.
 #[test]
-fn a_slot_is_due_once_and_only_past_its_deadline(rt: HostRuntime) {
-    let calls = [
+fn a_slot_is_due_once_past_its_deadline(rt: HostRuntime) {
+    let once = [
         Call::Stamp(0, 10, 2),
         Call::Due(12, None),
         Call::Due(13, Some(0)),
         Call::Due(13, None),
     ];
-    assert_eq!(rt; calls_that_go(rt.alloc(), &calls), Some(4));
-}
-
-#[test]
-fn an_expired_slot_is_due_at_once_and_a_forgotten_one_never(rt: HostRuntime) {
-    let calls = [
+    let expired = [
         Call::Stamp(0, 0, 0),
         Call::Stamp(1, 4, 3),
         Call::Stamp(1, 5, 3),
@@ -83,12 +80,7 @@ fn an_expired_slot_is_due_at_once_and_a_forgotten_one_never(rt: HostRuntime) {
         Call::Forget(2),
         Call::Due(9, None),
     ];
-    assert_eq!(rt; calls_that_go(rt.alloc(), &calls), Some(11));
-}
-
-#[test]
-fn a_forgotten_slot_can_have_another_deadline(rt: HostRuntime) {
-    let calls = [
+    let forgotten = [
         Call::Stamp(0, 0, 2),
         Call::Stamp(1, 1, 2),
         Call::Forget(0),
@@ -103,5 +95,8 @@ fn a_forgotten_slot_can_have_another_deadline(rt: HostRuntime) {
         Call::Due(6, Some(0)),
         Call::Due(10, None),
     ];
-    assert_eq!(rt; calls_that_go(rt.alloc(), &calls), Some(13));
+    let cases: [&[Call]; 3] = [&once, &expired, &forgotten];
+    for calls in cases {
+        assert_eq!(rt; calls_that_go(rt.alloc(), calls), Some(calls.len()));
+    }
 }

@@ -1,8 +1,7 @@
-//! Runs of an engine over small grids, whose numbers were found by hand; at the end of each the mesh is that from
-//! scratch.
+//! A run of an engine with thresholds, whose numbers were found by hand; at its end the mesh is that from scratch.
+//! Runs of scripts are in `checks/test_scripts.py`.
 
 use crate::grids::grid_with;
-use cull_marks::Plane;
 use frame_loop::{Camera, Engine, FrameNote, Grid};
 use plain_mesh::plain_frame;
 use roam_script::Line;
@@ -11,9 +10,6 @@ use wedgie_tree::Wedges;
 
 /// What a frame tells: triangles, vertices, worst, splits, merges, and what blocks with its need.
 pub type Told = (u32, u32, u64, u32, u32, Option<(u32, u32)>);
-
-/// How many triangles are inside, cut and outside.
-pub type Marks = (u32, u32, u32);
 
 /// A step of a worked run.
 #[derive(Clone, Copy)]
@@ -24,12 +20,8 @@ enum Step {
     Threshold(u64),
     /// A frame tells this.
     Frame(Told),
-    /// A frame splits and merges nothing, and so many triangles are inside, cut and outside.
-    Still(u32, u32, u32),
     /// A frame before which nothing changed evaluates nothing.
     Cheap,
-    /// A view has so many planes and leaves.
-    View(u32, usize),
 }
 
 /// Changes the state as a line of a script says. Tells whether the engine may be asked for that.
@@ -38,13 +30,12 @@ pub fn change(engine: &mut Engine, line: Line) -> bool {
         Line::Camera { x, y, z } => move_to(engine, x, y, z),
         Line::Set { x, y, h } => set_height(engine, x, y, h),
         Line::Raise { x0, y0, x1, y1, dz } => raise(engine, (x0, y0), (x1, y1), dz),
-        Line::Plane { a, b, c, d } => add_plane(engine, Plane::new(a, b, c, d)),
         Line::NoPlanes => {
             engine.clear_planes();
             true
         }
         Line::Budget { n } => set_budget(engine, n),
-        Line::Blank | Line::Frame => false,
+        Line::Plane { .. } | Line::Blank | Line::Frame => false,
     }
 }
 
@@ -79,17 +70,6 @@ fn raise(engine: &mut Engine, low: (u32, u32), high: (u32, u32), dz: i32) -> boo
     true
 }
 
-fn add_plane(engine: &mut Engine, plane: Option<Plane>) -> bool {
-    let Some(plane) = plane else {
-        return false;
-    };
-    if engine.planes() >= 6 {
-        return false;
-    }
-    engine.add_plane(plane);
-    true
-}
-
 fn set_budget(engine: &mut Engine, budget: u32) -> bool {
     if budget < 2 || budget > engine.most() {
         return false;
@@ -99,7 +79,7 @@ fn set_budget(engine: &mut Engine, budget: u32) -> bool {
 }
 
 /// What the next frame tells, if there may be one more and it adds up.
-pub fn frame(engine: &mut Engine) -> Option<(Told, Marks)> {
+pub fn frame(engine: &mut Engine) -> Option<Told> {
     let frames = engine.frames();
     if frames >= 1000000 {
         return None;
@@ -116,17 +96,16 @@ pub fn frame(engine: &mut Engine) -> Option<(Told, Marks)> {
 }
 
 /// The numbers of a frame.
-fn plain(note: &FrameNote) -> (Told, Marks) {
+fn plain(note: &FrameNote) -> Told {
     let blocked = note.blocked.map(|b| (b.tri.number(), b.need));
-    let told = (
+    (
         note.triangles,
         note.vertices,
         note.worst,
         note.splits,
         note.merges,
         blocked,
-    );
-    (told, (note.inside, note.cut, note.outside))
+    )
 }
 
 /// Whether the step goes as it says.
@@ -138,15 +117,8 @@ fn goes(engine: &mut Engine, step: Step) -> bool {
             engine.threshold(ratio);
             engine.threshold_in_force() == ratio
         }
-        Step::Frame(wanted) => frame(engine).is_some_and(|(told, _marks)| told == wanted),
-        Step::Still(inside, cut, outside) => frame(engine).is_some_and(|(told, marks)| {
-            (told.3, told.4) == (0, 0) && marks == (inside, cut, outside)
-        }),
+        Step::Frame(wanted) => frame(engine).is_some_and(|told| told == wanted),
         Step::Cheap => frame(engine).is_some() && engine.evaluations() == before,
-        Step::View(planes, leaves) => {
-            let view = engine.view();
-            view.planes.len() == planes && view.leaves.len() == leaves
-        }
     }
 }
 
@@ -166,17 +138,6 @@ fn copy_of(alloc: Global, grid: &Grid) -> Option<Grid> {
     Some(Grid::from_heights(grid.n(), grid.maxval(), heights))
 }
 
-/// The place of the camera after these steps.
-fn place_after(steps: &[Step]) -> (i64, i64, i64) {
-    let mut place = (0, 0, 0);
-    for step in steps {
-        if let Step::Change(Line::Camera { x, y, z }) = step {
-            place = (*x, *y, *z);
-        }
-    }
-    place
-}
-
 /// How many of the steps go as they say, before the first that does not.
 fn count(engine: &mut Engine, steps: &[Step]) -> usize {
     let mut right = 0usize;
@@ -189,156 +150,21 @@ fn count(engine: &mut Engine, steps: &[Step]) -> usize {
     right
 }
 
-/// How many of the steps over a flat grid at spacing 1 go as they say, and whether the mesh is that from scratch then.
-fn steps_that_go(
-    alloc: Global,
-    n: u32,
-    budget: u32,
-    steps: &[Step],
-) -> Option<(usize, Option<bool>)> {
-    if budget < 2 || budget > 1 << 20 {
-        return None;
-    }
-    let grid = grid_with(alloc, n, &[])?;
-    let mut engine = Engine::make(alloc, grid, budget, 1).ok()?;
+/// How many of the steps over a flat grid of side 2 at spacing 1 go as they say, and whether the mesh is that from
+/// scratch then.
+fn steps_that_go(alloc: Global, steps: &[Step]) -> Option<(usize, Option<bool>)> {
+    let grid = grid_with(alloc, 1, &[])?;
+    let mut engine = Engine::make(alloc, grid, 8, 1).ok()?;
     let right = count(&mut engine, steps);
-    Some((right, is_from_scratch(alloc, &engine, place_after(steps))))
-}
-
-/// A height is put.
-fn set(x: u32, y: u32, h: u16) -> Step {
-    Step::Change(Line::Set { x, y, h })
-}
-
-/// A plane whose inside is where x + d is at least 0.
-fn right_of(d: i64) -> Step {
-    Step::Change(Line::Plane {
-        a: 1,
-        b: 0,
-        c: 0,
-        d,
-    })
-}
-
-#[test]
-fn a_mesh_follows_the_camera_and_stands_still_with_it(rt: HostRuntime) {
-    let steps = [
-        set(1, 0, 10),
-        set(3, 4, 10),
-        Step::Frame((9, 9, 436906, 7, 0, Some((6, 10)))),
-        Step::Change(Line::Camera { x: 4, y: 4, z: 0 }),
-        Step::Frame((9, 9, 436906, 5, 5, Some((4, 10)))),
-        Step::Cheap,
-        Step::Frame((9, 9, 436906, 0, 0, Some((4, 10)))),
-    ];
-    assert_eq!(rt;
-        steps_that_go(rt.alloc(), 2, 9, &steps),
-        Some((steps.len(), Some(true)))
-    );
-}
-
-#[test]
-fn a_mesh_follows_a_height(rt: HostRuntime) {
-    let steps = [
-        set(1, 0, 10),
-        Step::Frame((9, 9, 0, 7, 0, None)),
-        set(1, 0, 0),
-        Step::Frame((2, 4, 0, 0, 7, None)),
-    ];
-    assert_eq!(rt;
-        steps_that_go(rt.alloc(), 2, 9, &steps),
-        Some((steps.len(), Some(true)))
-    );
-}
-
-#[test]
-fn a_budget_stays_in_force(rt: HostRuntime) {
-    let steps = [
-        set(1, 0, 10),
-        Step::Frame((9, 9, 0, 7, 0, None)),
-        Step::Change(Line::Budget { n: 7 }),
-        Step::Frame((5, 6, 1310720, 0, 4, Some((8, 8)))),
-        Step::Frame((5, 6, 1310720, 0, 0, Some((8, 8)))),
-        Step::Change(Line::Budget { n: 9 }),
-        Step::Frame((9, 9, 0, 4, 0, None)),
-    ];
-    assert_eq!(rt;
-        steps_that_go(rt.alloc(), 2, 9, &steps),
-        Some((steps.len(), Some(true)))
-    );
-}
-
-/// A view has the mesh of the frame before, and the planes that are in force now.
-#[test]
-fn a_view_has_the_planes_of_now(rt: HostRuntime) {
-    let steps = [
-        set(1, 1, 10),
-        Step::Frame((4, 5, 0, 2, 0, None)),
-        Step::Still(4, 0, 0),
-        right_of(-2),
-        Step::View(1, 4),
-        Step::Frame((4, 5, 0, 0, 0, None)),
-        Step::Still(0, 3, 1),
-    ];
-    assert_eq!(rt;
-        steps_that_go(rt.alloc(), 1, 4, &steps),
-        Some((steps.len(), Some(true)))
-    );
-}
-
-#[test]
-fn a_mesh_goes_where_a_plane_leaves_all_out_and_comes_back(rt: HostRuntime) {
-    let steps = [
-        set(1, 1, 10),
-        right_of(-2),
-        Step::Frame((4, 5, 0, 2, 0, None)),
-        Step::Change(Line::NoPlanes),
-        right_of(-3),
-        Step::Frame((2, 4, 0, 0, 2, None)),
-        Step::Still(0, 0, 2),
-        Step::Change(Line::NoPlanes),
-        Step::Frame((4, 5, 0, 2, 0, None)),
-        Step::Still(4, 0, 0),
-    ];
-    assert_eq!(rt;
-        steps_that_go(rt.alloc(), 1, 4, &steps),
-        Some((steps.len(), Some(true)))
-    );
-}
-
-/// All from column 2 on is raised or lowered.
-fn raise_the_right(dz: i32) -> Step {
-    Step::Change(Line::Raise {
-        x0: 2,
-        y0: 0,
-        x1: 4,
-        y1: 4,
-        dz,
-    })
-}
-
-/// The triangles to the left have the raised column 2 as their border, and no more of the area.
-#[test]
-fn a_raise_reaches_what_only_its_border_meets(rt: HostRuntime) {
-    let steps = [
-        Step::Frame((2, 4, 0, 0, 0, None)),
-        raise_the_right(5),
-        Step::Frame((12, 11, 163840, 10, 0, Some((23, 14)))),
-        raise_the_right(-5),
-        Step::Frame((2, 4, 0, 0, 10, None)),
-    ];
-    assert_eq!(rt;
-        steps_that_go(rt.alloc(), 2, 12, &steps),
-        Some((steps.len(), Some(true)))
-    );
+    Some((right, is_from_scratch(alloc, &engine, (0, 0, 0))))
 }
 
 // The ratios are 3932160 of 3, 1966080 of 7, and 1310720 of 2 and 4; the split of 3 forces that of 2.
 #[test]
 fn what_is_at_most_the_threshold_is_split_only_where_a_neighbour_forces_it(rt: HostRuntime) {
     let steps = [
-        set(1, 0, 10),
-        set(2, 1, 30),
+        Step::Change(Line::Set { x: 1, y: 0, h: 10 }),
+        Step::Change(Line::Set { x: 2, y: 1, h: 30 }),
         Step::Frame((6, 7, 0, 4, 0, None)),
         Step::Threshold(1310720),
         Step::Frame((5, 6, 0, 0, 1, None)),
@@ -360,7 +186,7 @@ fn what_is_at_most_the_threshold_is_split_only_where_a_neighbour_forces_it(rt: H
         Step::Frame((6, 7, 0, 4, 0, None)),
     ];
     assert_eq!(rt;
-        steps_that_go(rt.alloc(), 1, 8, &steps),
+        steps_that_go(rt.alloc(), &steps),
         Some((steps.len(), Some(true)))
     );
 }

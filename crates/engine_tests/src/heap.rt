@@ -1,4 +1,4 @@
-//! Keys of slots: an order of calls worked by hand, and random calls beside a list.
+//! Keys of slots: random calls beside a list.
 
 ghost use Rattle.std.specs.Prelude.{◌≡◌, ◌<◌, length};
 
@@ -6,31 +6,6 @@ use bintree_addr::{Rank, Slot, Tri};
 use slot_heap::{NoMemory, SlotHeap};
 use std::alloc::Global;
 use std::cmp::Reverse;
-
-/// Puts 5 and 3, takes the least, and gives the other one the key 9: whether each answer is right.
-fn heap_of_two_slots(alloc: Global) -> Option<[bool; 5]> {
-    let mut heap: SlotHeap<u64> = SlotHeap::new(alloc, 2).ok()?;
-    heap.put(Slot(0), 5);
-    heap.put(Slot(1), 3);
-    let first = heap.head();
-    let taken = heap.take(Slot(1));
-    let second = heap.head();
-    let none = heap.key(Slot(1));
-    heap.rekey(Slot(0), 9);
-    let other = heap.key(Slot(0));
-    Some([
-        first == Some((Slot(1), 3)),
-        taken == 3,
-        second == Some((Slot(0), 5)),
-        none.is_none(),
-        other == Some(9),
-    ])
-}
-
-#[test]
-fn heap_of_two_slots_gives_the_least_key(rt: HostRuntime) {
-    assert_eq!(rt; heap_of_two_slots(rt.alloc()), Some([true; 5]));
-}
 
 /// How many slots the heaps of the random calls have.
 const SLOTS: u32 = 40;

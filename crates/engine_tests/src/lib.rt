@@ -1,10 +1,9 @@
-//! Tests of the engine and of what it stands on: the pool of triangles, the queues, its loop and its mesh, and the plain
-//! mesh; worked by hand.
+//! Tests of the engine and of what it stands on: the pool of triangles, keys and deadlines of its queues, the drawing
+//! buffer and the plain mesh.
 //!
-//! For whoever changes `slot_heap`, `split_queue`, `merge_queue`, `lazy_priority`, `triangle_pool`, `force_split`,
-//! `address_flags`, `draw_buffer`, `deferred_loop`, `roam_mesh`, `plain_mesh`, `frame_loop` or `engine_uses`: these
-//! crates have no tests of their own, since a crate with tests is proved twice. A test is a table of changes and
-//! frames; few functions own an engine. There is no code here that another crate calls.
+//! For whoever changes `slot_heap`, `lazy_priority`, `triangle_pool`, `draw_buffer`, `deferred_loop`, `plain_mesh`,
+//! `frame_loop` or `engine_uses`, or a crate between them: these have no tests of their own, since a crate with tests
+//! is proved twice. Few functions own an engine. There is no code here that another crate calls.
 
 #![tactic(auto)]
 
@@ -15,13 +14,7 @@ mod deadlines;
 #[cfg(test)]
 mod engine;
 #[cfg(test)]
-mod flags;
-#[cfg(test)]
 mod flights;
-#[cfg(test)]
-mod forced;
-#[cfg(test)]
-mod from_scratch;
 #[cfg(test)]
 mod grids;
 #[cfg(test)]
@@ -29,10 +22,6 @@ mod heap;
 #[cfg(test)]
 mod limits;
 #[cfg(test)]
-mod mesh_frames;
-#[cfg(test)]
 mod pool;
-#[cfg(test)]
-mod queues;
 #[cfg(test)]
 mod random_flights;

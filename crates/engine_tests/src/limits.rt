@@ -2,27 +2,15 @@
 
 use bintree_addr::{Rank, Tri};
 use deferred_loop::Limit;
+use std::test::Fail;
 
-/// Whether a diamond of this priority and address may be merged: after 5 of priority 7, where none is wanted, and
-/// over the budget.
-fn met(p: u64, number: u32) -> Option<[bool; 3]> {
+// Whether a diamond of this priority and address may be merged: after 5 of priority 7, and where none is wanted.
+#[test]
+fn a_limit_is_met_after_the_leaf_or_at_priority_0(rt: HostRuntime) -> Result<(), Fail> {
     let leaf = Limit::After(Rank {
         p: 7,
-        tri: Tri::new(5)?,
+        tri: Tri::new(5).ok_or("an address")?,
     });
-    let diamond = Rank {
-        p,
-        tri: Tri::new(number)?,
-    };
-    Some([
-        leaf.is_met(&diamond),
-        Limit::Zero.is_met(&diamond),
-        Limit::Over.is_met(&diamond),
-    ])
-}
-
-#[test]
-fn a_limit_is_met_after_the_leaf_or_at_priority_0(rt: HostRuntime) {
     let cases = [
         (8, 9, false, false),
         (7, 4, false, false),
@@ -32,10 +20,13 @@ fn a_limit_is_met_after_the_leaf_or_at_priority_0(rt: HostRuntime) {
         (0, 4, true, true),
     ];
     for (p, number, after, zero) in cases {
-        assert_eq!(rt;
-            met(p, number),
-            Some([after, zero, true]),
-            "{number} of {p}"
-        );
+        let diamond = Rank {
+            p,
+            tri: Tri::new(number).ok_or("an address")?,
+        };
+        assert_eq!(rt; leaf.is_met(&diamond), after, "{number} of {p}");
+        assert_eq!(rt; Limit::Zero.is_met(&diamond), zero, "{number} of {p}");
+        assert!(rt; Limit::Over.is_met(&diamond));
     }
+    Ok(())
 }

@@ -136,7 +136,7 @@ fn is_scratch_told(alloc: Global, engine: &mut Engine, place: Place) -> Option<b
 fn is_right(alloc: Global, engine: &mut Engine, place: Place) -> Option<bool> {
     let scratch = is_scratch_told(alloc, engine, place)?;
     let before = engine.evaluations();
-    let (told, _marks) = frame(engine)?;
+    let told = frame(engine)?;
     let changes = engine.changes();
     let still = changes.gone.is_empty() && changes.come.is_empty();
     Some(scratch && still && (told.3, told.4) == (0, 0) && engine.evaluations() == before)
