@@ -100,18 +100,6 @@ def test_long_script(place: Place, script: bytes, status: int, meshes: int, refu
     place.expect(status, lines(meshes) + refusal, meshes=meshes)
 
 
-@table(
-    "line, status, meshes, refusal",
-    ("ten_million_lines", b"", 0, 1, b""),
-    ("a_line_behind_ten_million", b"noplanes\n", 4, 1, b"line 10000001 refused: too many lines\n"),
-    ("a_line_behind_ten_million_that_is_too_long", 201 * b"#", 4, 1, b"line 10000001 refused: too many lines\n"),
-)
-def test_most_lines(place: Place, line: bytes, status: int, meshes: int, refusal: bytes) -> None:
-    place.write("s", b"frame\n" + 9_999_999 * b"\n" + line)
-    place.run("mesh", "g", "s", "out", 2, 1)
-    place.expect(status, lines(meshes) + refusal, meshes=meshes)
-
-
 # --- Lines alone, over a grid of side 5 with heights to 255 and a budget of 8: which are accepted, and why others are not. ---
 
 INSIDE = (
