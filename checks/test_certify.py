@@ -86,6 +86,7 @@ def test_a_mesh_differs_at_its_first_wrong_byte_or_where_it_ends(hill: Place) ->
     ("a_certificate_with_a_line_of_201_bytes", HALVES,
      b"camera 0 0 0\nleaf 2\nleaf 3" + 194 * b" " + b"\r\nwant 2\n", 7, b"rejected: bad line 3\n", None),
     ("a_mesh_that_ends_early", HALVES[:20], SOUND, 7, b"rejected: mesh differs at 20\n", None),
+    ("a_mesh_of_one_line", HALVES[:8], SOUND, 7, b"rejected: mesh differs at 8\n", None),
     ("a_mesh_that_goes_on", HALVES + b"\n", SOUND, 7, b"rejected: mesh differs at %d\n" % len(HALVES), None),
     ("a_certificate_that_is_not_there", HALVES, None, 5, b"",
      "roam: cannot open the certificate 'c': No such file or directory"),
@@ -136,6 +137,13 @@ def test_a_certificate_that_is_made_and_checked(hill: Place) -> None:
     hill.write("c", hill.run("certify", "make", "g", -1, 2, -3, 2, 1).report)
     hill.run("certify", "check", "g", "o", "c", 2, 1)
     hill.expect(0, b"certified camera -1 2 -3 triangles 2 worst 327680\n")
+
+
+def test_a_certificate_of_the_quarters(hill: Place) -> None:
+    hill.run("mesh", "g", "s", "out", 4, 1)
+    hill.write("c", hill.run("certify", "make", "g", 0, 0, 0, 4, 1).report)
+    hill.run("certify", "check", "g", "out000001.obj", "c", 4, 1)
+    hill.expect(0, b"certified camera 0 0 0 triangles 4 worst 0\n")
 
 
 def test_a_certificate_of_nine_triangles(place: Place) -> None:
@@ -287,3 +295,20 @@ def test_made_and_checked(hill: Place, goal: str) -> None:
     hill.write("c", hill.run("certify", "make-fit", "g", *words, 1).report)
     hill.run("certify", "check-fit", "g", "out000001.obj", "c", *words, 1)
     hill.expect(0, re.sub(b"^fit (triangles [0-9]*) vertices [0-9]*", rb"certified fit \1", line))
+
+
+# The halves of five points a side, of which (0, 0) is 1 high, are off by 3 over 4.
+@table(
+    "goal, line",
+    ("a_fit_certified_below_three_quarters", "error 0.749", b"certified fit triangles 6 deviation 2 over 4 error 0.5\n"),
+    ("a_fit_certified_at_three_quarters", "error 0.75", b"certified fit triangles 2 deviation 3 over 4 error 0.75\n"),
+    ("a_fit_certified_for_a_budget_of_5", "budget 5", b"certified fit triangles 2 deviation 3 over 4 error 0.75\n"),
+    ("a_fit_certified_for_a_budget_of_6", "budget 6", b"certified fit triangles 6 deviation 2 over 4 error 0.5\n"),
+)
+def test_certified_corner(place: Place, goal: str, line: bytes) -> None:
+    words = goal.split()
+    place.write("g", spots(5, (0, 0, 1)))
+    place.run("fit", "g", "out", *words, 1)
+    place.write("c", place.run("certify", "make-fit", "g", *words, 1).report)
+    place.run("certify", "check-fit", "g", "out000001.obj", "c", *words, 1)
+    place.expect(0, line)

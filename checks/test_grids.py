@@ -4,7 +4,7 @@ from __future__ import annotations
 from collections.abc import Callable
 from typing import Any
 
-from place import Place, flat, flat_mesh, lines, table
+from place import Place, flat, flat_mesh, lines, spots, table
 from terrain import Terrain
 
 
@@ -120,6 +120,41 @@ def test_wrong_byte(place: Place, at: int) -> None:
     place.write("g", header[:at] + b"x" + header[at + 1:] + bytes(18))
     place.run("mesh", "g", "s", "out", 2, 1)
     place.expect(3, b"grid refused: bad magic\n" if at < 2 else b"grid refused: bad header at %d\n" % at)
+
+
+# Of each place in a file: its first bytes up to there, and an x; an x put in; and its first bytes alone.
+
+def expect_refused(place: Place, grid: bytes, refusal: str) -> None:
+    place.write("g", grid)
+    place.run("info", "g")
+    place.expect(3, f"grid refused: {refusal}\n".encode())
+
+
+def header_refusal(at: int) -> str:
+    return "bad magic" if at < 2 else f"bad header at {at}"
+
+
+def test_a_byte_in_the_place_of_the_rest(place: Place) -> None:
+    grid = flat(3)
+    for at in [*range(30), 31]:
+        expect_refused(place, grid[:at] + b"x",
+                       header_refusal(at) if at < 13 else "trailing byte at 31" if at == 31 else "truncated")
+    # The last sample, of the corner (2, 0), is 120: the base triangles have thickness 120 + 120.
+    place.write("g", grid[:30] + b"x")
+    place.run("mesh", "g", "s", "out", 2, 1)
+    assert (place.status, place.report) == (0, lines(1, 15728640, "2 needs 4"))
+
+
+def test_a_byte_in_the_way(place: Place) -> None:
+    grid = spots(5, (1, 0, 10), (3, 4, 10))
+    for at in range(len(grid) + 1):
+        expect_refused(place, grid[:at] + b"x" + grid[at:], header_refusal(at) if at < 13 else "trailing byte at 63")
+
+
+def test_a_grid_that_is_cut_at_any_place(place: Place) -> None:
+    grid = spots(5, (1, 0, 10), (3, 4, 10))
+    for size in range(len(grid)):
+        expect_refused(place, grid[:size], "truncated")
 
 
 # Of each the file, and the refusal.

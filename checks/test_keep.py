@@ -1,5 +1,5 @@
 """`fit` of the built program where it keeps points: over nine points, worked by hand. A middle and a side of the square are
-the centres of one triangle or two; with each comes what it stands on."""
+the centres of one triangle or two; with each comes what it stands on. And certificates of such meshes."""
 from __future__ import annotations
 
 from place import Place, flat, flat_mesh, spots, table
@@ -24,6 +24,9 @@ def told(triangles: int, vertices: int) -> bytes:
     ("a_point_that_stands_twice", b"1 0\n1 0\n", 5, 6),
     ("all_nine_points", b"".join(EVERY), 8, 9),
     ("nine_lines_of_which_the_last_is_blank", b"".join(EVERY[:8]) + b"\n", 8, 9),
+    ("corners_behind_a_comment_with_cr", b"# the corners ask for nothing\r\n0 0\n2 2\n0 2\n2 0\n", 2, 4),
+    ("the_middle_twice_with_blanks", b"1 1\n 1\t1", 4, 5),
+    ("a_side_and_the_middle", b"\n1 0\r\n1 1\n", 5, 6),
     ("blank_lines_and_comments", b"\n# the middle\n \t\n  #1 0\n1 1\n", 4, 5),
     ("cr_tab_zeros_and_no_last_lf", b"\t01  0001 \r\n-0 0\r\n1\t1", 4, 5),
     ("a_comment_of_200_bytes", b"#" + 199 * b"x" + b"\n1 1\n", 4, 5),
@@ -49,6 +52,7 @@ def test_points(place: Place, points: bytes, triangles: int, vertices: int) -> N
     ("a_column_with_a_sign", b"+1 1\n", b"line 1 refused: bad number in field 1\n"),
     ("a_point_left_of_the_grid", b"-1 0\n", b"line 1 refused: out of range in field 1\n"),
     ("a_point_right_of_the_grid", b"3 x\n", b"line 1 refused: out of range in field 1\n"),
+    ("a_point_right_of_the_grid_behind_another", b"1 1\n3 0\n", b"line 2 refused: out of range in field 1\n"),
     ("a_point_above_the_grid", b"# top\n2 2\n2 3\n", b"line 3 refused: out of range in field 2\n"),
     ("points_with_a_line_of_201_bytes", b"1 1\n#" + 200 * b"x", b"line 2 refused: line too long\n"),
     ("more_lines_than_grid_points", b"".join(EVERY) + b"1 1\n", b"line 10 refused: too many lines\n"),
@@ -92,3 +96,47 @@ def test_the_mesh_of_no_points_is_that_of_fit(place: Place) -> None:
     place.write("p", "# none\n")
     place.run(*KEEP)
     place.expect(0, told(2, 4), meshes=1, mesh=flat_mesh(2))
+
+
+# --- Certificates. ---
+
+# Of each the points, and which of them the certificate needs: a corner is none, and the middle of a side brings the middle.
+@table(
+    "points, needs",
+    ("needs_of_no_points", b"", b""),
+    ("needs_of_corners", b"0 0\n2 2\n", b""),
+    ("needs_of_the_middle_twice", b"1 1\n1 1\n", b"need 1 1\n"),
+    ("needs_of_a_side_and_then_the_middle", b"1 0\n1 1\n", b"need 1 0\n"),
+    ("needs_of_the_middle_and_then_a_side", b"1 1\n1 0\n", b"need 1 1\nneed 1 0\n"),
+)
+def test_needs(place: Place, points: bytes, needs: bytes) -> None:
+    place.write("p", points)
+    place.run("certify", "make-fit", "g", "error", "0", 1, "keep", "p")
+    place.expect(0, needs + b"tolerance 0\nmesh\n")
+
+
+MIDDLE = b"need 1 1\ntolerance 0\nmesh\n"
+QUARTERS = b"certified fit triangles 4 deviation 0 over 2 error 0\n"
+
+
+# Of each the points that the mesh was made for, the certificate, the points that it is checked for, status and report. The
+# points are looked at first, then the certificate, and the mesh last.
+@table(
+    "made, certificate, points, status, report",
+    ("the_middle_certified", b"1 1", MIDDLE, b"1 1\n", 0, QUARTERS),
+    ("the_middle_certified_with_a_corner", b"1 1", MIDDLE, b"0 0\n\n1 1", 0, QUARTERS),
+    ("points_refused_before_the_certificate", b"1 1", b"", b"3 0", 4, b"line 1 refused: out of range in field 1\n"),
+    ("a_need_behind_the_tolerance", b"1 1", b"tolerance 0\nneed 1 1\nmesh\n", b"1 1", 7, b"rejected: bad line 2\n"),
+    ("a_tolerance_of_1", b"1 1", b"need 1 1\ntolerance 1\nmesh\n", b"1 1", 7, b"rejected: other tolerance\n"),
+    ("a_need_that_is_not_kept", b"1 1", MIDDLE, b"1 0", 7, b"rejected: bad reason 1\n"),
+    ("a_reason_behind_the_mesh_with_points", b"1 1", MIDDLE + b"off 4 0 0\n", b"1 1", 7, b"rejected: bad reason 2\n"),
+    ("a_kept_point_that_is_not_needed", b"", b"tolerance 0\nmesh\n", b"1 1", 7, b"rejected: too few reasons\n"),
+    ("a_mesh_of_no_points", b"", MIDDLE, b"1 1", 7, b"rejected: mesh differs at 18\n"),
+)
+def test_checked_points(place: Place, made: bytes, certificate: bytes, points: bytes, status: int, report: bytes) -> None:
+    place.write("p", made)
+    place.run(*KEEP)
+    place.write("c", certificate)
+    place.write("p", points)
+    place.run("certify", "check-fit", "g", "out000001.obj", "c", "error", "0", 1, "keep", "p")
+    place.expect(status, report)

@@ -51,14 +51,19 @@ def test_example(examples: Path, program: Path, name: str) -> None:
     ("a_refused_last_line_without_lf", b"frame\nfram", 4, 1, b"line 2 refused: unknown command\n"),
     ("an_empty_line_does_nothing", b"\n", 0, 0, b""),
     ("an_empty_line_is_a_line", b"frame\n\nfly\n", 4, 1, b"line 3 refused: unknown command\n"),
+    ("a_comment_is_a_line", b"frame\n# a word\n\nbudget 3\nframe\n", 4, 1, b"line 4 refused: out of range in field 1\n"),
     ("a_comment_does_nothing", b"# a frame\nframe\n", 0, 1, b""),
     ("a_blank_after_the_word_is_dropped", b"frame \n", 0, 1, b""),
     ("a_cr_after_the_word_is_dropped", b"frame\r\n", 0, 1, b""),
     ("a_blank_before_the_word_is_dropped", b" frame\n", 0, 1, b""),
+    ("a_cr_before_the_word_is_refused", b"\rframe\n", 4, 0, b"line 1 refused: unknown command\n"),
     ("a_second_field_is_refused", b"frame 1\n", 4, 0, b"line 1 refused: wrong fields\n"),
     ("a_word_in_the_place_of_a_number_is_refused", b"frame\ncamera 1 two 3\n", 4, 1,
      b"line 2 refused: bad number in field 2\n"),
+    ("a_column_beyond_the_grid_is_refused", b"set 3 0 0\n", 4, 0, b"line 1 refused: out of range in field 1\n"),
     ("a_row_beyond_the_grid_is_refused", b"set 0 3 0\n", 4, 0, b"line 1 refused: out of range in field 2\n"),
+    ("a_rectangle_with_its_sides_the_other_way_round", b"raise 2 0 1 2 5\n", 4, 0, b"line 1 refused: out of range in field 3\n"),
+    ("a_plane_beyond_the_greatest", b"plane 1048577 0 0 0\n", 4, 0, b"line 1 refused: out of range in field 1\n"),
     ("a_budget_beyond_that_of_the_words_is_refused", b"budget 3\n", 4, 0, b"line 1 refused: out of range in field 1\n"),
     ("a_seventh_plane_is_refused", 7 * b"plane 0 0 1 9\n", 4, 0,
      b"line 7 refused: too many planes\n"),
@@ -93,6 +98,8 @@ def test_a_script_without_a_frame_is_measured(place: Place) -> None:
     ("a_comment_of_200_bytes", b"frame\n" + 200 * b"#", 0, 1, b""),
     ("a_comment_of_201_bytes", b"frame\n" + 201 * b"#" + b"\n", 4, 1, b"line 2 refused: line too long\n"),
     ("a_script_of_a_thousand_frames", 1000 * b"frame\n", 0, 1000, b""),
+    ("ten_million_lines", 9_999_999 * b"\n" + b"frame\n", 0, 1, b""),
+    ("ten_million_lines_and_one_more", 10_000_000 * b"\n" + b"frame\n", 4, 0, b"line 10000001 refused: too many lines\n"),
 )
 def test_long_script(place: Place, script: bytes, status: int, meshes: int, refusal: bytes) -> None:
     place.write("s", script)
@@ -158,6 +165,7 @@ def test_line(place: Place, line: bytes, refusal: str) -> None:
 
 HALVES = b"v 0 0 0\nv 2 0 0\nv 0 2 0\nv 2 2 0\nf 1 2 3\nf 4 3 2\n"
 WIDE_HALVES = b"v 0 0 0\nv 60 0 0\nv 0 60 0\nv 60 60 0\nf 1 2 3\nf 4 3 2\n"
+WIDE_QUARTERS = b"v 0 0 0\nv 60 0 0\nv 30 30 10\nv 0 60 0\nv 60 60 0\nf 3 1 2\nf 3 4 1\nf 3 5 4\nf 3 2 5\n"
 HIGH_HALVES = b"v 0 0 65535\nv 2 0 65535\nv 0 2 65535\nv 2 2 65535\nf 1 2 3\nf 4 3 2\n"
 QUARTERS = b"v 0 0 0\nv 2 0 0\nv 1 1 10\nv 0 2 0\nv 2 2 0\nf 3 1 2\nf 3 4 1\nf 3 5 4\nf 3 2 5\n"
 MARKED_QUARTERS = (b"v 0 0 0\nv 2 0 0\nv 1 1 10\nv 0 2 0\nv 2 2 0\n"
@@ -183,6 +191,8 @@ def expect_last(place: Place, status: int, report: bytes, mesh: Optional[bytes])
      b"frame 1 triangles 2 vertices 4 worst 0 splits 0 merges 0 blocked none\n", HALVES),
     ("worked_middle_at_4", "mesh g s out 4 1", spots(3, (1, 1, 10)), b"frame\n", 0,
      b"frame 1 triangles 4 vertices 5 worst 0 splits 2 merges 0 blocked none\n", QUARTERS),
+    ("worked_middle_at_the_greatest_budget", "mesh g s out 1048576 1", spots(3, (1, 1, 10)), b"frame\n", 0,
+     b"frame 1 triangles 4 vertices 5 worst 0 splits 2 merges 0 blocked none\n", QUARTERS),
     ("worked_middle_at_3", "mesh g s out 3 1", spots(3, (1, 1, 10)), b"frame\n", 0,
      b"frame 1 triangles 2 vertices 4 worst 1310720 splits 0 merges 0 blocked 2 needs 4\n", HALVES),
     ("worked_middle_at_2", "mesh g s out 2 1", spots(3, (1, 1, 10)), b"frame\n", 0,
@@ -207,6 +217,15 @@ def expect_last(place: Place, status: int, report: bytes, mesh: Optional[bytes])
     ("worked_height_that_goes", "mesh g s out 9 1", spots(5, (1, 0, 10)), b"frame\nset 1 0 0\nframe\n", 0,
      b"frame 1 triangles 9 vertices 9 worst 0 splits 7 merges 0 blocked none\n"
      b"frame 2 triangles 2 vertices 4 worst 0 splits 0 merges 7 blocked none\n", None),
+    ("worked_height_that_comes_and_goes", "mesh g s out 8 1", spots(3),
+     b"frame\n\tset 1 1 10\r\n# a hill\nframe \n\nset 1 1 0\nframe", 0,
+     b"frame 1 triangles 2 vertices 4 worst 0 splits 0 merges 0 blocked none\n"
+     b"frame 2 triangles 4 vertices 5 worst 0 splits 2 merges 0 blocked none\n"
+     b"frame 3 triangles 2 vertices 4 worst 0 splits 0 merges 2 blocked none\n", HALVES),
+    ("worked_camera_that_comes_a_step_nearer", "mesh g s out 8 1", spots(3, (0, 0, 1)),
+     b"camera -65536 0 0\nframe\ncamera -65535 0 0\nframe\n", 0,
+     b"frame 1 triangles 2 vertices 4 worst 0 splits 0 merges 0 blocked none\n"
+     b"frame 2 triangles 6 vertices 7 worst 0 splits 4 merges 0 blocked none\n", None),
     ("worked_camera_a_step_too_far", "mesh g s out 8 1", spots(3, (0, 0, 1)), b"camera -65536 0 0\nframe\n", 0,
      b"frame 1 triangles 2 vertices 4 worst 0 splits 0 merges 0 blocked none\n", None),
     ("worked_camera_a_step_nearer", "mesh g s out 8 1", spots(3, (0, 0, 1)), b"camera -65535 0 0\nframe\n", 0,
@@ -217,6 +236,10 @@ def expect_last(place: Place, status: int, report: bytes, mesh: Optional[bytes])
      b"frame 1 triangles 2 vertices 4 worst 218453 splits 0 merges 0 blocked 2 needs 4\n", HALVES),
     ("worked_distance_of_13", "mesh g s out 2 1", spots(3, (1, 1, 10)), b"camera -3 -4 -12\nframe\n", 0,
      b"frame 1 triangles 2 vertices 4 worst 93622 splits 0 merges 0 blocked 2 needs 4\n", HALVES),
+    ("worked_distances_of_5_and_13", "mesh g s out 2 1", spots(3, (1, 1, 10)),
+     b"camera -3 -4 0\nframe\ncamera -3 -4 -12\nframe\n", 0,
+     b"frame 1 triangles 2 vertices 4 worst 218453 splits 0 merges 0 blocked 2 needs 4\n"
+     b"frame 2 triangles 2 vertices 4 worst 93622 splits 0 merges 0 blocked 2 needs 4\n", HALVES),
     ("worked_plane_that_cuts", "mesh g s out 4 1", spots(3, (1, 1, 10)), b"plane 1 0 0 -2\nframe\n", 0,
      b"frame 1 triangles 4 vertices 5 worst 0 splits 2 merges 0 blocked none inside 0 cut 3 outside 1\n", MARKED_QUARTERS),
     ("worked_plane_with_all_outside", "mesh g s out 4 1", spots(3, (1, 1, 10)), b"plane 1 0 0 -3\nframe\n", 0,
@@ -228,6 +251,11 @@ def expect_last(place: Place, status: int, report: bytes, mesh: Optional[bytes])
      b"frame 1 triangles 4 vertices 5 worst 0 splits 2 merges 0 blocked none inside 0 cut 3 outside 1\n"
      b"frame 2 triangles 2 vertices 4 worst 0 splits 0 merges 2 blocked none inside 0 cut 0 outside 2\n"
      b"frame 3 triangles 4 vertices 5 worst 0 splits 2 merges 0 blocked none\n", QUARTERS),
+    ("worked_planes_of_two_sides", "mesh g s out 4 1", spots(3, (1, 1, 10)), b"plane 1 0 0 -2\nplane -1 0 0 0\nframe\n", 0,
+     b"frame 1 triangles 4 vertices 5 worst 0 splits 2 merges 0 blocked none inside 0 cut 2 outside 2\n", None),
+    ("worked_plane_that_comes_to_a_quarter", "mesh g s out 8 1", spots(3, (1, 0, 10)), b"frame\nplane 0 1 0 -2\nframe\n", 0,
+     b"frame 1 triangles 5 vertices 6 worst 0 splits 3 merges 0 blocked none\n"
+     b"frame 2 triangles 4 vertices 5 worst 0 splits 0 merges 1 blocked none inside 0 cut 3 outside 1\n", None),
     ("worked_planes_that_are_dropped", "mesh g s out 8 1", spots(3), b"plane 1 0 0 -2\nnoplanes\nframe\n", 0,
      b"frame 1 triangles 2 vertices 4 worst 0 splits 0 merges 0 blocked none\n", HALVES),
     ("worked_budget_that_falls_and_comes_back", "mesh g s out 9 1", spots(5, (1, 0, 10)),
@@ -235,6 +263,9 @@ def expect_last(place: Place, status: int, report: bytes, mesh: Optional[bytes])
      b"frame 1 triangles 9 vertices 9 worst 0 splits 7 merges 0 blocked none\n"
      b"frame 2 triangles 5 vertices 6 worst 1310720 splits 0 merges 4 blocked 8 needs 8\n"
      b"frame 3 triangles 9 vertices 9 worst 0 splits 4 merges 0 blocked none\n", NINE),
+    ("worked_budget_that_comes_back", "mesh g s out 9 1", spots(5, (1, 0, 10)), b"budget 7\nframe\nbudget 9\nframe\n", 0,
+     b"frame 1 triangles 5 vertices 6 worst 1310720 splits 3 merges 0 blocked 8 needs 8\n"
+     b"frame 2 triangles 9 vertices 9 worst 0 splits 4 merges 0 blocked none\n", NINE),
     ("worked_budget_above_that_of_the_words", "mesh g s out 9 1", spots(5, (1, 0, 10)), b"frame\nbudget 10\nframe\n", 4,
      b"frame 1 triangles 9 vertices 9 worst 0 splits 7 merges 0 blocked none\n"
      b"line 2 refused: out of range in field 1\n", NINE),
@@ -246,6 +277,10 @@ def expect_last(place: Place, status: int, report: bytes, mesh: Optional[bytes])
      b"frame 1 triangles 2 vertices 4 worst 0 splits 0 merges 0 blocked none\n"
      b"frame 2 triangles 12 vertices 11 worst 163840 splits 10 merges 0 blocked 23 needs 14\n"
      b"frame 3 triangles 2 vertices 4 worst 0 splits 0 merges 10 blocked none\n", None),
+    ("worked_raised_middle_with_a_spacing_of_30", "mesh g s out 4 30", spots(3), b"raise 1 1 1 1 10\nframe\n", 0,
+     b"frame 1 triangles 4 vertices 5 worst 0 splits 2 merges 0 blocked none\n", WIDE_QUARTERS),
+    ("worked_raised_behind_a_frame", "mesh g s out 4 1", spots(3), b"frame\nraise 0 0 2 2 65535\nraise 1 1 1 1 1\nframe\n", 0,
+     lines(2), HIGH_HALVES),
     ("worked_raised_to_the_maxval", "mesh g s out 4 1", spots(3), b"raise 0 0 2 2 65535\nraise 1 1 1 1 1\nframe\n", 0,
      b"frame 1 triangles 2 vertices 4 worst 0 splits 0 merges 0 blocked none\n", HIGH_HALVES),
     ("worked_least_below_the_worst", "least g s out 1310719 1", spots(3, (1, 1, 10)), b"frame\n", 0,
@@ -258,12 +293,21 @@ def expect_last(place: Place, status: int, report: bytes, mesh: Optional[bytes])
      b"fit triangles 4 vertices 5 deviation 0 over 2 error 0\n", QUARTERS),
     ("worked_fit_at_the_error", "fit g out error 10 1", spots(3, (1, 1, 10)), b"", 0,
      b"fit triangles 2 vertices 4 deviation 20 over 2 error 10\n", HALVES),
+    ("worked_fit_of_the_greatest_error", "fit g out error 65535.999 1", spots(3, (1, 1, 10)), b"", 0,
+     b"fit triangles 2 vertices 4 deviation 20 over 2 error 10\n", HALVES),
+    ("worked_fit_of_flat_ground", "fit g out error 0 1", spots(3), b"", 0,
+     b"fit triangles 2 vertices 4 deviation 0 over 2 error 0\n", HALVES),
+    ("worked_fit_of_no_grid", "fit g out error 1 1", b"P6", b"", 3, b"grid refused: bad magic\n", None),
     ("worked_fit_of_budget_3", "fit g out budget 3 1", spots(3, (1, 1, 10)), b"", 0,
      b"fit triangles 2 vertices 4 deviation 20 over 2 error 10\n", HALVES),
     ("worked_fit_of_budget_4", "fit g out budget 4 1", spots(3, (1, 1, 10)), b"", 0,
      b"fit triangles 4 vertices 5 deviation 0 over 2 error 0\n", QUARTERS),
     ("worked_fit_of_all_that_is_needed", "fit g out budget 1048576 1", spots(5, (1, 0, 10)), b"", 0,
      b"fit triangles 9 vertices 9 deviation 0 over 4 error 0\n", NINE),
+    ("worked_fit_of_a_half", "fit g out error 0.5 1", spots(5, (0, 0, 1)), b"", 0,
+     b"fit triangles 6 vertices 7 deviation 2 over 4 error 0.5\n", None),
+    ("worked_fit_of_three_quarters_with_zeros", "fit g out error 00.750 30", spots(5, (0, 0, 1)), b"", 0,
+     b"fit triangles 2 vertices 4 deviation 3 over 4 error 0.75\n", None),
     ("worked_fit_below_three_quarters", "fit g out error 0.749 1", spots(5, (0, 0, 1)), b"", 0,
      b"fit triangles 6 vertices 7 deviation 2 over 4 error 0.5\n", None),
     ("worked_fit_at_three_quarters", "fit g out error 0.75 1", spots(5, (0, 0, 1)), b"", 0,
@@ -301,7 +345,10 @@ def test_worked_frame_that_changes_nothing(place: Place) -> None:
     place.run("mesh", "g", "s", "out", 9, 1)
     rest = b"frame {} triangles 9 vertices 9 worst 436906 splits {} merges {} blocked {} needs 10\n".decode().format
     report = rest(1, 7, 0, 6) + rest(2, 5, 5, 4) + rest(3, 0, 0, 4)
-    expect_last(place, 0, report.encode(), place.read("out000002.obj"))
+    mesh = (b"v 0 0 0\nv 4 0 0\nv 2 2 0\nv 4 2 0\nv 3 3 0\nv 0 4 0\nv 2 4 0\nv 3 4 10\nv 4 4 0\n"
+            b"f 3 1 2\nf 3 6 1\nf 5 7 3\nf 8 5 9\nf 8 7 5\nf 7 6 3\nf 4 3 2\nf 5 4 9\nf 5 3 4\n")
+    assert place.read("out000002.obj") == mesh
+    expect_last(place, 0, report.encode(), mesh)
 
 
 # Grids in other forms.
@@ -346,8 +393,13 @@ def test_info(place: Place, grid: Optional[bytes], status: int, report: bytes, s
 @table(
     "words, report",
     ("try_of_the_least_level", "01 1", b"try 1 1 frames 50 triangles 400 worst 0 blocked 0\n"),
+    ("try_of_level_1_and_the_greatest_seed", "1 4294967295", b"try 1 4294967295 frames 50 triangles 400 worst 0 blocked 0\n"),
+    ("try_of_level_2", "02 007", b"try 2 7 frames 50 triangles 1600 worst 0 blocked 0\n"),
+    ("try_of_level_3", "3 0", b"try 3 0 frames 50 triangles 6400 worst 0 blocked 0\n"),
     ("try_of_level_4", "4 5", b"try 4 5 frames 50 triangles 25600 worst 0 blocked 0\n"),
     ("try_of_level_5", "5 4294967295", b"try 5 4294967295 frames 50 triangles 102400 worst 0 blocked 0\n"),
+    ("try_of_level_5_where_some_ground_is_flat", "5 77", b"try 5 77 frames 50 triangles 102200 worst 0 blocked 0\n"),
+    ("try_of_level_6_and_another_seed", "6 3", b"try 6 3 frames 50 triangles 408950 worst 0 blocked 0\n"),
     ("try_of_level_6", "6 0", b"try 6 0 frames 50 triangles 409300 worst 0 blocked 0\n"),
     ("try_of_level_9", "9 1", b"try 9 1 frames 50 triangles 999963 worst 4223 blocked 50\n"),
 )
