@@ -5,6 +5,7 @@
 
 ghost use Rattle.std.specs.Prelude.{◌≡◌, ◌-◌, ◌^◌, ◌<◌, ◌≤◌, false};
 
+use crate::files::hill_mesh;
 use edge_doubles::{MemShelf, ShelfCall};
 use frame_loop::Engine;
 use roam_edge::{MemMeshes, MemSink, MeshCall, MeshSink, NoMemory, Shelf, Sink};
@@ -15,7 +16,6 @@ use std::test::Fail;
 /// A mesh that a run left.
 #[derive(Drop)]
 pub(crate) struct LeftMesh {
-    pub(crate) prefix: String,
     pub(crate) number: u32,
     pub(crate) bytes: Vec<u8>,
     pub(crate) finished: bool,
@@ -41,48 +41,17 @@ pub(crate) struct Ran {
     pub(crate) report: Vec<u8>,
 }
 
-/// The calls that fail: one of the shelf, one of the meshes, and the write of the report of this number; number 0 is
-/// none.
+/// The call of the outside that fails, of its kind and with its number, counted from 1.
 #[derive(Clone, Copy)]
-pub(crate) struct Faults {
-    pub(crate) shelf: ShelfCall,
-    pub(crate) meshes: MeshCall,
-    pub(crate) report: u64,
-}
-
-impl Faults {
-    /// No call fails.
-    pub(crate) fn none() -> Faults {
-        Faults {
-            shelf: ShelfCall::Open(0),
-            meshes: MeshCall::Begin(0),
-            report: 0,
-        }
-    }
-
-    /// This call of the shelf fails.
-    pub(crate) fn of_shelf(call: ShelfCall) -> Faults {
-        Faults {
-            shelf: call,
-            ..Faults::none()
-        }
-    }
-
-    /// This call of the meshes fails.
-    pub(crate) fn of_meshes(call: MeshCall) -> Faults {
-        Faults {
-            meshes: call,
-            ..Faults::none()
-        }
-    }
-
-    /// The write of the report of this number fails.
-    pub(crate) fn of_report(number: u64) -> Faults {
-        Faults {
-            report: number,
-            ..Faults::none()
-        }
-    }
+pub(crate) enum Fault {
+    /// None does.
+    None,
+    /// A call of the shelf.
+    Shelf(ShelfCall),
+    /// A call of the meshes.
+    Mesh(MeshCall),
+    /// The write of the report of this number.
+    Report(u64),
 }
 
 /// What an engine tells.
@@ -132,7 +101,6 @@ fn left_meshes(alloc: Global, meshes: &MemMeshes) -> Result<Vec<LeftMesh>, NoMem
     let mut left = Vec::new(alloc);
     for place in 0..meshes.count() {
         left.push(LeftMesh {
-            prefix: String::from_str(alloc, meshes.prefix(place))?,
             number: meshes.number(place),
             bytes: Vec::from_slice(alloc, meshes.bytes(place))?,
             finished: meshes.finished(place),
@@ -141,48 +109,28 @@ fn left_meshes(alloc: Global, meshes: &MemMeshes) -> Result<Vec<LeftMesh>, NoMem
     Ok(left)
 }
 
-/// The room of a run: how many meshes there may be, and how many bytes they and the report may have.
-#[derive(Clone, Copy)]
-pub(crate) struct Room {
-    pub(crate) meshes: u32,
-    pub(crate) bytes: u32,
-    pub(crate) report: u32,
-}
+/// Ample room for the report of a small run.
+pub(crate) const ROOM: u32 = 4096;
 
-/// The room of a run over a small grid.
-pub(crate) const SMALL: Room = Room {
-    meshes: 4,
-    bytes: 4096,
-    report: 4096,
-};
-
-/// A run of these words over this shelf, in which these calls of the sinks fail.
+/// A run of these words over this shelf, with room for so many bytes of the report, in which this call of a sink fails.
 pub(crate) fn run_over<F: Shelf>(
     alloc: Global,
     words: &[&str],
     shelf: &mut F,
-    faults: Faults,
+    fault: Fault,
+    room: u32,
 ) -> Result<Ran, Fail>
     requires faults { F.faults shelf.old < 2 ^ 64 - 1 }
     requires opens { F.opens shelf.old ≤ 2 ^ 63 }
 {
-    run_within(alloc, words, shelf, faults, SMALL)
-}
-
-/// The same with this room.
-fn run_within<F: Shelf>(
-    alloc: Global,
-    words: &[&str],
-    shelf: &mut F,
-    faults: Faults,
-    room: Room,
-) -> Result<Ran, Fail>
-    requires faults { F.faults shelf.old < 2 ^ 64 - 1 }
-    requires opens { F.opens shelf.old ≤ 2 ^ 63 }
-{
+    let (call, line) = match fault {
+        Fault::Mesh(call) => (call, 0),
+        Fault::Report(number) => (MeshCall::Begin(0), number),
+        _ => (MeshCall::Begin(0), 0),
+    };
     let words = owned(alloc, words)?;
-    let mut meshes = MemMeshes::new(alloc, &[faults.meshes], room.meshes, u64::from(room.bytes))?;
-    let mut report = MemSink::new(alloc, &[faults.report], u64::from(room.report))?;
+    let mut meshes = MemMeshes::new(alloc, &[call], 4, 4096)?;
+    let mut report = MemSink::new(alloc, &[line], u64::from(room))?;
     let (status, engine) = call_roam(alloc, words.as_slice(), shelf, &mut meshes, &mut report);
     Ok(Ran {
         status,
@@ -192,62 +140,34 @@ fn run_within<F: Shelf>(
     })
 }
 
-/// A run of these words over this grid `g` and this script `s`, in which these calls fail.
-pub(crate) fn run_words(
-    alloc: Global,
-    words: &[&str],
-    grid: &[u8],
-    script: &[u8],
-    faults: Faults,
-) -> Result<Ran, Fail> {
-    run_files(alloc, words, grid, script, faults, SMALL)
-}
-
-/// The same with this room.
+/// The same, in which this call fails, over this grid `g` and this script or certificate `s`, the finest mesh of the
+/// hill as `m`, and its middle as the one point of `p`.
 pub(crate) fn run_files(
     alloc: Global,
     words: &[&str],
     grid: &[u8],
     script: &[u8],
-    faults: Faults,
-    room: Room,
+    fault: Fault,
+    room: u32,
 ) -> Result<Ran, Fail> {
-    let mut shelf = MemShelf::new(alloc, &[faults.shelf])?;
+    let call = match fault {
+        Fault::Shelf(call) => call,
+        _ => ShelfCall::Open(0),
+    };
+    let mut shelf = MemShelf::new(alloc, &[call])?;
     shelf.add("g", grid)?;
     shelf.add("s", script)?;
-    run_within(alloc, words, &mut shelf, faults, room)
-}
-
-/// A run of these words over the grid `g`, and no other file.
-pub(crate) fn run_grid_alone(alloc: Global, words: &[&str], grid: &[u8]) -> Result<Ran, Fail> {
-    let mut shelf = MemShelf::new(alloc, &[])?;
-    shelf.add("g", grid)?;
-    run_over(alloc, words, &mut shelf, Faults::none())
-}
-
-/// A run of `mesh` with this budget and spacing, in which nothing fails.
-pub(crate) fn run_mesh(
-    alloc: Global,
-    grid: &[u8],
-    budget: &str,
-    spacing: &str,
-    script: &str,
-) -> Result<Ran, Fail> {
-    let words = ["mesh", "g", "s", "out", budget, spacing];
-    run_words(alloc, &words, grid, script.as_bytes(), Faults::none())
+    shelf.add("m", hill_mesh())?;
+    shelf.add("p", b"1 1\n")?;
+    run_over(alloc, words, &mut shelf, fault, room)
 }
 
 impl Ran {
-    /// The mesh that was begun last: its prefix, number and bytes, and whether it is finished.
-    pub(crate) fn last(&self) -> Option<(&str, u32, &[u8], bool)> {
+    /// The bytes of the mesh that was begun last; none where there is no mesh.
+    pub(crate) fn last_mesh(&self) -> &[u8] {
         match self.meshes.as_slice() {
-            [] => None,
-            [.., mesh] => Some((
-                mesh.prefix.as_str(),
-                mesh.number,
-                mesh.bytes.as_slice(),
-                mesh.finished,
-            )),
+            [] => &[],
+            [.., mesh] => mesh.bytes.as_slice(),
         }
     }
 }

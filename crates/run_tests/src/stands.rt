@@ -10,17 +10,6 @@ pub(crate) struct Stands {
     pub(crate) part: Option<usize>,
 }
 
-impl Stands {
-    /// The same number of whole meshes and lines, and no unfinished mesh.
-    pub(crate) fn frames(count: usize) -> Stands {
-        Stands {
-            meshes: count,
-            lines: count,
-            part: None,
-        }
-    }
-}
-
 /// How many lines these bytes are; none where the last of them does not end.
 fn lines_in(bytes: &[u8]) -> Option<usize> {
     let mut lines = 0usize;
@@ -41,8 +30,11 @@ pub(crate) fn stands_of(ran: &Ran, calm: &Ran) -> Option<Stands> {
     if !calm.report.as_slice().starts_with(report) || ran.meshes.len() > calm.meshes.len() {
         return None;
     }
-    let mut stands = Stands::frames(0);
-    stands.lines = lines_in(report)?;
+    let mut stands = Stands {
+        meshes: 0,
+        lines: lines_in(report)?,
+        part: None,
+    };
     for (mesh, whole) in ran.meshes.iter().zip(calm.meshes.iter()) {
         let is_next = mesh.number == whole.number && stands.part.is_none();
         if !is_next || !whole.bytes.as_slice().starts_with(mesh.bytes.as_slice()) {
