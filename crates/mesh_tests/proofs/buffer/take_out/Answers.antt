@@ -1,5 +1,5 @@
-use Rattle.engine_tests.proofs.BufferLemmas.{one-goes, none-comes}
-use Rattle.engine_tests.proofs.buffer.take_out.Goals as goal
+use Rattle.mesh_tests.proofs.BufferLemmas.{one-goes, none-comes}
+use Rattle.mesh_tests.proofs.buffer.take_out.Goals as goal
 
 pub patch-requires-clause-gone : goal.patch-requires-clause-gone
 patch-requires-clause-gone c = one-goes c.args.buffer.now.triangles c.args.gone (c.has.ensures.0 c.if-not-has.false)

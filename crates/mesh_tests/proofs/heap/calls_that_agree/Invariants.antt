@@ -1,5 +1,5 @@
 use Rattle.std.proofs.Common.{◌≡◌, length}
-use Rattle.engine_tests.proofs.heap.calls_that_agree.Given as goal
+use Rattle.mesh_tests.proofs.heap.calls_that_agree.Given as goal
 
 -- the heap keeps its slots
 abbrev pub invariant-loop-place : goal.invariant-loop-place

@@ -1,5 +1,5 @@
 use Rattle.std.proofs.Common.{◌≡◌, length}
-use Rattle.engine_tests.proofs.deadlines.calls_that_go.Given as goal
+use Rattle.mesh_tests.proofs.deadlines.calls_that_go.Given as goal
 
 -- the deadlines keep their slots
 abbrev pub invariant-loop-call : goal.invariant-loop-call

@@ -3,8 +3,8 @@ use Rattle.std.proofs.Common.{[], map, get_or, ap, ◌∙◌}
 use Rattle.std.proofs.lemmas.Nat.{same_from_place}
 use Rattle.std.proofs.lemmas.List.{map-set, get_or-set_other}
 use Rattle.bintree_laws.proofs.LatticeLemmas.{same_point}
-use Rattle.least_tests.specs.Terrain.{number_of}
-use Rattle.least_tests.proofs.terrain.HillsTiles.keep.Goals as goal
+use Rattle.mesh_tests.specs.Terrain.{number_of}
+use Rattle.mesh_tests.proofs.terrain.HillsTiles.keep.Goals as goal
 
 pub returns-clause-others : goal.returns-clause-others
 returns-clause-others c u tile apart =

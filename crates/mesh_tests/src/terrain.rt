@@ -2,7 +2,7 @@
 
 ghost use Rattle.std.specs.Prelude.{◌≡◌, ℕ, ◌<◌, ◌*◌, List, map, length, IfOk};
 ghost use Rattle.mesh_defs.specs.declared.point.Point.{Point};
-ghost use Rattle.least_tests.specs.Terrain.{grid_at, mesh_at, number_of};
+ghost use Rattle.mesh_tests.specs.Terrain.{grid_at, mesh_at, number_of};
 
 use bintree_addr::Tri;
 use mosaic_fit::{Failed, Point, Tiles};
