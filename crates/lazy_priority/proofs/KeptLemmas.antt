@@ -4,7 +4,7 @@ use Rattle.std.proofs.Common.{IsSome, IsSomeAnd, option_map, true≢false, refl,
 use Rattle.std.proofs.Common.{◌⊎◌, inl, inr}
 use Rattle.std.proofs.Math.ListN.{set}
 use Rattle.std.proofs.lemmas.List.{set-get_or, length-set, length-replicate}
-use Rattle.slot_heap.proofs.ZipLemmas.{get_or-zip2_any}
+use Rattle.list_laws.proofs.ZipLemmas.{get_or-zip2_any}
 use Rattle.lazy_priority.specs.declared.deadlines.Deadline.{Deadline}
 use Rattle.lazy_priority.specs.declared.deadlines.Deadline.TheVariants.{Absent, Stands, Expired}
 use Rattle.lazy_priority.specs.Due.{NoneIsDue}

@@ -8,7 +8,7 @@ use Rattle.bintree_addr.specs.declared.rank.Rank.{Rank}
 use Rattle.bintree_addr.specs.declared.slot.Slot.{Slot}
 use Rattle.bintree_addr.specs.RankOrder.{rank_cmp, ComesFirst}
 use Rattle.slot_heap.specs.Keys.{key_of, IsLeastKey}
-use Rattle.slot_heap.proofs.ZipLemmas.{get_or-zip2_any, zip2-set_same}
+use Rattle.list_laws.proofs.ZipLemmas.{get_or-zip2_any, zip2-set_same}
 use Rattle.split_queue.specs.First.{IsFirstEntry}
 use Rattle.split_queue.specs.Present.{if_present, present_ranks}
 

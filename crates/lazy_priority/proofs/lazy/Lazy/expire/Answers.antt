@@ -1,7 +1,7 @@
 use Rattle.std.proofs.Common.{rules, ◌≡◌, ℕ, List, Option, Some, None, option_map, slice_set, slice_index_or, refl, sym, ◌∙◌}
 use Rattle.std.proofs.Common.{ap, subst, ◌⊎◌}
 use Rattle.slot_heap.specs.Keys.{key_of}
-use Rattle.slot_heap.proofs.ZipLemmas.{zip2-set_left, zip2-set_right}
+use Rattle.list_laws.proofs.ZipLemmas.{zip2-set_left, zip2-set_right}
 use Rattle.lazy_priority.specs.declared.deadlines.Deadline.TheVariants.{Absent, Stands, Expired}
 use Rattle.lazy_priority.specs.Kept.{kept, HasKey, from_key, IsSoundLazy}
 use Rattle.lazy_priority.proofs.KeptLemmas.{kept-expired, kept-no_expire}

@@ -1,5 +1,5 @@
 use Rattle.std.proofs.Common.{rules, None, slice_set, sym, ◌∙◌, ap, subst}
-use Rattle.slot_heap.proofs.ZipLemmas.{zip2-set_left}
+use Rattle.list_laws.proofs.ZipLemmas.{zip2-set_left}
 use Rattle.lazy_priority.specs.declared.deadlines.Deadline.TheVariants.{Absent}
 use Rattle.lazy_priority.specs.Kept.{kept, from_key, IsSoundLazy}
 use Rattle.lazy_priority.proofs.KeptLemmas.{IsSoundLazy-deadline}

@@ -1,6 +1,6 @@
 use Rattle.std.proofs.Common.{rules, ◌+◌, Some, length, slice_set, sym, ◌∙◌, ap, subst, arith}
 use Rattle.std.proofs.lemmas.Simd.{length-zip2}
-use Rattle.slot_heap.proofs.ZipLemmas.{zip2-set}
+use Rattle.list_laws.proofs.ZipLemmas.{zip2-set}
 use Rattle.lazy_priority.specs.declared.deadlines.Deadline.TheVariants.{Stands}
 use Rattle.lazy_priority.specs.Kept.{kept, from_key, IsSoundLazy}
 use Rattle.lazy_priority.proofs.KeptLemmas.{IsSoundLazy-set}

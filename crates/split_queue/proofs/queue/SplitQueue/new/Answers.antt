@@ -1,7 +1,7 @@
 use Rattle.std.proofs.Common.{rules, false, None, length, refl, sym, ap, ap₂, ◌∙◌}
 use Rattle.std.proofs.lemmas.List.{length-replicate}
 use Rattle.slot_heap.specs.Keys.{key_of}
-use Rattle.slot_heap.proofs.ZipLemmas.{zip2-replicate}
+use Rattle.list_laws.proofs.ZipLemmas.{zip2-replicate}
 use Rattle.split_queue.specs.Present.{if_present, present_ranks}
 use Rattle.split_queue.proofs.PresentLemmas.{get_or-none}
 use Rattle.split_queue.proofs.queue.SplitQueue.new.Goals as goal

@@ -1,6 +1,6 @@
 use Rattle.std.proofs.Common.{◌≡◌, true, Some, length, slice_set, sym, ap, subst, ◌∙◌, arith}
 use Rattle.std.proofs.lemmas.List.{length-set}
-use Rattle.slot_heap.proofs.ZipLemmas.{zip2-set}
+use Rattle.list_laws.proofs.ZipLemmas.{zip2-set}
 use Rattle.split_queue.specs.Present.{if_present, present_ranks}
 use Rattle.split_queue.proofs.PresentLemmas.{length-present_ranks}
 use Rattle.split_queue.proofs.queue.SplitQueue.set.Goals as goal

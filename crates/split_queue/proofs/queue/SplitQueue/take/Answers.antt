@@ -1,6 +1,6 @@
 use Rattle.std.proofs.Common.{◌≡◌, false, None, IsSome, length, get_or, slice_set, sym, ap, subst, ◌∙◌}
 use Rattle.std.proofs.lemmas.List.{length-set}
-use Rattle.slot_heap.proofs.ZipLemmas.{zip2-set_left}
+use Rattle.list_laws.proofs.ZipLemmas.{zip2-set_left}
 use Rattle.split_queue.specs.Present.{if_present, present_ranks}
 use Rattle.split_queue.proofs.PresentLemmas.{rank-entry}
 use Rattle.split_queue.proofs.queue.SplitQueue.take.Goals as goal
