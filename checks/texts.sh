@@ -13,11 +13,22 @@ crates=$(sed -n 's/#.*//; s/^\([a-z0-9_]*\).*:.*/\1/p' crates.txt | sort)
 
 none no_handle_is_allowed "$(diff <(echo 'Handles allowed: none.') HANDLES)"
 
+# lines_of_code FOLDER: the lines of a crate's code without blank lines, comments and modules for tests alone.
+lines_of_code() {
+  local file tests
+  tests=$(awk 'test && /^mod / { gsub(/[;]/, "", $2); print $2 } { test = /^#\[cfg\(test\)\]$/ }' "$1"/src/lib.rt "$1"/src/main.rt 2>/dev/null)
+  for file in "$1"/src/*.rt; do
+    grep -qxF "$(basename "$file" .rt)" <<<"$tests" || cat "$file"
+  done | grep -cv '^[[:space:]]*\(//.*\)\{0,1\}$'
+}
+
 # The law crates, whose functions have empty bodies.
 laws=$(sed -n 's/^|\[`\([a-z0-9_]*\)`\].*)|law|.*/\1/p' docs/CRATES.md)
 
 # The most edits of a crate: each costs the gate 6 to 40 seconds, and the first the crate's proof once more.
 most_edits=5
+# The lines of code from which on a crate has one.
+least_code=20
 
 for name in $crates; do
   why=()
@@ -29,6 +40,9 @@ for name in $crates; do
   grep -q "^|\[\`$name\`\](../crates/$name/README.md)|\(law\|code\)|" docs/CRATES.md || why+=("no row in docs/CRATES.md")
   edits=("crates/$name"/must-fail/*.edit)
   [ -e "${edits[0]}" ] || edits=()
+  if [ "${#edits[@]}" -eq 0 ] && [[ $name != *_tests ]] && [ "$(lines_of_code "crates/$name")" -gt "$least_code" ]; then
+    grep -q '^No edit that must fail: [^ ]' "crates/$name/README.md" || why+=("no edit that must fail, and no line 'No edit that must fail: ..' in README.md")
+  fi
   if [ "${#edits[@]}" -gt "$most_edits" ]; then
     why+=("${#edits[@]} edits that must fail")
   fi
