@@ -1,12 +1,17 @@
 //! The thickness and the box over what is known, as laws.
 
-ghost use Rattle.std.specs.Prelude.{◌≡◌, ℕ, ◌+◌, ◌-◌, ◌*◌, ◌^◌, ◌<◌, ◌≤◌, Bool, true, false, IsTrue, List};
+ghost use Rattle.std.specs.Prelude.{◌≡◌, ℕ, ◌+◌, ◌-◌, ◌*◌, ◌^◌, ◌<◌, ◌≤◌, Bool, true, false, IsTrue, List, Contains};
 ghost use Rattle.mesh_defs.specs.declared.point.Point.{Point};
 ghost use Rattle.mesh_defs.specs.Triangle.{level_of, corners_of, IsAddress, IsSplittable};
+ghost use Rattle.mesh_defs.specs.ClosedSet.{IsClosed, leaves_of};
+ghost use Rattle.mesh_defs.specs.BoundingBox.{holds_point};
 ghost use Rattle.mesh_defs.specs.Thickness.{height_of, thickness_of};
+ghost use Rattle.mesh_laws.specs.Vertex.{centre_of};
+ghost use Rattle.fit_laws.specs.PlaneHeight.{off_plane};
 ghost use Rattle.mosaic_laws.specs.Tile.{IsTile, in_tile};
 ghost use Rattle.page_laws.specs.declared.wedge.KnownWedge.{KnownWedge};
 ghost use Rattle.page_laws.specs.Pages.{half, is_turned, half_corners, Pages, cuts_to, square_at, is_known, IsPyramid};
+ghost use Rattle.page_laws.specs.Pages.{IsLoadedPoint};
 ghost use Rattle.page_laws.specs.Loaded.{corner_wedge, joined_wedge, known_wedge, AreSamples, IsAtOrUnder};
 
 /// Wedges over what is known: thickness, least and greatest height.
@@ -53,4 +58,23 @@ pub fn page_wedge_laws()
         (1 ≤ q → w.loaded (q - 1) (square_at w (q - 1) (in_tile (cuts_to w q) t a)) ≡ false) →
         known_wedge w.large height (is_known w) (in_tile (cuts_to w q) t a)
         ≡ known_wedge w.n (height_of w.n heights) (λ b. true) a }
+{}
+
+/// How far the surface is from the planes of triangles, over what is known.
+///
+/// `triangle` a triangle holds the centre of each known triangle at or below it, and there the surface is off its plane
+/// by at most half its thickness; so `mesh` has such a triangle for each of these centres. A height that is not loaded
+/// does not matter. Nothing is said of where the mesh is between points that are loaded.
+pub fn surface_laws()
+    ensures triangle { (w : Pages) (height : Point → ℕ) (heights : List ℕ) (a b : ℕ) → IsPyramid w →
+        ((p : Point) → IsLoadedPoint w p → height_of w.large heights p ≡ height p) → IsAtOrUnder a b →
+        IsTrue (is_known w b) → IsTrue (holds_point w.large a (centre_of w.large b))
+        × (2 * off_plane w.large heights a (centre_of w.large b)
+        ≤ 2 ^ w.large * (known_wedge w.large height (is_known w) a).thickness) }
+    ensures mesh { (w : Pages) (height : Point → ℕ) (heights : List ℕ) (has : ℕ → Bool) (b : ℕ) → IsPyramid w →
+        ((p : Point) → IsLoadedPoint w p → height_of w.large heights p ≡ height p) → IsClosed w.large has →
+        IsTrue (is_known w b) → ((a : ℕ) × Contains (leaves_of w.large has) a
+        × IsTrue (holds_point w.large a (centre_of w.large b))
+        × (2 * off_plane w.large heights a (centre_of w.large b)
+        ≤ 2 ^ w.large * (known_wedge w.large height (is_known w) a).thickness)) }
 {}
