@@ -10,3 +10,4 @@ pub mod SharedLemmas
 pub mod AreaLemmas
 pub mod ClearLemmas
 pub mod SurfaceLemmas
+pub mod PlacedLemmas

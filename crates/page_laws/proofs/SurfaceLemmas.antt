@@ -2,13 +2,13 @@
 -- of the corners of each of them: on the way up the weight of a child's apex, the midpoint of the base, goes to the two
 -- ends, and the mean of the corners' heights changes by at most half the total times the bend at the midpoint.
 use Rattle.std.proofs.Common.{◌≡◌, ℕ, zero, suc, ◌+◌, ◌-◌, ◌*◌, ◌/◌, ◌%◌, ◌^◌, ◌<◌, ◌≤◌, ◌⊎◌, ◌&&◌, inl, inr, max, Bool}
-use Rattle.std.proofs.Common.{IsTrue, List, Contains, true, false, refl, sym, ◌∙◌, ap, subst, arith, ⊎_elim, mul-le-mul_left, pow_pos}
+use Rattle.std.proofs.Common.{IsTrue, List, Contains, true, false, sym, ◌∙◌, ap, subst, arith, ⊎_elim, mul-le-mul_left, pow_pos}
 use Rattle.std.proofs.Math.Nat.{mul-sub, le_of_mul-le-mul_left}
 use Rattle.std.proofs.lemmas.Bool.{cases_lt, cases_Bool, le-leb, and_from, both_ways}
 use Rattle.mesh_defs.specs.declared.point.Point.{Point}
 use Rattle.mesh_defs.specs.declared.point.Corners.{Corners}
 use Rattle.mesh_defs.specs.Triangle.{level_of, corners_of, child, midpoint, IsAddress, IsSplittable, IsCorner}
-use Rattle.mesh_defs.specs.ClosedSet.{IsClosed, IsSubset, leaves_of}
+use Rattle.mesh_defs.specs.ClosedSet.{IsClosed, leaves_of}
 use Rattle.mesh_defs.specs.MeshText.{has_corner}
 use Rattle.mesh_defs.specs.Thickness.{height_of, apart}
 use Rattle.mesh_defs.specs.BoundingBox.{is_left_or_on, is_in_closed, holds_point}
@@ -19,18 +19,18 @@ use Rattle.bintree_laws.proofs.CornerLemmas.{corners_of-left, corners_of-right}
 use Rattle.bintree_laws.proofs.LatticeLemmas.{HasEvenBase-corners_of}
 use Rattle.bintree_laws.proofs.MateLemmas.{cancel}
 use Rattle.bintree_laws.proofs.WeightLemmas.{HasArea, HasArea-corners_of, IsMean}
-use Rattle.mesh_laws.specs.Vertex.{is_mesh_vertex, centre_of}
+use Rattle.mesh_laws.specs.Vertex.{is_mesh_vertex, centre_of, IsSquareCorner, IsCentre}
 use Rattle.mesh_laws.proofs.ConformityLemmas.{IsUnder, self, below}
 use Rattle.mesh_laws.proofs.DescentLemmas.{IsAddress-level, IsAddress-splittable}
 use Rattle.mesh_laws.proofs.ClosureLemmas.{IsOuter}
 use Rattle.mesh_laws.proofs.DiamondLemmas.{leaf_outside, outside_leaf}
-use Rattle.mesh_laws.proofs.VertexLemmas.{has-corner, centre-vertex}
+use Rattle.mesh_laws.proofs.VertexLemmas.{has-corner, centre-vertex, square-vertex}
 use Rattle.fit_laws.specs.PlaneHeight.{doubled_area, area_of, weighted, plane_height, off_plane}
 use Rattle.fit_laws.proofs.DescentLemmas.{mean}
-use Rattle.fit_laws.proofs.PlaneLemmas.{plane_height-exact, plane_height-corner}
+use Rattle.fit_laws.proofs.PlaneLemmas.{plane_height-exact}
 use Rattle.page_laws.specs.declared.wedge.KnownWedge.{KnownWedge}
-use Rattle.page_laws.specs.Pages.{Pages, is_known, IsLoadedPoint, IsPyramid}
-use Rattle.page_laws.specs.Loaded.{bend, joined_wedge, known_wedge, IsAtOrUnder}
+use Rattle.page_laws.specs.Pages.{Pages, is_known, IsPyramid}
+use Rattle.page_laws.specs.Loaded.{bend, known_wedge, IsAtOrUnder, AreLoadedHeights, IsHalfOff}
 use Rattle.page_laws.proofs.LoadedLemmas.{wedge-known, wedge-heights, at-under}
 use Rattle.page_laws.proofs.PyramidLemmas.{known-splittable, parent-known}
 
@@ -334,7 +334,7 @@ leaf-above n has (suc levels) x fits address out = leaf-or-parent n has x addres
     (λ is. both_ways (has (x / 2)) none is))
 
 module _ (w : Pages) (s : IsPyramid w) (height : Point → ℕ) (heights : List ℕ)
-    (agree : (p : Point) → IsLoadedPoint w p → height_of w.large heights p ≡ height p) where
+    (agree : AreLoadedHeights w height heights) where
   -- at a triangle at or above a known one, by the heights that are loaded
   known-near : (a b : ℕ) → IsUnder a b → IsTrue (is_known w b) →
       IsNear (height_of w.large heights) (known_wedge w.large height (is_known w) a).thickness (corners_of w.large a)
@@ -350,9 +350,7 @@ module _ (w : Pages) (s : IsPyramid w) (height : Point → ℕ) (heights : List 
 
   -- it holds the centre, and the surface is off its plane there by at most half its thickness
   pub centre-near : (a b : ℕ) → IsAtOrUnder a b → IsTrue (is_known w b) →
-      IsTrue (holds_point w.large a (centre_of w.large b))
-      × (2 * off_plane w.large heights a (centre_of w.large b)
-      ≤ 2 ^ w.large * (known_wedge w.large height (is_known w) a).thickness)
+      IsHalfOff w height heights a (centre_of w.large b)
   centre-near a b under is =
       let u = at-under a b under in
       let near = known-near a b u is in
@@ -361,29 +359,40 @@ module _ (w : Pages) (s : IsPyramid w) (height : Point → ℕ) (heights : List 
         near-off w.large heights a (centre_of w.large b) _ address near,
       )
 
-  -- so each mesh has such a triangle
-  pub mesh-near : (has : ℕ → Bool) (b : ℕ) → IsClosed w.large has → IsTrue (is_known w b) →
-      (a : ℕ) × Contains (leaves_of w.large has) a × IsTrue (holds_point w.large a (centre_of w.large b))
-      × (2 * off_plane w.large heights a (centre_of w.large b)
-      ≤ 2 ^ w.large * (known_wedge w.large height (is_known w) a).thickness)
-  mesh-near has b closed is = ⊎_elim
-      (λ (split : has b ≡ true).
-      let p : Point = centre_of w.large b in
-      let e = Any-in (λ a. has_corner (corners_of w.large a) p) (leaves_of w.large has)
-      (centre-vertex w.large has b p closed split refl) in
-      let listed = Contains-in e.0 (leaves_of w.large has) e.1 in
-      let address = (leaf_outside w.large has e.0 closed listed).address in
-      let near = near-corner (height_of w.large heights) (corners_of w.large e.0) p
-      (has-corner (corners_of w.large e.0) p e.2) in
-      let none = near-off w.large heights e.0 p 0 address near in
-      (e.0, listed, near-held w.large heights e.0 p 0 address near, omega arith))
-      (λ (whole : has b ≡ false).
-      let address = known-address b b self is in
-      let leaf = leaf-above w.large has (level_of b) b (omega arith) address (λ split. both_ways (has b) whole split) in
-      let near = known-near leaf.0 b leaf.1 is in (
-        leaf.0,
-        outside_leaf w.large has leaf.0 closed leaf.2,
-        near-held w.large heights leaf.0 (centre_of w.large b) _ leaf.2.address near,
-        near-off w.large heights leaf.0 (centre_of w.large b) _ leaf.2.address near,
-      ))
-      (cases_Bool (has b))
+  module _ (has : ℕ → Bool) (closed : IsClosed w.large has) where
+    -- a leaf with this point, and the surface half its thickness off at most
+    abbrev HasHalfOff : Point → Type 0
+    HasHalfOff r = (a : ℕ) × Contains (leaves_of w.large has) a × IsHalfOff w height heights a r
+
+    -- at a vertex it is not off at all
+    vertex-near : (r : Point) → is_mesh_vertex w.large (leaves_of w.large has) r ≡ true → HasHalfOff r
+    vertex-near r is =
+        let e = Any-in (λ a. has_corner (corners_of w.large a) r) (leaves_of w.large has) is in
+        let listed = Contains-in e.0 (leaves_of w.large has) e.1 in
+        let address = (leaf_outside w.large has e.0 closed listed).address in
+        let near = near-corner (height_of w.large heights) (corners_of w.large e.0) r
+        (has-corner (corners_of w.large e.0) r e.2) in
+        let none = near-off w.large heights e.0 r 0 address near in
+        (e.0, listed, (near-held w.large heights e.0 r 0 address near, omega arith))
+
+    -- where a triangle is not split, its centre is in a leaf at or above it
+    centre-in-leaf : (b : ℕ) → IsTrue (is_known w b) → has b ≡ false → HasHalfOff (centre_of w.large b)
+    centre-in-leaf b is whole =
+        let leaf = leaf-above w.large has (level_of b) b (omega arith) (known-address b b self is)
+        (λ split. both_ways (has b) whole split) in
+        let near = known-near leaf.0 b leaf.1 is in (
+          leaf.0,
+          outside_leaf w.large has leaf.0 closed leaf.2,
+          (
+            near-held w.large heights leaf.0 (centre_of w.large b) _ leaf.2.address near,
+            near-off w.large heights leaf.0 (centre_of w.large b) _ leaf.2.address near,
+          ),
+        )
+
+    -- so each corner of the terrain and each centre of a known triangle has one
+    pub mesh-near : (r : Point) → IsSquareCorner (2 ^ w.large) r ⊎ IsCentre w.large (is_known w) r → HasHalfOff r
+    mesh-near r (inl corner) = vertex-near r (square-vertex w.large has r closed corner)
+    mesh-near r (inr (b, is, same)) = ⊎_elim
+        (λ (split : has b ≡ true). vertex-near r (centre-vertex w.large has b r closed split same))
+        (λ (whole : has b ≡ false). subst HasHalfOff same (centre-in-leaf b is whole))
+        (cases_Bool (has b))
