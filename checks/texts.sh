@@ -99,7 +99,7 @@ short() {
 if has the_main_contracts_have_few_words python3; then
   none roam_has_ten_clauses "$(short crates/roam_run/src/run.rt roam --ensures 10 --most 270 --within "$runs")"
   none roam_has_a_page_of_words "$(short crates/roam_run/src/run.rt roam --most 63 --within "$page")"
-  none a_frame_has_few_words "$(short crates/frame_loop/src/frame.rt frame --ensures 8 --most 120 --within "$engine")"
+  none a_frame_has_eight_clauses_and_few_words "$(short crates/frame_loop/src/frame.rt frame --ensures 8 --most 120 --within "$engine")"
 fi
 
 # The worked view of docs/REFERENCE.md is what its command prints.
