@@ -1,6 +1,6 @@
 # shellcheck shell=bash disable=SC2154,SC2016
 # The repository's texts: what a script can see of its rules (CONTRIBUTING.md), beside test_texts.py (words, links, figures,
-# the site) and test_pages.py (what is generated). Sourced by checks/run.
+# the site) and test_pages.py (what is generated). Sourced by lines.sh.
 
 cd -- "$top" || exit 1
 
@@ -38,8 +38,8 @@ for name in $crates; do
     why+=("README.md has more than 120 lines")
   fi
   grep -q "^|\[\`$name\`\](../crates/$name/README.md)|\(law\|code\)|" docs/CRATES.md || why+=("no row in docs/CRATES.md")
-  edits=("crates/$name"/must-fail/*.edit)
-  [ -e "${edits[0]}" ] || edits=()
+  mapfile -t edits < <(find "crates/$name/must-fail" "checks/edits/$name" -name '*.edit' 2>/dev/null)
+  [ "${#edits[@]}" -eq 0 ] || echo "counted edits_of_$name ${#edits[@]}"
   if [ "${#edits[@]}" -eq 0 ] && [[ $name != *_tests ]] && [ "$(lines_of_code "crates/$name")" -gt "$least_code" ]; then
     grep -q '^No edit that must fail: [^ ]' "crates/$name/README.md" || why+=("no edit that must fail, and no line 'No edit that must fail: ..' in README.md")
   fi
