@@ -28,6 +28,6 @@ while IFS= read -r line; do
   *) wrong viewer_checks_come_to_their_end "$line" ;;
   esac
 done < <(CALFREWIN_LIBRARY=$room/viewer/prefix/lib/libroam.so timeout 900 python3 "$top/checks/viewer.py" "${words[@]}" 2>&1)
-# Twelve checks are the server's, eleven the browser's.
-expected=$((${#words[@]} == 3 ? 23 : 12))
+# Twelve checks are the server's, fourteen the browser's.
+expected=$((${#words[@]} == 3 ? 26 : 12))
 [ $((passed + failed - before)) -ge $expected ] || wrong viewer_checks_come_to_their_end "only $((passed + failed - before)) of $expected"
