@@ -63,6 +63,38 @@ def test_a_session_is_as_the_definitions_have_it(number):
     sessions.run(1, number)
 
 
+def exchanged(found):
+    """A list whose last two items have changed places."""
+    return np.concatenate((found[:-2], found[-1:], found[-2:-1]))
+
+
+@pytest.mark.parametrize("method, lie, text", [
+    ("leaves", exchanged, "the mesh is"),
+    ("indices", exchanged, "the indices are others"),
+    ("positions", lambda found: found + np.array([0, 0, 1], found.dtype), "the vertices are others"),
+    ("compact", exchanged, "their numbers are others"),
+    ("strip", exchanged, "the strip is another"),
+    ("deviation", lambda found: found + 1, "the deviation is another"),
+    ("changed", lambda found: found._replace(gone=found.gone[1:]), "what the frame took out is another"),
+    ("changed", lambda found: found._replace(come=found.come[1:]), "what the frame put in is another"),
+    ("fit", lambda found: found._replace(triangles=exchanged(found.triangles)), "the fitted mesh is another"),
+    ("fit", lambda found: found._replace(vertices=found.vertices + 1), "its vertices are others"),
+    ("fit", lambda found: found._replace(deviation=found.deviation + 1), "its deviation is another"),
+    ("certificate", lambda text: re.sub(r"-?\d+", lambda it: str(int(it[0]) + 1), text, count=1), "the certificate is of another place"),
+    *(("frame", lambda note, name=name: note._replace(**{name: getattr(note, name) + 1}), "the note is")
+      for name in calfrewin.Note._fields if name != "worst"),
+    ("frame", lambda note: note._replace(worst=note.worst ^ 1), "the note is|the mesh has not the fewest"),
+])
+def test_a_session_finds_lies(method, lie, text):
+    class Lying(Engine):
+        pass
+
+    setattr(Lying, method, lambda self, *words: lie(getattr(Engine, method)(self, *words)))
+    with pytest.raises(AssertionError, match=text):
+        for number in range(20):
+            sessions.run(1, number, Lying)
+
+
 @pytest.mark.parametrize("name", ["jacksboro", "flight"])
 def test_the_frames_of_an_example_have_the_expected_report(name):
     calls = {"camera": "camera", "raise": "raise_area", "plane": "add_plane", "budget": "budget"}
