@@ -14,6 +14,7 @@ from hypothesis import given, strategies as st
 import calfrewin
 import sessions
 from calfrewin import Engine, _library, surface
+from fitters import lying
 from threads import check_that_one_thread_is_taken, on_a_thread
 
 TOP = pathlib.Path(__file__).resolve().parents[2]
@@ -86,13 +87,9 @@ def exchanged(found):
     ("frame", lambda note: note._replace(worst=note.worst ^ 1), "the note is|the mesh has not the fewest"),
 ])
 def test_a_session_finds_lies(method, lie, text):
-    class Lying(Engine):
-        pass
-
-    setattr(Lying, method, lambda self, *words: lie(getattr(Engine, method)(self, *words)))
     with pytest.raises(AssertionError, match=text):
         for number in range(20):
-            sessions.run(1, number, Lying)
+            sessions.run(1, number, lying(Engine, method, lie))
 
 
 @pytest.mark.parametrize("name", ["jacksboro", "flight"])
