@@ -81,7 +81,8 @@ def exchanged(found):
     ("fit", lambda found: found._replace(triangles=exchanged(found.triangles)), "the fitted mesh is another"),
     ("fit", lambda found: found._replace(vertices=found.vertices + 1), "its vertices are others"),
     ("fit", lambda found: found._replace(deviation=found.deviation + 1), "its deviation is another"),
-    ("certificate", lambda text: re.sub(r"-?\d+", lambda it: str(int(it[0]) + 1), text, count=1), "the certificate is of another place"),
+    ("certificate", lambda text: re.sub(r"-?\d+", lambda it: str(int(it[0]) + 1), text, count=1),
+     "the certificate is of another place"),
     *(("frame", lambda note, name=name: note._replace(**{name: getattr(note, name) + 1}), "the note is")
       for name in calfrewin.Note._fields if name != "worst"),
     ("frame", lambda note: note._replace(worst=note.worst ^ 1), "the note is|the mesh has not the fewest"),
