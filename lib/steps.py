@@ -9,7 +9,6 @@ from pathlib import Path
 # What brings a command, by Debian's packages.
 PACKAGES = {
     "wasm-opt": "binaryen",
-    "ld64.lld": "lld",
     "aarch64-linux-gnu-gcc": "gcc-aarch64-linux-gnu libc6-dev-arm64-cross",
     "x86_64-w64-mingw32-gcc": "gcc-mingw-w64-x86-64",
     "npm": "npm",

@@ -33,7 +33,7 @@ targets: [ {target} ]
 install-name: '/usr/lib/libSystem.B.dylib'
 exports:
   - targets: [ {target} ]
-    symbols: [ _malloc, _realloc, _free, _memcpy, _memmove, _memset, _bzero, ___bzero, dyld_stub_binder ]
+    symbols: [ _malloc, _realloc, _free, _memcpy, _memmove, _memset, _memset_pattern16, _bzero, ___bzero, dyld_stub_binder ]
 ...
 """
 
@@ -155,7 +155,7 @@ def link_macos(target: Target, objects: list[Path], calls: list[str], room: Path
     processor, made, system = target.triple.partition("-")[0], room / target.shared, room / "libSystem.tbd"
     system.write_text(SYSTEM.format(target=f"{processor}-macos"), encoding="ascii")
     exported = [word for it in calls for word in ("-exported_symbol", f"_{it}")]
-    run(tool("ld64.lld"), "-arch", processor, "-platform_version", "macos", "11.0", "11.0", "-dylib", "-install_name",
+    run(beside("ld64.lld", room), "-arch", processor, "-platform_version", "macos", "11.0", "11.0", "-dylib", "-install_name",
         f"@rpath/{target.shared}", *exported, *objects, system, "-o", made)
     return [made]
 

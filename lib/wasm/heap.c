@@ -33,8 +33,8 @@ static char nothing;
 
 static u64 size_of(const struct block *b) { return b->size & ~1ull; }
 static bool is_taken(const struct block *b) { return b->size & 1; }
-static struct block *at(void *place, u64 by) { return (struct block *)((char *)place + by); }
-static struct block *above(struct block *b) { return at(b, size_of(b)); }
+static struct block *at(void *place, long long by) { return (struct block *)((char *)place + by); }
+static struct block *above(struct block *b) { return at(b, (long long)size_of(b)); }
 static int bin_of(u64 size) {
     int k = 59 - __builtin_clzll(size);
     return k < BINS ? k : BINS - 1;
@@ -46,7 +46,7 @@ static u64 whole(u64 bytes) { /* the size of a block with room for so many bytes
 
 static void mark(struct block *b, u64 size, bool taken) {
     b->size = size | taken;
-    at(b, size)->below = size;
+    at(b, (long long)size)->below = size;
 }
 
 static void enlist(struct free_block *it) {
@@ -72,7 +72,7 @@ static void release(struct block *b) {
         size += size_of(next);
     }
     if (b->below) {
-        struct block *low = at(b, -b->below);
+        struct block *low = at(b, -(long long)b->below);
         if (!is_taken(low)) {
             delist((struct free_block *)low);
             size += size_of(low);
@@ -115,7 +115,7 @@ static bool begin(void) {
 /* Memory grows until a free block of this size is at its end. */
 static bool grow(u64 size) {
     if (!start) return begin();
-    struct block *last = (struct block *)end, *low = at(last, -last->below);
+    struct block *last = (struct block *)end, *low = at(last, -(long long)last->below);
     u64 have = is_taken(low) ? 0 : size_of(low), pages = (size - have + PAGE - 1) / PAGE;
     if (pages < STEP && lengthen(STEP)) pages = STEP;
     else if (!lengthen(pages)) return 0;
@@ -146,12 +146,12 @@ static void *take(u64 bytes) {
 }
 
 static void give(void *place) {
-    if (place) release(at(place, -(u64)HEADER));
+    if (place) release(at(place, -HEADER));
 }
 
 static void *resize(void *place, u64 kept, u64 bytes) {
     if (bytes >= LARGEST) return 0;
-    struct block *b = at(place, -(u64)HEADER), *next = above(b);
+    struct block *b = at(place, -HEADER), *next = above(b);
     u64 size = whole(bytes);
     if (size_of(b) < size && !is_taken(next) && size_of(b) + size_of(next) >= size) {
         delist((struct free_block *)next);
