@@ -725,6 +725,38 @@ def test_rt(chain: Repository, driver: str, taken: int) -> None:
     assert (ended.returncode, ended.stdout) == (7, told), ended.stderr
 
 
+KEPT = '''
+    def call(self, *words): return subprocess.run(words, cwd=self.folder).returncode
+rtlib = types.SimpleNamespace(Crate=Crate)
+def main(words):
+    it = Crate(os.getcwd(), "", {})
+    it.name = "caller"
+    build = 'cd code && "$4/bin/clang" -c module.bc && cat "$4/lib/here"'
+    return it.call("sh", "-c", build, *words, "--toolchain", os.environ["TOOLS"])
+'''
+
+
+@pytest.mark.parametrize("words, kept", [
+    pytest.param(["build", "--crate-type", "staticlib"], ["caller.bc"], id="launcher_keeps_the_code_of_a_static_library"),
+    pytest.param(["build", "--crate-type", "library"], [], id="launcher_keeps_no_code_of_another_library"),
+])
+def test_code(chain: Repository, words: list[str], kept: list[str]) -> None:
+    tools = chain.bin / "the tools"
+    for name, text in (("bin/clang", "#!/bin/sh\necho compiled $*\n"), ("lib/here", "a file\n")):
+        (tools / name).parent.mkdir(parents=True)
+        (tools / name).write_text(text)
+        (tools / name).chmod(0o755)
+    for name in ("code", "out"):
+        (chain.caller / name).mkdir()
+    (chain.caller / "code/module.bc").write_text("code")
+    head, _, tail = DRIVER.partition("rtlib =")
+    (chain.bin / "rt").write_text(head.replace("import os,", "import os, subprocess,") + KEPT + tail[tail.index("if __name__"):])
+    ended = subprocess.run([sys.executable, str(chain.top / "tools/launcher.py"), "rt", *words], cwd=chain.caller,
+                           env={**chain.environment(None, None), "TOOLS": str(tools)}, capture_output=True, text=True, check=False)
+    assert (ended.returncode, ended.stdout) == (0, "compiled -c module.bc\na file\n"), ended.stderr
+    assert [(it.name, it.read_text()) for it in (chain.caller / "out").iterdir()] == [(it, "code") for it in kept]
+
+
 def test_launcher_notes_the_libraries_of_a_passed_gate(chain: Repository) -> None:
     (chain.bin / "rt").write_text(DRIVER)
     for name in ("low", "middle"):

@@ -23,6 +23,7 @@ import importlib.machinery
 import importlib.util
 import os
 import re
+import shlex
 import shutil
 import signal
 import subprocess
@@ -549,7 +550,8 @@ class Build:
             self._note(name).write_bytes(b"")
             # As old as the build's beginning, so that what was edited meanwhile is newer.
             for made in (self._note(name), *([self.made] if name == self.crates.crate else [])):
-                os.utime(made, ns=(self.began, self.began))
+                for it in {made, *made.parent.glob("*.bc")}:
+                    os.utime(it, ns=(self.began, self.began))
         self._let_go(name)
 
     def _keep_what_was_proved(self, name: str) -> None:
@@ -745,6 +747,43 @@ def once(method: Callable[[Any], Any]) -> Callable[[Any], Any]:
     return call
 
 
+KEEPING_CLANG = """#!/bin/sh
+# The toolchain's clang, which first keeps the intermediate code that it is given.
+for code in *.bc; do [ ! -e "$code" ] || cp -- "$code" {kept}; done
+exec {clang} "$@"
+"""
+
+
+def keeping(toolchain: Path, kept: Path, room: Path) -> Path:
+    """The toolchain's folder of compilers again, with a clang that keeps what it is given."""
+    made = room / "bin"
+    made.mkdir()
+    for it in toolchain.iterdir():
+        if it.name != "bin":
+            (room / it.name).symlink_to(it)
+    for it in (toolchain / "bin").iterdir():
+        if it.name != "clang":
+            (made / it.name).symlink_to(it)
+    (made / "clang").write_text(KEEPING_CLANG.format(
+        kept=shlex.quote(str(kept)), clang=shlex.quote(str(toolchain / "bin/clang"))), encoding="utf-8")
+    (made / "clang").chmod(0o755)
+    return room
+
+
+def with_code(method: Callable[..., int]) -> Callable[..., int]:
+    """Calls of `rattle build` that make a static library leave its intermediate code beside it, as out/NAME.bc."""
+
+    def call(self: Any, *words: str) -> int:
+        if not {"staticlib", "--toolchain"}.issubset(words):
+            return method(self, *words)
+        at = words.index("--toolchain") + 1
+        with tempfile.TemporaryDirectory() as room:
+            tools = keeping(Path(words[at]), Path(self.folder, "out", f"{self.name}.bc"), Path(room))
+            return method(self, *words[:at], str(tools), *words[at + 1:])
+
+    return call
+
+
 def driver_once() -> Optional[ModuleType]:
     """The driver, with the checksum of each crate taken once; None where it is not the script that this knows.
 
@@ -756,6 +795,8 @@ def driver_once() -> Optional[ModuleType]:
     if driver:
         crate = driver.rtlib.Crate
         crate.below, crate.stamp = once(crate.below), once(crate.stamp)
+        if callable(getattr(crate, "call", None)):
+            crate.call = with_code(crate.call)
     return driver
 
 
