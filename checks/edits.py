@@ -1,9 +1,9 @@
 #!/usr/bin/env python3
 """Tries wrong bodies that the check must refuse, each by the proof of the function that it changes.
 
-usage: checks/edits.py [--new] [--jobs N] [CRATE..]     those of these crates, or all
-       checks/edits.py [--new] [--jobs N] --since REV   those of the crates that differ from a commit
-       checks/edits.py --check                          tries none: where the edits and state.txt differ
+usage: checks/edits.py [--new] [--jobs N] [CRATE[/EDIT]..]   these, or those of these crates, or all
+       checks/edits.py [--new] [--jobs N] --since REV        those of the crates that differ from a commit
+       checks/edits.py --check                               tries none: where the edits and state.txt differ
 
 --new tries only those that were not tried on the sources as they stand.
 
@@ -39,7 +39,7 @@ TOP = Path(__file__).resolve().parent.parent
 EDITS = TOP / "checks/edits"
 STATES, BODIES = EDITS / "state.txt", EDITS / "wrong_bodies.txt"
 SOURCES = ("src", "specs", "proofs")
-FUNCTION = re.compile(r"( *)(?:pub(?:\([a-z]+\))? )?(?:const )?fn (\w+)")
+FUNCTION = re.compile(r'( *)(?:pub(?:\([a-z]+\))? )?(?:const |unsafe |extern "C" )*fn (\w+)')
 IMPLEMENTED = re.compile(r"impl(?:<.*?>)? (?:.* for )?&?(\w+)")
 MISSING_NAME = re.compile(r"(note: )?(\./)?proofs/.*(has no field|is not in scope|has no `|was not admitted)")
 
@@ -68,7 +68,7 @@ def git(*words: str, index: Optional[str] = None) -> str:
 
 def sources_of(name: str) -> str:
     """Git's checksum of an edit and of its crate's sources, as they stand."""
-    crate = name.partition("/")[0]
+    crate = crate_of(name)
     with tempfile.TemporaryDirectory() as room:
         parts = [f"crates/{crate}/{part}" for part in SOURCES if (TOP / "crates" / crate / part).is_dir()]
         git("add", "--force", "--", *parts, f"checks/edits/{name}.edit", index=f"{room}/index")
@@ -77,6 +77,10 @@ def sources_of(name: str) -> str:
 
 def edits() -> dict[str, Path]:
     return {f"{it.parent.name}/{it.stem}": it for it in sorted(EDITS.glob("*/*.edit"))}
+
+
+def crate_of(name: str) -> str:
+    return name.partition("/")[0]
 
 
 def states() -> dict[str, State]:
@@ -169,7 +173,7 @@ def try_all(names: list[str], jobs: int) -> int:
     found, every, failed = states(), edits(), 0
 
     def one(name: str) -> str:
-        folder = TOP / "crates" / name.partition("/")[0]
+        folder = TOP / "crates" / crate_of(name)
         return tried(driver, driver.rtlib.Crate(str(folder), str(TOP), known), every[name])
 
     with ThreadPoolExecutor(jobs) as pool:
@@ -185,7 +189,7 @@ def try_all(names: list[str], jobs: int) -> int:
 def differences() -> int:
     """Says which edits have no state, which states no edit, and which are not refused; how many were tried on other sources."""
     found, every = states(), edits()
-    wrong = [f"{it} has no line in state.txt: checks/edits.py {it.partition('/')[0]} tries it" for it in every if it not in found]
+    wrong = [f"{it} has no line in state.txt: checks/edits.py {it} tries it" for it in every if it not in found]
     wrong += [f"{it} of state.txt is no edit" for it in found if it not in every]
     wrong += [f"{it} is {found[it].state}, and not refused" for it in every if it in found and found[it].state != "refused"]
     named = re.findall(r": ((?:crates|checks)/\S+\.edit)$", BODIES.read_text(encoding="utf-8"), re.M)
@@ -200,7 +204,7 @@ def differences() -> int:
 
 def main() -> int:
     parser = argparse.ArgumentParser(description=__doc__, formatter_class=argparse.RawDescriptionHelpFormatter)
-    parser.add_argument("crates", nargs="*", metavar="CRATE")
+    parser.add_argument("chosen", nargs="*", metavar="CRATE[/EDIT]")
     parser.add_argument("--since", metavar="REV")
     parser.add_argument("--jobs", type=int, default=1)
     parser.add_argument("--check", action="store_true")
@@ -208,13 +212,13 @@ def main() -> int:
     words = parser.parse_args()
     if words.check:
         return differences()
-    every, crates = edits(), set(words.crates)
-    for it in sorted(crates - {name.partition("/")[0] for name in every}):
-        parser.error(f"{it} has no edit in checks/edits")
+    every, asked = edits(), set(words.chosen)
+    for it in sorted(asked - {*every, *map(crate_of, every)}):
+        parser.error(f"{it} is nothing in checks/edits")
     if words.since:
         changed = [it.split("/") for it in git("diff", "--name-only", words.since, "--", "crates", "checks/edits").splitlines()]
-        crates |= {it[2] if it[0] == "checks" else it[1] for it in changed if it[0] == "checks" or it[2] in SOURCES}
-    chosen = [it for it in every if not (words.crates or words.since) or it.partition("/")[0] in crates]
+        asked |= {it[2] if it[0] == "checks" else it[1] for it in changed if it[0] == "checks" or it[2] in SOURCES}
+    chosen = [it for it in every if not (words.chosen or words.since) or {it, crate_of(it)} & asked]
     found = states()
     old = {it for it in chosen if words.new and it in found and found[it].sources == sources_of(it)}
     return try_all([it for it in chosen if it not in old], words.jobs)
