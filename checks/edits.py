@@ -170,7 +170,7 @@ def try_all(names: list[str], jobs: int) -> int:
         return 2
     driver.rtlib.guarded()
     known: dict[str, Any] = {}
-    found, every, failed = states(), edits(), 0
+    every, failed = edits(), 0
 
     def one(name: str) -> str:
         folder = TOP / "crates" / crate_of(name)
@@ -180,7 +180,7 @@ def try_all(names: list[str], jobs: int) -> int:
         for name, state in zip(names, pool.map(one, names)):
             failed += state != "refused"
             if state:
-                found[name] = State(state, sources_of(name), datetime.date.today().isoformat())
+                found = {**states(), name: State(state, sources_of(name), datetime.date.today().isoformat())}
                 write_states({it: found[it] for it in found if it in every})
     print(f"{len(names) - failed} refused, {failed} not")
     return 1 if failed else 0
