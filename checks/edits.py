@@ -1,21 +1,24 @@
 #!/usr/bin/env python3
 """Tries wrong bodies that the check must refuse, each by the proof of the function that it changes.
 
-usage: checks/edits.py [--jobs N] [CRATE..]     those of these crates, or all
-       checks/edits.py [--jobs N] --since REV   those of the crates that differ from a commit
-       checks/edits.py --check                  tries none: where the edits and state.txt differ
+usage: checks/edits.py [--new] [--jobs N] [CRATE[/EDIT]..]   these, or those of these crates, or all
+       checks/edits.py [--new] [--jobs N] --since REV        those of the crates that differ from a commit
+       checks/edits.py --check                               tries none: where the edits and state.txt differ
+
+--new tries only those that were not tried on the sources as they stand.
 
 The edits stand in checks/edits/CRATE/, in the form of those in crates/CRATE/must-fail/, which `rt ci` tries: there the
 first of a crate costs the whole proof once more. Here one takes 20 to 60 s, of the crates at the top up to 150, and the
 libraries below the crate have to be built (`rt ci CRATE`). What each came to, on which sources and when, stands in
-checks/edits/state.txt:
+checks/edits/state.txt; wrong_bodies.txt beside it names the edits, here and there, that no contract may let pass.
 
     refused   the proof of the function fails, for another reason than a name that is missing
     proved    the crate is proved with it: a contract says too little, or the edit changes no meaning
     bad       it does not apply, is no Rattle, or takes a name away that a proof cites
     limit     the check ran into a limit and gave no verdict
 
-The sources are told by git's checksum of the crate's src/, specs/ and proofs/. The status is 0 where each is refused.
+The sources are told by git's checksum of the crate's src/, specs/ and proofs/ with the edit; those of the crates below
+are not in it. The status is 0 where each is refused.
 """
 from __future__ import annotations
 
@@ -34,9 +37,9 @@ from typing import Any, Iterator, NamedTuple, Optional
 
 TOP = Path(__file__).resolve().parent.parent
 EDITS = TOP / "checks/edits"
-STATES = EDITS / "state.txt"
+STATES, BODIES = EDITS / "state.txt", EDITS / "wrong_bodies.txt"
 SOURCES = ("src", "specs", "proofs")
-FUNCTION = re.compile(r"( *)(?:pub(?:\([a-z]+\))? )?(?:const )?fn (\w+)")
+FUNCTION = re.compile(r'( *)(?:pub(?:\([a-z]+\))? )?(?:const |unsafe |extern "C" )*fn (\w+)')
 IMPLEMENTED = re.compile(r"impl(?:<.*?>)? (?:.* for )?&?(\w+)")
 MISSING_NAME = re.compile(r"(note: )?(\./)?proofs/.*(has no field|is not in scope|has no `|was not admitted)")
 
@@ -63,16 +66,21 @@ def git(*words: str, index: Optional[str] = None) -> str:
     return subprocess.run(["git", *words], cwd=TOP, env=where, check=True, capture_output=True, text=True).stdout
 
 
-def sources_of(crate: str) -> str:
-    """Git's checksum of the crate's sources as they stand."""
+def sources_of(name: str) -> str:
+    """Git's checksum of an edit and of its crate's sources, as they stand."""
+    crate = crate_of(name)
     with tempfile.TemporaryDirectory() as room:
         parts = [f"crates/{crate}/{part}" for part in SOURCES if (TOP / "crates" / crate / part).is_dir()]
-        git("add", "--force", "--", *parts, index=f"{room}/index")
-        return git("write-tree", f"--prefix=crates/{crate}/", index=f"{room}/index")[:12]
+        git("add", "--force", "--", *parts, f"checks/edits/{name}.edit", index=f"{room}/index")
+        return git("write-tree", index=f"{room}/index")[:12]
 
 
 def edits() -> dict[str, Path]:
     return {f"{it.parent.name}/{it.stem}": it for it in sorted(EDITS.glob("*/*.edit"))}
+
+
+def crate_of(name: str) -> str:
+    return name.partition("/")[0]
 
 
 def states() -> dict[str, State]:
@@ -162,17 +170,17 @@ def try_all(names: list[str], jobs: int) -> int:
         return 2
     driver.rtlib.guarded()
     known: dict[str, Any] = {}
-    found, every, failed = states(), edits(), 0
+    every, failed = edits(), 0
 
     def one(name: str) -> str:
-        folder = TOP / "crates" / name.partition("/")[0]
+        folder = TOP / "crates" / crate_of(name)
         return tried(driver, driver.rtlib.Crate(str(folder), str(TOP), known), every[name])
 
     with ThreadPoolExecutor(jobs) as pool:
         for name, state in zip(names, pool.map(one, names)):
             failed += state != "refused"
             if state:
-                found[name] = State(state, sources_of(name.partition("/")[0]), datetime.date.today().isoformat())
+                found = {**states(), name: State(state, sources_of(name), datetime.date.today().isoformat())}
                 write_states({it: found[it] for it in found if it in every})
     print(f"{len(names) - failed} refused, {failed} not")
     return 1 if failed else 0
@@ -181,11 +189,13 @@ def try_all(names: list[str], jobs: int) -> int:
 def differences() -> int:
     """Says which edits have no state, which states no edit, and which are not refused; how many were tried on other sources."""
     found, every = states(), edits()
-    wrong = [f"{it} has no line in checks/edits/state.txt: checks/edits.py {it.partition('/')[0]} tries it" for it in every if it not in found]
-    wrong += [f"{it} of checks/edits/state.txt is no edit" for it in found if it not in every]
+    wrong = [f"{it} has no line in state.txt: checks/edits.py {it} tries it" for it in every if it not in found]
+    wrong += [f"{it} of state.txt is no edit" for it in found if it not in every]
     wrong += [f"{it} is {found[it].state}, and not refused" for it in every if it in found and found[it].state != "refused"]
-    now = {it: sources_of(it) for it in {name.partition("/")[0] for name in every}}
-    old = [it for it in every if it in found and found[it].sources != now[it.partition("/")[0]]]
+    named = re.findall(r": ((?:crates|checks)/\S+\.edit)$", BODIES.read_text(encoding="utf-8"), re.M)
+    wrong += [f"{it} of wrong_bodies.txt is no edit" for it in named if not (TOP / it).is_file()]
+    wrong += [] if named else ["wrong_bodies.txt names no edit"]
+    old = [it for it in every if it in found and found[it].sources != sources_of(it)]
     print(*wrong, sep="\n", end="\n" if wrong else "")
     if old:
         print(f"{len(old)} of {len(every)} edits were tried on other sources than these, as {old[0]}", file=sys.stderr)
@@ -194,21 +204,24 @@ def differences() -> int:
 
 def main() -> int:
     parser = argparse.ArgumentParser(description=__doc__, formatter_class=argparse.RawDescriptionHelpFormatter)
-    parser.add_argument("crates", nargs="*", metavar="CRATE")
+    parser.add_argument("chosen", nargs="*", metavar="CRATE[/EDIT]")
     parser.add_argument("--since", metavar="REV")
     parser.add_argument("--jobs", type=int, default=1)
     parser.add_argument("--check", action="store_true")
-    parser.add_argument("--new", action="store_true", help="only those without a line in state.txt")
+    parser.add_argument("--new", action="store_true")
     words = parser.parse_args()
     if words.check:
         return differences()
-    crates = words.crates
+    every, asked = edits(), set(words.chosen)
+    for it in sorted(asked - {*every, *map(crate_of, every)}):
+        parser.error(f"{it} is nothing in checks/edits")
     if words.since:
-        changed = git("diff", "--name-only", words.since, "--", "crates", "checks/edits").splitlines()
-        parts = [it.split("/") for it in changed]
-        crates = [it[1] for it in parts if it[0] == "crates" and it[2] in SOURCES] + [it[2] for it in parts if it[0] == "checks"]
-    chosen = [it for it in edits() if not (words.crates or words.since) or it.partition("/")[0] in crates]
-    return try_all([it for it in chosen if not words.new or it not in states()], words.jobs)
+        changed = [it.split("/") for it in git("diff", "--name-only", words.since, "--", "crates", "checks/edits").splitlines()]
+        asked |= {it[2] if it[0] == "checks" else it[1] for it in changed if it[0] == "checks" or it[2] in SOURCES}
+    chosen = [it for it in every if not (words.chosen or words.since) or {it, crate_of(it)} & asked]
+    found = states()
+    old = {it for it in chosen if words.new and it in found and found[it].sources == sources_of(it)}
+    return try_all([it for it in chosen if it not in old], words.jobs)
 
 
 if __name__ == "__main__":
