@@ -17,6 +17,7 @@ from hypothesis import given, strategies as st
 
 from place import table
 from random_runs import random_runs
+from same import same
 
 Square = tuple[int, int, int]
 
@@ -228,14 +229,14 @@ class Flight:
         view = View(self.plain)
         split, blocked = frame_of(self.plain, view)
         leaves, note = leaves_of(split), self.world.frame()
-        assert self.world.leaves() == leaves, "the mesh is another"
-        assert (note.triangles, note.worst) == (len(leaves), view.worst(leaves)), "the worst is another"
-        assert (note.blocking, note.need) == (blocked or (0, 0)), "what blocks is another"
+        same(self.world.leaves(), leaves, "the mesh is another")
+        same((note.triangles, note.worst), (len(leaves), view.worst(leaves)), "the worst is another")
+        same((note.blocking, note.need), blocked or (0, 0), "what blocks is another")
         mesh = [self.plain.corners[a] for a in leaves]
         assert cracks.crack_in(mesh, self.plain.m, self.plain.m) is None
         assert {point for triangle in mesh for point in triangle} <= set(self.plain.heights)
         if type(self.plain) is worlds.World:  # where priorities do not fall the steps may have no end
-            assert run_of_steps(self.plain, view, self.split) == (split, note.splits, note.merges), "the steps are others"
+            same(run_of_steps(self.plain, view, self.split), (split, note.splits, note.merges), "the steps are another's")
         self.split, self.worst = split, note.worst
 
     def fly(self, steps: int) -> None:
@@ -290,6 +291,38 @@ class NoneBesideIsNeeded(worlds.World):
 class HeightsNeedNotAgree(worlds.World):
     def may_load(self, square: Square, heights: list[int]) -> bool:
         return len(heights) == (self.steps + 1) ** 2 and bool(self.has_room(square))
+
+
+class Wrong:
+    """What the library tells of a frame, of which one thing is wrong."""
+
+    def __init__(self, world: Any, wrong: str) -> None:
+        self.world, self.wrong = world, wrong
+
+    def __getattr__(self, name: str) -> Any:
+        return getattr(self.world, name)
+
+    def leaves(self) -> list[int]:
+        found: list[int] = self.world.leaves()
+        return found[::-1] if self.wrong == "leaves" else found
+
+    def frame(self) -> Any:
+        note = self.world.frame()
+        if self.wrong != "leaves":
+            setattr(note, self.wrong, getattr(note, self.wrong) + 1)
+        return note
+
+
+@table("wrong, why", *((f"a_frame_with_wrong_{wrong}_is_found", wrong, why) for wrong, why in (
+    ("leaves", "the mesh is another"), ("triangles", "the worst is another"), ("worst", "the worst is another"),
+    ("blocking", "what blocks is another"), ("need", "what blocks is another"), ("splits", "the steps are another's"),
+    ("merges", "the steps are another's"))))
+def test_a_wrong_frame(library: Library, wrong: str, why: str) -> None:
+    flight = Flight(library, random.Random(1), worlds.World)
+    flight.world = Wrong(flight.world, wrong)
+    with pytest.raises(AssertionError, match=why):
+        flight.frame()
+    flight.close()
 
 
 @table("wrong", *((wrong.__name__, wrong) for wrong in (
