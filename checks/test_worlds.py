@@ -236,7 +236,7 @@ class Flight:
         assert cracks.crack_in(mesh, self.plain.m, self.plain.m) is None
         assert {point for triangle in mesh for point in triangle} <= set(self.plain.heights)
         if type(self.plain) is worlds.World:  # where priorities do not fall the steps may have no end
-            same(run_of_steps(self.plain, view, self.split), (split, note.splits, note.merges), "the steps are another's")
+            same(run_of_steps(self.plain, view, self.split), (split, note.splits, note.merges), "the steps are others")
         self.split, self.worst = split, note.worst
 
     def fly(self, steps: int) -> None:
@@ -291,38 +291,6 @@ class NoneBesideIsNeeded(worlds.World):
 class HeightsNeedNotAgree(worlds.World):
     def may_load(self, square: Square, heights: list[int]) -> bool:
         return len(heights) == (self.steps + 1) ** 2 and bool(self.has_room(square))
-
-
-class Wrong:
-    """What the library tells of a frame, of which one thing is wrong."""
-
-    def __init__(self, world: Any, wrong: str) -> None:
-        self.world, self.wrong = world, wrong
-
-    def __getattr__(self, name: str) -> Any:
-        return getattr(self.world, name)
-
-    def leaves(self) -> list[int]:
-        found: list[int] = self.world.leaves()
-        return found[::-1] if self.wrong == "leaves" else found
-
-    def frame(self) -> Any:
-        note = self.world.frame()
-        if self.wrong != "leaves":
-            setattr(note, self.wrong, getattr(note, self.wrong) + 1)
-        return note
-
-
-@table("wrong, why", *((f"a_frame_with_wrong_{wrong}_is_found", wrong, why) for wrong, why in (
-    ("leaves", "the mesh is another"), ("triangles", "the worst is another"), ("worst", "the worst is another"),
-    ("blocking", "what blocks is another"), ("need", "what blocks is another"), ("splits", "the steps are another's"),
-    ("merges", "the steps are another's"))))
-def test_a_wrong_frame(library: Library, wrong: str, why: str) -> None:
-    flight = Flight(library, random.Random(1), worlds.World)
-    flight.world = Wrong(flight.world, wrong)
-    with pytest.raises(AssertionError, match=why):
-        flight.frame()
-    flight.close()
 
 
 @table("wrong", *((wrong.__name__, wrong) for wrong in (
