@@ -11,6 +11,7 @@ from pathlib import Path
 
 import greedy
 from place import Place
+from same import same
 
 Ended = tuple[int, str, dict[str, bytes]]
 
@@ -56,9 +57,9 @@ class Both:
         found: Ended = (self.ours.status, self.ours.report.decode(errors="replace"), meshes_in(self.ours.folder))
         wanted = plain(self.plain, *words)
         text = " ".join(map(str, words))
-        assert found[:2] == wanted[:2], f"'{text}': status and report {found[:2]}, not {wanted[:2]}"
-        assert sorted(found[2]) == sorted(wanted[2]), f"'{text}': meshes {sorted(found[2])}, not {sorted(wanted[2])}"
-        assert found[2] == wanted[2], f"'{text}': {[name for name in found[2] if found[2][name] != wanted[2][name]]} differ"
+        same(found[:2], wanted[:2], f"'{text}': status and report {found[:2]}, not {wanted[:2]}")
+        same(sorted(found[2]), sorted(wanted[2]), f"'{text}': meshes {sorted(found[2])}, not {sorted(wanted[2])}")
+        same(found[2], wanted[2], f"'{text}': {[name for name in found[2] if found[2][name] != wanted[2][name]]} differ")
         return found
 
 

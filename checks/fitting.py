@@ -13,6 +13,7 @@ import sys
 from fractions import Fraction
 
 from frames import forced, leaves_of, vertices_of
+from same import same
 from strips import deviation, points_off
 from terrain import Terrain
 
@@ -126,7 +127,7 @@ def compare(n, seed):
         within = [(count, split) for worst, count, split in meshes if worst <= tolerance]
         fewest = min(count for count, _ in within)
         best = [split for count, split in within if count == fewest]
-        assert len(best) == 1 and best[0] == fit_error(terrain, errors, tolerance), "another set has as few triangles for the error"
+        same(best, [fit_error(terrain, errors, tolerance)], "another set has as few triangles for the error")
         assert all(best[0] <= split for _, split in within), "a set within the error lacks a split of the least one"
     kept = [set(roll.sample(sorted(heights), roll.randint(1, 3))) for _ in range(6)]
     for tolerance, points in zip(roll.choices(sorted({worst for worst, _, _ in meshes}), k=len(kept)), kept):
@@ -134,7 +135,7 @@ def compare(n, seed):
                   if worst <= tolerance and points <= set(vertices_of(terrain, leaves_of(split)))]
         fewest = min(count for count, _ in within)
         best = [split for count, split in within if count == fewest]
-        assert best == [fit_error(terrain, errors, tolerance, points)], "another set with the points has as few triangles for the error"
+        same(best, [fit_error(terrain, errors, tolerance, points)], "another set with the points has as few triangles for the error")
     for points in kept:
         own = {point: roll.choice([None, 0, 1000 * roll.randint(0, maxval)]) for point in heights}
         excesses = Excesses(terrain, own)
@@ -142,11 +143,11 @@ def compare(n, seed):
                   if excesses.worst(split) == 0 and points <= set(vertices_of(terrain, leaves_of(split)))]
         fewest = min(count for count, _ in within)
         best = [split for count, split in within if count == fewest]
-        assert best == [fit_error(terrain, excesses, 0, points)], "another set within the tolerances has as few triangles"
+        same(best, [fit_error(terrain, excesses, 0, points)], "another set within the tolerances has as few triangles")
     for budget in range(2, 2 * m * m + 2):
         worst, count = min((worst, count) for worst, count, _ in meshes if count <= budget)
         best = [split for other, size, split in meshes if other == worst and size == count]
-        assert len(best) == 1 and best[0] == fit_budget(terrain, errors, budget), "another set of the budget is as near with as few triangles"
+        same(best, [fit_budget(terrain, errors, budget)], "another set of the budget is as near with as few triangles")
     return len(meshes)
 
 

@@ -17,6 +17,7 @@ from alike import both, plain
 from conftest import CHECKS
 from place import Place, table
 from random_runs import Roll, Run, random_runs
+from same import same
 
 
 def rough_grid(side: int, seed: int) -> bytes:
@@ -142,7 +143,7 @@ def test_the_generated_run_of_level_9_with_a_folder_under_the_name_of_mesh_3(lev
     assert (place.status, place.report) == (6, b"".join(level_9.report.splitlines(keepends=True)[:2]))
     assert place.meshes() == ["out000001.obj", "out000002.obj"]
     for name in place.meshes():
-        assert place.read(name) == level_9.read(name)
+        same(place.read(name), level_9.read(name), f"{name} is another")
 
 
 # The plain loop of `fit` beside all closed sets of small grids.

@@ -14,6 +14,7 @@ from urllib.parse import unquote, urlsplit
 import pytest
 
 from conftest import TOP
+from same import same
 
 RESULTS = TOP / "bench/results.md"
 FOLDERS = (".", "docs", "bench", "examples", "examples/*", "python", "lib", "lib/*", "crates/*")
@@ -111,6 +112,24 @@ def unknown_figures(text: str, results: str) -> list[str]:
     """Minutes and megabytes of a page that bench/results.md has not, and those that no script could compare."""
     found = [f"{number} {unit} is not in bench/results.md" for number, unit in sorted(figures(text) - figures(results))]
     return found + [f"'{it}': in digits, as in bench/results.md" for it in IN_WORDS.findall(without_code(text))]
+
+
+def test_meshes_are_compared_by_the_call_that_refuses_one_with_itself() -> None:
+    """same.py; a list of addresses, indices or bytes that is written out, or a count, may stand beside `==`."""
+    told = re.compile(r"\.(leaves|indices|positions|meshes)\(\) [!=]= [^\[(]|[!=]= \w+\.(leaves|indices|positions)\(\)")
+    wrong = [f"{file.name}: {line.strip()}" for file in sorted((TOP / "checks").glob("*.py"))
+             for line in file.read_text(encoding="utf-8").splitlines() if told.search(line)]
+    assert not wrong, "; ".join(wrong)
+
+
+@pytest.mark.parametrize("other", [
+    pytest.param([2, 3], id="a_mesh_is_not_compared_with_itself"), pytest.param([3, 2], id="another_mesh_is_told"),
+])
+def test_same(other: list[int]) -> None:
+    mesh = [2, 3]
+    same(mesh, [2, 3], "the mesh is another")
+    with pytest.raises(AssertionError, match="the mesh is another"):
+        same(mesh, mesh if mesh == other else other, "the mesh is another")
 
 
 def test_the_pages_are_there() -> None:

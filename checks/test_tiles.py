@@ -24,6 +24,7 @@ from conftest import TOP, ran
 from fitters import UNCOUNTED, Fitter, Library, Mosaic, Refused, Request
 from place import table
 from random_runs import Roll, random_runs
+from same import same
 
 Triangle = tuple[tuple[int, int], ...]
 
@@ -147,10 +148,10 @@ def check_mesh(ground: Ground, terrain: Terrain, fitter: Fitter, split: set[int]
     places = {ground.place(point) for triangle in corners for point in triangle}
     rim = {0, terrain.m}
     border = [k for k in sorted(places) if rim & set(ground.point(k)) and not set(ground.point(k)) <= rim]
-    assert fitter.leaves() == leaves, "the mesh is another"
-    assert fitter.indices() == [ground.place(point) for triangle in corners for point in triangle], "its corners are others"
-    assert fitter.border() == border, "its border is another"
-    assert fitter.deviation() == (deviation(terrain, leaves), terrain.m), "it is off by something else"
+    same(fitter.leaves(), leaves, "the mesh is another")
+    same(fitter.indices(), [ground.place(point) for triangle in corners for point in triangle], "its corners are others")
+    same(fitter.border(), border, "its border is another")
+    same(fitter.deviation(), (deviation(terrain, leaves), terrain.m), "it is off by something else")
 
 
 @given(st.data())
@@ -166,7 +167,7 @@ def test_a_fitter_finds_the_mesh_of_the_plain_loop(library: Library, data: Any) 
     assert fitter.fit(request) == len(split) + 2
     check_mesh(ground, terrain, fitter, split)
     indices, note = fitters.fit_with(library, ground.heights, request)
-    assert indices == fitter.indices()
+    same(indices, fitter.indices(), "the indices are others")
     assert (note.triangles, note.vertices) == (len(split) + 2, len(set(indices)))
     assert (note.off, note.over) == fitter.deviation()
 
@@ -344,7 +345,7 @@ def check_mosaic(library: Library, tiles: Tiles, roll: random.Random, **kinds: A
     found = fitted_in_rounds(library, tiles, roll, **kinds)
     wanted = tiles.plain()
     for tile, fitter in found.items():
-        assert fitter.leaves() == wanted[tile], f"tile {tile} has another mesh"
+        same(fitter.leaves(), wanted[tile], f"tile {tile} has another mesh")
     crack = cracks.crack_in(tiles.mesh(found), tiles.columns * 2 ** tiles.n, tiles.rows * 2 ** tiles.n)
     assert crack is None, f"a crack: {crack}"
     for fitter in found.values():

@@ -17,6 +17,7 @@ from hypothesis import given, strategies as st
 
 from place import table
 from random_runs import random_runs
+from same import same
 
 Square = tuple[int, int, int]
 
@@ -228,14 +229,14 @@ class Flight:
         view = View(self.plain)
         split, blocked = frame_of(self.plain, view)
         leaves, note = leaves_of(split), self.world.frame()
-        assert self.world.leaves() == leaves, "the mesh is another"
-        assert (note.triangles, note.worst) == (len(leaves), view.worst(leaves)), "the worst is another"
-        assert (note.blocking, note.need) == (blocked or (0, 0)), "what blocks is another"
+        same(self.world.leaves(), leaves, "the mesh is another")
+        same((note.triangles, note.worst), (len(leaves), view.worst(leaves)), "the worst is another")
+        same((note.blocking, note.need), blocked or (0, 0), "what blocks is another")
         mesh = [self.plain.corners[a] for a in leaves]
         assert cracks.crack_in(mesh, self.plain.m, self.plain.m) is None
         assert {point for triangle in mesh for point in triangle} <= set(self.plain.heights)
         if type(self.plain) is worlds.World:  # where priorities do not fall the steps may have no end
-            assert run_of_steps(self.plain, view, self.split) == (split, note.splits, note.merges), "the steps are others"
+            same(run_of_steps(self.plain, view, self.split), (split, note.splits, note.merges), "the steps are others")
         self.split, self.worst = split, note.worst
 
     def fly(self, steps: int) -> None:
