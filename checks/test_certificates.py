@@ -51,21 +51,21 @@ def judge(place: Place, alone: Path, status: int, line: str, *words: object, is_
 
 # Checkers and programs that are right except for one thing: each is found. `$0` is the right program.
 @table(
-    "checker, program, text",
+    "checker, line, text",
     ("a_judgement_that_is_right", "", '"$0" "$@"', None),
     ("a_checker_with_another_status", "sys.exit(7)", '"$0" "$@"', "the checker says .* with status 7"),
     ("a_checker_with_another_line", "print('rejected: bad reason 1')", '"$0" "$@"', "the checker says 'rejected"),
     ("a_program_with_another_status", "", '"$0" "$@"; exit 7', "the program says something else"),
     ("a_program_with_another_line", "", '"$0" "$@" | sed s/worst/wurst/', "the program says something else"),
 )
-def test_a_judgement_finds(place: Place, alone: Path, checker: str, program: str, text: Optional[str]) -> None:
+def test_a_judgement_finds(place: Place, alone: Path, checker: str, line: str, text: Optional[str]) -> None:
     place.write("c", place.run("certify", "make", "g", 0, 0, 0, 2, 1).report)
     place.write("o", flat_mesh(2))
     other = place.folder / "other"
     shutil.copytree(alone, other)
     if checker:
         (other / "certificates.py").write_text(f"import sys\n{checker}\n")
-    wrong = place.write("wrong", f"#!/bin/sh\nexec /bin/sh -c '{program}' '{place.program}' \"$@\"\n")
+    wrong = place.write("wrong", f"#!/bin/sh\nexec /bin/sh -c '{line}' '{place.program}' \"$@\"\n")
     wrong.chmod(0o755)
     place.program = wrong
     with contextlib.nullcontext() if text is None else pytest.raises(AssertionError, match=text):

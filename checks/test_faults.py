@@ -116,11 +116,13 @@ def opens(place: Place, telling: Path, *words: object, **how: Any) -> list[str]:
     ("a_mesh_that_cannot_be_made_is_opened_once", "mesh g s absent/out 2 1", 6, "g s absent/out000001.obj"),
     ("a_folder_as_mesh_is_opened_once", "fit g folder error 1 1", 6, "g folder000001.obj"),
     ("points_that_are_not_there_are_opened_once", "fit g out error 1 1 keep absent", 5, "g absent"),
-    ("a_certificate_that_is_not_there_is_opened_once", "certify check-fit g o absent error 1 1", 5, "g o absent"),
+    ("a_certificate_that_is_not_there_is_opened_once", "certify check-fit g o absent error 1 1", 5, "g absent"),
+    ("a_mesh_to_check_that_is_not_there_is_opened_once", "certify check-fit g absent c error 0 1", 5, "g c absent"),
 )
 def test_opens(place: Place, telling: Path, words: str, status: int, names: str) -> None:
     (place.folder / "folder000001.obj").mkdir()
     place.write("o", flat_mesh(2))
+    place.write("c", "tolerance 0\nmesh\n")
     assert sorted(opens(place, telling, *words.split())) == sorted(names.split())
     assert place.status == status
 

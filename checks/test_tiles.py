@@ -189,7 +189,7 @@ def test_a_fitter_finds_the_mesh_of_the_plain_loop(library: Library, data: Any) 
 @table(
     "method, lie, text",
     ("leaves_of_a_fitter_in_another_order", "leaves", fitters.exchanged, "the mesh is another"),
-    ("two_corners_of_a_fitter_exchanged", "indices", fitters.exchanged, "its corners are others"),
+    ("corners_of_a_fitter_in_another_order", "indices", lambda found: found[1:] + found[:1], "its corners are others"),
     ("a_border_of_a_fitter_without_its_last_point", "border", lambda found: found[:-1], "its border is another"),
     ("another_deviation_of_a_fitter", "deviation", lambda found: (found[0] + 1, found[1]), "it is off by something else"),
 )
@@ -378,12 +378,12 @@ def test_mosaic_of_rough_ground(library: Library, n: int, columns: int, rows: in
 @table(
     "kind, method, lie, text",
     ("leaves_of_a_tile_in_another_order", Fitter, "leaves", fitters.exchanged, "has another mesh"),
-    ("corners_of_a_tile_in_another_order", Fitter, "indices", fitters.exchanged, "a crack"),
+    ("a_tile_without_its_first_triangle", Fitter, "indices", lambda found: found[3:], "a crack"),
     ("a_mosaic_that_tells_no_tile", Mosaic, "next", lambda tile: None, "lacks a point"),
-    ("a_mosaic_that_requires_a_corner_more", Mosaic, "required", lambda it: ([*it[0], 0, 2], it[1]), "has another mesh"),
+    ("a_mosaic_that_requires_a_point_more", Mosaic, "required", lambda it: ([*it[0], 1], it[1]), "has another mesh"),
 )
 def test_the_comparison_of_a_mosaic_finds_lies(library: Library, kind: Any, method: str, lie: Any, text: str) -> None:
-    tiles = Tiles(1, 2, 2, rough(random.Random(3), 5, 5), 0)
+    tiles = Tiles(1, 2, 2, np.zeros((5, 5), np.int64), 0)
     kinds = {"fitter": Fitter, "rounds": Mosaic}
     check_mosaic(library, tiles, random.Random(1), **kinds)
     kinds["fitter" if kind is Fitter else "rounds"] = fitters.lying(kind, method, lie)

@@ -401,6 +401,9 @@ def check_frames(server, browser, name):
     printed = len(server.lines)
     browser.call("Page.navigate", url=f"http://127.0.0.1:{server.port}/?frames={FRAMES}&triangles=3000")
     done = browser.wait('document.title === "done"', 240)
+    until = time.monotonic() + 60
+    while len(server.lines) < printed + FRAMES and time.monotonic() < until:  # a thread reads them
+        time.sleep(0.05)
     told, lines = browser.said, [line.split(" ", 2)[2].strip() for line in server.lines[printed:]]
     decide(f"{name}_ten_frames_are_drawn", [] if done and len(told) == FRAMES else [f"{len(told)} frames", *browser.wrong])
     decide(f"{name}_no_error_in_the_console", browser.wrong)

@@ -261,7 +261,7 @@ def test_what_is_damaged_of_a_stopped_run_is_made_anew(tmp_path, terrain):
     built(terrain, tmp_path / "whole")
     with pytest.raises(Stop):
         built(terrain, tmp_path / "t", depth=1, progress=stopping(24))
-    kept = [path for path in glob.glob(f"{tmp_path}/t/.calfrewin/*/*") if os.path.basename(path) != "plan.json"]
+    kept = glob.glob(f"{tmp_path}/t/.calfrewin/*/*")
     assert {path.split("/")[-2].split("_")[0] for path in kept} == {"points", "meshes", "made"}
     for number, path in enumerate(sorted(kept)):
         data = bytearray(open(path, "rb").read())
