@@ -27,8 +27,8 @@ def is_built() -> bool:
 
 
 def build(by_sudo: bool = False) -> None:
-    """The library, built where that is due. Ends the process with a status where it cannot be."""
-    if is_built():
+    """The library, built where that is due and no other one is named. Ends the process with a status where it cannot be."""
+    if "CALFREWIN_LIBRARY" in os.environ or is_built():
         return
     import launcher
     provide({"cc": "gcc", "ar": "binutils"}, by_sudo)

@@ -213,7 +213,7 @@ class Plan:
             if is_fresh and fresh.issuperset(crates.below[name]):
                 fresh.add(name)
                 self.cost[name] = 1.0
-        self.stale = len(self.order) - len(fresh)
+        self.fresh, self.stale = fresh, len(self.order) - len(fresh)
         self.chain = dict(self.cost)
         for name in reversed(self.order):
             for it in crates.below[name]:
@@ -237,13 +237,14 @@ class Plan:
         return self.cost[name] * (alone + (1 - alone) / jobs)
 
     def has_taken(self, name: str, jobs: int, seconds: float) -> None:
-        """Notes a crate that is done."""
-        self.took, self.foretold = self.took + seconds, self.foretold + self.seconds(name, jobs)
+        """Notes a crate that is done; one that is only looked at tells nothing of the pace of proofs."""
+        if name not in self.fresh:
+            self.took, self.foretold = self.took + seconds, self.foretold + self.seconds(name, jobs)
 
     def measure(self, under_way: dict[str, tuple[int, float]]) -> None:
         """The pace by what is done, and by what is under way for longer than it was to take."""
         late = [(self.seconds(name, jobs), so_far) for name, (jobs, so_far) in under_way.items()
-                if so_far > self.seconds(name, jobs)]
+                if name not in self.fresh and so_far > self.seconds(name, jobs)]
         self.pace = (self.took + sum(it for _, it in late)) / (self.foretold + sum(it for it, _ in late))
 
     def seconds_left(self, done: Iterable[str], under_way: dict[str, tuple[int, float]], most: int) -> float:
