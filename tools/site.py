@@ -25,6 +25,7 @@ NAV: list[tuple[str, list[str]]] = [
             "docs/PYTHON.md",
             "docs/SCALE.md",
             "docs/LIBRARY.md",
+            "docs/JAVASCRIPT.md",
             "docs/REFERENCE.md",
             "docs/GRIDS.md",
             "docs/COMPARISON.md",
