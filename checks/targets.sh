@@ -52,9 +52,9 @@ if has targets_x86_64_windows x86_64-w64-mingw32-gcc wine &&
   target_answers x86_64-windows x86_64-w64-mingw32-gcc roam.lib env WINEDEBUG=-all "WINEPREFIX=$PWD/wine" wine
 fi
 for system in aarch64-macos x86_64-macos; do
-  if target_is_made "$system" lib/libroam.a lib/libroam.dylib; then
+  if has "targets_${system//-/_}" llvm-nm && target_is_made "$system" lib/libroam.a lib/libroam.dylib; then
     mapfile -t why < <(
-      diff <(python3 "$top/checks/js/exports.py" "$system/lib/libroam.dylib") \
+      diff <(llvm-nm -g --defined-only "$system/lib/libroam.dylib" | awk '{ print substr($3, 2) }' | sort) \
         <(sed -n 's/^[a-z_0-9]* \(roam_[a-z_]*\)(.*/\1/p' "$top/lib/roam.h" | sort) | grep '^[<>]'
     )
     decide "targets_${system//-/_}_exports_what_its_header_says" ${why[0]+"${why[@]}"}

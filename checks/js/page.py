@@ -1,4 +1,4 @@
-"""The page of examples/web in a headless Chromium, served as files and nothing else: a line 'ok NAME' or 'FAILED NAME: why' a check.
+"""The page of examples/web in a headless Chromium, served as files: a line 'ok NAME' or 'FAILED NAME: why' a check.
 
 usage: python3 checks/js/page.py TOP CHROMIUM PICTURES SAME
   TOP       a copy of js/ with its module, of examples/web, examples/jacksboro and checks/js
@@ -15,7 +15,6 @@ import struct
 import sys
 import tempfile
 import threading
-import time
 import zlib
 
 TOP = pathlib.Path(__file__).resolve().parents[2]
@@ -38,7 +37,7 @@ def served(top: pathlib.Path) -> http.server.ThreadingHTTPServer:
 
 
 def geotiff(side: int, heights: list[int], deflated: bool) -> bytes:
-    """A GeoTIFF of 16 bits in one strip, with differences where it is deflated; a tenth of its points have no height."""
+    """A GeoTIFF of 16 bits in one strip, with differences where it is deflated."""
     rows = []
     for y in range(side):
         row = heights[y * side:(y + 1) * side]
@@ -46,9 +45,9 @@ def geotiff(side: int, heights: list[int], deflated: bool) -> bytes:
     data = b"".join(struct.pack(f"<{side}H", *row) for row in rows)
     data = zlib.compress(data) if deflated else data
     nodata = b"0\0\0\0"
-    tags = [(256, 4, 1, side), (257, 4, 1, side), (258, 3, 1, 16), (259, 3, 1, 8 if deflated else 1), (273, 4, 1, 0), (277, 3, 1, 1),
-            (278, 4, 1, side), (279, 4, 1, len(data)), (317, 3, 1, 2 if deflated else 1), (339, 3, 1, 1), (33550, 12, 3, 0),
-            (42113, 2, 2, int.from_bytes(nodata, "little"))]
+    tags = [(256, 4, 1, side), (257, 4, 1, side), (258, 3, 1, 16), (259, 3, 1, 8 if deflated else 1), (273, 4, 1, 0),
+            (277, 3, 1, 1), (278, 4, 1, side), (279, 4, 1, len(data)), (317, 3, 1, 2 if deflated else 1), (339, 3, 1, 1),
+            (33550, 12, 3, 0), (42113, 2, 2, int.from_bytes(nodata, "little"))]
     at = 8 + 2 + 12 * len(tags) + 4
     places = {33550: at, 273: at + 24}
     body = b"".join(struct.pack("<HHII", tag, kind, count, places.get(tag, value)) for tag, kind, count, value in tags)
