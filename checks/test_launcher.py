@@ -750,7 +750,8 @@ def test_code(chain: Repository, words: list[str], kept: list[str]) -> None:
         (chain.caller / name).mkdir()
     (chain.caller / "code/module.bc").write_text("code")
     head, _, tail = DRIVER.partition("rtlib =")
-    (chain.bin / "rt").write_text(head.replace("import os,", "import os, subprocess,") + KEPT + tail[tail.index("if __name__"):])
+    head = head.replace("import os,", "import os, subprocess,")
+    (chain.bin / "rt").write_text(head + KEPT + tail[tail.index("if __name__"):])
     ended = subprocess.run([sys.executable, str(chain.top / "tools/launcher.py"), "rt", *words], cwd=chain.caller,
                            env={**chain.environment(None, None), "TOOLS": str(tools)}, capture_output=True, text=True, check=False)
     assert (ended.returncode, ended.stdout) == (0, "compiled -c module.bc\na file\n"), ended.stderr

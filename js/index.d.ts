@@ -55,6 +55,16 @@ export interface Mesh {
 /** The mesh of the fewest triangles within an error, or of the least error within a budget. Rows begin on the far side. */
 export function fit(heights: Numbers, width: number, height: number, options: FitOptions): Mesh;
 
+export interface Grid {
+  /** side x side; what is to the right and below of the shape repeats its last column and row. */
+  numbers: Uint16Array;
+  side: number;
+  /** A height is base + unit x number, off by at most `rounding`. */
+  unit: number; base: number; rounding: number;
+}
+/** Heights of any shape as the square of whole numbers that an engine takes. */
+export function gridOf(heights: Numbers, width: number, height: number, options?: { unit?: number; fill?: number }): Grid;
+
 declare global {
   interface SymbolConstructor { readonly dispose: unique symbol }
 }

@@ -9,6 +9,7 @@
 export { BadModule, BadPage, Broken, CalfrewinError, Closed, NotLoaded, OutOfMemory, Refused, Worn } from "./lib/errors.js";
 export { compiled, load, loadSync, memoryBytes } from "./lib/module.js";
 export { fit } from "./lib/fit.js";
+export { gridOf } from "./lib/grids.js";
 export { Engine } from "./lib/engine.js";
 export { Fitter } from "./lib/fitter.js";
 export { Mosaic } from "./lib/mosaic.js";

@@ -4,7 +4,8 @@
 usage: tools/site.py [FOLDER]     FOLDER: site, if none is given; what is there is replaced
 
 Pages keep their places, so that their links hold; what they link to beside pages, as a source file, is copied. A link
-that leads nowhere ends it with status 1. No page fetches anything from elsewhere."""
+that leads nowhere ends it with status 1. No page fetches anything from elsewhere.
+The page of examples/web is there where its module is."""
 from __future__ import annotations
 
 import json
@@ -25,6 +26,7 @@ NAV: list[tuple[str, list[str]]] = [
             "docs/PYTHON.md",
             "docs/SCALE.md",
             "docs/LIBRARY.md",
+            "docs/JAVASCRIPT.md",
             "docs/REFERENCE.md",
             "docs/GRIDS.md",
             "docs/COMPARISON.md",
@@ -63,6 +65,17 @@ def copy(page: Path, into: Path) -> None:
             shutil.copy(source, target)
 
 
+def copy_page(into: Path) -> None:
+    """Copies the page of examples/web with the package for JavaScript, where `lib/build --wasm js` has left its module."""
+    if not (TOP / "js/calfrewin.wasm").is_file():
+        print("site: without the page of examples/web, for which `lib/build --wasm js` makes the module", file=sys.stderr)
+        return
+    for part in ("examples/web", "js"):
+        shutil.copytree(TOP / part, into / part, dirs_exist_ok=True, ignore=shutil.ignore_patterns("test", "*.tgz"))
+    (into / "examples/jacksboro").mkdir(parents=True, exist_ok=True)
+    shutil.copy(TOP / "examples/jacksboro/grid.pgm", into / "examples/jacksboro")
+
+
 def nav(found: list[Path]) -> list[dict[str, object]]:
     """The menu: the pages of NAV that are there, and then the examples; the crates' pages are found by CRATES.md."""
     names = [str(it) for it in found]
@@ -81,6 +94,7 @@ def build(into: Path) -> int:
         docs = Path(room) / "docs"
         for page in found:
             copy(page, docs)
+        copy_page(docs)
         config = {
             "site_name": "Calfrewin",
             "docs_dir": str(docs),

@@ -4,7 +4,7 @@ import { Engine } from "./engine.js";
 import { Fitter } from "./fitter.js";
 import { gridOf, meshWithin, toleranceFor } from "./grids.js";
 import { loaded } from "./module.js";
-import { MOST, listOf, real, shown, whole } from "./numbers.js";
+import { real, shown, whole } from "./numbers.js";
 
 const TRIES = 10; // budgets of a padded grid that are tried
 
@@ -15,20 +15,15 @@ const TRIES = 10; // budgets of a padded grid that are tried
 export function fit(heights, width, height, options = {}) {
   if (options === null || typeof options !== "object") throw new TypeError(`options are ${shown(options)}, and have to be an object`);
   const { error, triangles, spacing = 1, unit, fill } = options;
-  const columns = whole("width", width, 2, MOST.side);
-  const rows = whole("height", height, 2, MOST.side);
-  if (listOf("heights", heights).length !== columns * rows) {
-    throw new RangeError(`heights are ${heights.length} numbers, and width x height is ${columns * rows}`);
-  }
   if ((error === undefined) === (triangles === undefined)) throw new TypeError("one of error and triangles is wanted");
   real("spacing", spacing, Number.MIN_VALUE, Number.MAX_VALUE);
   if (error !== undefined) real("error", error, 0, Number.MAX_VALUE);
   else whole("triangles", triangles, 2, 0xffffffff);
   loaded();
-  const grid = gridOf(heights, columns, rows, { unit, fill });
-  const found = error === undefined ? budgeted(grid, columns, rows, triangles) : within(grid, columns, rows, error);
+  const grid = gridOf(heights, width, height, { unit, fill });
+  const found = error === undefined ? budgeted(grid, width, height, triangles) : within(grid, width, height, error);
   return {
-    positions: placed(found.mesh.points, grid, rows, spacing),
+    positions: placed(found.mesh.points, grid, height, spacing),
     indices: found.mesh.triangles,
     deviation: found.deviation * grid.unit + grid.rounding,
   };

@@ -1,7 +1,7 @@
 // From heights of any kind and shape to a square of whole numbers and back: rounded to multiples of a unit, padded, and of the
 // square's mesh what lies within the shape.
 
-import { MOST, listOf, shown } from "./numbers.js";
+import { MOST, listOf, shown, whole } from "./numbers.js";
 
 const REACH = 65534; // steps of the unit that heights may spread over
 const FINEST = 1e-9; // of the greatest height: what a double tells apart with room to spare
@@ -69,8 +69,11 @@ function finestUnit(low, high, isWhole) {
  * below of the shape repeats its last column and row.
  */
 export function gridOf(heights, width, height, { unit, fill } = {}) {
-  listOf("heights", heights);
-  const found = surveyed(heights, width * height);
+  const count = whole("width", width, 2, MOST.side) * whole("height", height, 2, MOST.side);
+  if (listOf("heights", heights).length !== count) {
+    throw new RangeError(`heights are ${heights.length} numbers, and width x height is ${count}`);
+  }
+  const found = surveyed(heights, count);
   const span = filled(found, fill);
   const step = unitFor(span, unit);
   // Whole numbers that fit stay as they are, so that the module gets what it would get without all this.

@@ -5,6 +5,7 @@ import ctypes
 import os
 import pathlib
 import platform
+import sys
 from ctypes import POINTER, c_char_p, c_int32, c_int64, c_size_t, c_uint16, c_uint32, c_uint64, c_void_p
 from typing import Any, Callable, Dict
 
@@ -117,8 +118,9 @@ CALLS = {
     "world_draws": [_HANDLE, _ARRAY, c_size_t, _COUNT, _ARRAY, c_size_t, _COUNT],
 }
 HERE = pathlib.Path(__file__).resolve().parent
+NAME = {"win32": "roam.dll", "darwin": "libroam.dylib"}.get(sys.platform, "libroam.so")
 PLACES = (
-    HERE / "libroam.so",  # of a wheel
+    HERE / NAME,  # of a wheel
     HERE.parents[2] / "lib/out/lib/libroam.so",  # of a clone, by lib/build
     HERE.parents[1] / "libroam.so",  # of an installation by lib/build PREFIX: PREFIX/lib/python/calfrewin
 )
@@ -143,7 +145,7 @@ def _found() -> str:
     named = os.environ.get("CALFREWIN_LIBRARY")
     if named:
         return named
-    return next((str(place) for place in PLACES if place.exists()), "libroam.so.1")
+    return next((str(place) for place in PLACES if place.exists()), "libroam.so.1" if NAME == "libroam.so" else NAME)
 
 
 def _load(found: str) -> dict[str, Any]:
