@@ -16,6 +16,3 @@ pub mod Listed
 pub mod Fitter
 pub mod FitWith
 pub mod Mosaics
-pub mod Worlds
-pub mod WorldDraws
-pub mod Edits

@@ -1,8 +1,8 @@
 -- As the world's note says.
 use Rattle.std.proofs.Common.{false, refl}
 use Rattle.std.proofs.lemmas.Bool.{both_ways}
-use Rattle.roam_embed.proofs.WorldLemmas.{frame-made}
-use Rattle.roam_embed.proofs.world.make_world_frame.Goals as goal
+use Rattle.world_embed.proofs.WorldLemmas.{frame-made}
+use Rattle.world_embed.proofs.world.make_world_frame.Goals as goal
 
 pub returns-in-Ok : goal.returns-in-Ok
 returns-in-Ok c =

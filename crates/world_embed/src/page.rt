@@ -4,11 +4,10 @@ ghost use Rattle.std.specs.Prelude.{◌≡◌, ◌≢◌, length, IfOk, IfErr};
 ghost use Rattle.page_wedges.specs.Page.{IsAlone};
 ghost use Rattle.roam_embed.specs.Grid.{IsGridAnswer, IsGridOf, IsPointCount};
 
-use crate::answer::Answer;
-use crate::make::level_of_count;
 use mesh_defs::NoMemory;
 use page_wedges::PageWedges;
 use pgm_grid::Grid;
+use roam_embed::{Answer, level_of_count};
 use std::alloc::Global;
 use std::marker::Model;
 

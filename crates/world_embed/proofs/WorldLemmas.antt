@@ -23,9 +23,9 @@ use Rattle.world_loop.specs.declared.world.TheConstants.{FIRST_PACE}
 use Rattle.world_loop.specs.declared.note.WorldNote.{WorldNote}
 use Rattle.roam_embed.specs.declared.answer.Answer.{Answer}
 use Rattle.roam_embed.specs.declared.answer.Answer.TheVariants.{Done, BadCamera, Worn}
-use Rattle.roam_embed.specs.declared.notes.WorldFrame.{WorldFrame}
+use Rattle.world_embed.specs.declared.notes.WorldFrame.{WorldFrame}
 use Rattle.roam_embed.specs.Told.{blocked_of}
-use Rattle.roam_embed.specs.Worlds.{IsWorldOpened, IsWorldCameraMoved, world_note_of, IsWorldFrameMade}
+use Rattle.world_embed.specs.Worlds.{IsWorldOpened, IsWorldCameraMoved, world_note_of, IsWorldFrameMade}
 
 -- a world of the store that has this page alone
 pub world-opened : {E : Type 0} (result : Result WorldState E) (page : Page) (large budget spacing : ℕ) (s : Store) →

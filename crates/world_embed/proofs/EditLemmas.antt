@@ -10,7 +10,7 @@ use Rattle.roam_embed.specs.declared.answer.Answer.{Answer}
 use Rattle.roam_embed.specs.declared.answer.Answer.TheVariants.{Done, OutsideGrid, BadChange, NotThere}
 use Rattle.roam_embed.specs.declared.ground.TheConstants.{GREATEST_CHANGE}
 use Rattle.roam_embed.specs.Grid.{IsAreaOf}
-use Rattle.roam_embed.specs.Edits.{IsWorldRaised}
+use Rattle.world_embed.specs.Edits.{IsWorldRaised}
 
 pub world-raised : (before after : WorldState) (x0 y0 x1 y1 : ℕ) (dz : ℤ) →
     IsAreaOf before.store.large x0 y0 x1 y1 → unsigned_abs dz ≤ GREATEST_CHANGE →

@@ -4,8 +4,8 @@ use Rattle.wedgie_tree.specs.Edits.{area_between}
 use Rattle.page_store.specs.Edit.{IsRaisedTerrain}
 use Rattle.roam_embed.specs.declared.ground.TheConstants.{GREATEST_CHANGE}
 use Rattle.roam_embed.specs.Grid.{IsAreaOf}
-use Rattle.roam_embed.proofs.EditLemmas.{world-raised}
-use Rattle.roam_embed.proofs.ground.raise_world.Goals as goal
+use Rattle.world_embed.proofs.EditLemmas.{world-raised}
+use Rattle.world_embed.proofs.ground.raise_world.Goals as goal
 
 pub returns-then-raise : goal.returns-then-raise
 returns-then-raise c =

@@ -4,9 +4,9 @@ use Rattle.std.proofs.lemmas.Int.{to_z-of_z}
 use Rattle.mesh_defs.specs.BoundingBox.{CameraAt}
 use Rattle.view_priority.specs.Camera.{IsCamera}
 use Rattle.roam_embed.specs.declared.answer.Answer.TheVariants.{Done}
-use Rattle.roam_embed.specs.Worlds.{IsWorldCameraMoved}
-use Rattle.roam_embed.proofs.WorldLemmas.{camera-moved}
-use Rattle.roam_embed.proofs.world.move_world_camera.Goals as goal
+use Rattle.world_embed.specs.Worlds.{IsWorldCameraMoved}
+use Rattle.world_embed.proofs.WorldLemmas.{camera-moved}
+use Rattle.world_embed.proofs.world.move_world_camera.Goals as goal
 
 pub returns-in-Some : goal.returns-in-Some
 returns-in-Some c =

@@ -1,8 +1,8 @@
 //! The draws of a world's mesh, written into a caller's arrays.
 
-ghost use Rattle.roam_embed.specs.WorldDraws.{AreDrawsTold};
+ghost use Rattle.world_embed.specs.WorldDraws.{AreDrawsTold};
 
-use crate::answer::Answer;
+use roam_embed::Answer;
 use world_loop::{Draw, World};
 
 /// Writes the draws of the mesh, three indices for each triangle, and how many there are of both.

@@ -3,18 +3,15 @@
 ghost use Rattle.std.specs.Prelude.{◌≡◌, ◌≢◌, ◌≤◌, ◌↔◌, OnOk, OnErr, IfOk, IfErr, IsTrue};
 ghost use Rattle.world_loop.specs.World.{mesh_seen};
 ghost use Rattle.roam_embed.specs.Listed.{AreNumbersTold};
-ghost use Rattle.roam_embed.specs.Worlds.{IsTerrainOf, IsWorldAnswer, IsWorldOpened, IsKeptPage};
-ghost use Rattle.roam_embed.specs.Worlds.{world_note_of, IsWorldFrameMade};
-ghost use Rattle.roam_embed.specs.Worlds.{IsLoadAnswer, IsPageLoaded, IsUnloadAnswer, IsPageUnloaded};
-ghost use Rattle.roam_embed.specs.Worlds.{IsWorldCameraMoved, AreWorldPlanesPut, IsWorldThresholdPut, IsWorldBudgetPut};
+ghost use Rattle.world_embed.specs.Worlds.{IsTerrainOf, IsWorldAnswer, IsWorldOpened, IsKeptPage};
+ghost use Rattle.world_embed.specs.Worlds.{world_note_of, IsWorldFrameMade};
+ghost use Rattle.world_embed.specs.Worlds.{IsLoadAnswer, IsPageLoaded, IsUnloadAnswer, IsPageUnloaded};
+ghost use Rattle.world_embed.specs.Worlds.{IsWorldCameraMoved, AreWorldPlanesPut, IsWorldThresholdPut, IsWorldBudgetPut};
 
-use crate::answer::Answer;
-use crate::looking::{are_planes, made_planes};
-use crate::mesh::put_addresses;
-use crate::notes::{PlaneNumbers, WorldFrame};
+use crate::notes::WorldFrame;
 use crate::page::Page;
-use crate::view::MOST_PLANES;
 use mesh_defs::{GREATEST_LEVEL, NoMemory};
+use roam_embed::{Answer, MOST_PLANES, PlaneNumbers, are_planes, made_planes, put_addresses};
 use std::alloc::Global;
 use triangle_pool::MOST_LEAVES;
 use wedgie_tree::GREATEST_SPACING;

@@ -2,9 +2,9 @@
 use Rattle.std.proofs.Common.{◌≡◌, ◌∙◌, ap, subst, IfOk}
 use Rattle.mesh_defs.specs.HeightField.{HeightField}
 use Rattle.page_wedges.specs.Page.{Page}
-use Rattle.roam_embed.specs.Worlds.{IsWorldOpened}
-use Rattle.roam_embed.proofs.WorldLemmas.{world-opened}
-use Rattle.roam_embed.proofs.world.make_world.Goals as goal
+use Rattle.world_embed.specs.Worlds.{IsWorldOpened}
+use Rattle.world_embed.proofs.WorldLemmas.{world-opened}
+use Rattle.world_embed.proofs.world.make_world.Goals as goal
 
 pub returns : goal.returns
 returns c =

@@ -36,7 +36,7 @@ use Rattle.roam_embed.specs.declared.answer.Answer.{Answer}
 use Rattle.roam_embed.specs.declared.answer.Answer.TheVariants.{Done, NoMemory, BadBudget, BadCamera, BadPlane}
 use Rattle.roam_embed.specs.declared.answer.Answer.TheVariants.{TooManyPlanes, Worn, BadPage, NotThere}
 use Rattle.roam_embed.specs.declared.notes.PlaneNumbers.{PlaneNumbers}
-use Rattle.roam_embed.specs.declared.notes.WorldFrame.{WorldFrame}
+use Rattle.world_embed.specs.declared.notes.WorldFrame.{WorldFrame}
 use Rattle.roam_embed.specs.declared.view.TheConstants.{MOST_PLANES}
 use Rattle.roam_embed.specs.Looking.{plane_of, planes_of}
 use Rattle.roam_embed.specs.Told.{blocked_of}

@@ -1,6 +1,6 @@
 -- A page that is loaded, fine and free.
-use Rattle.roam_embed.proofs.PagingLemmas.{unload-done}
-use Rattle.roam_embed.proofs.world.unload_page.Goals as goal
+use Rattle.world_embed.proofs.PagingLemmas.{unload-done}
+use Rattle.world_embed.proofs.world.unload_page.Goals as goal
 
 pub returns-in-Ok-clause-free : goal.returns-in-Ok-clause-free
 returns-in-Ok-clause-free c =

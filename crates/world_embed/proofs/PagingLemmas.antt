@@ -8,7 +8,7 @@ use Rattle.page_store.specs.Store.{Store, page_at}
 use Rattle.page_store.specs.Unload.{IsFree}
 use Rattle.roam_embed.specs.declared.answer.Answer.{Answer}
 use Rattle.roam_embed.specs.declared.answer.Answer.TheVariants.{Done, BadPage, NotThere}
-use Rattle.roam_embed.specs.Worlds.{CanUnload, IsUnloadAnswer}
+use Rattle.world_embed.specs.Worlds.{CanUnload, IsUnloadAnswer}
 
 -- answers are told apart
 abbrev mark : Answer → ℕ
