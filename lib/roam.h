@@ -243,6 +243,16 @@ int32_t roam_fit_with(const uint16_t *heights, size_t count, uint32_t thousandth
                       size_t tolerance_count, const uint32_t *required, size_t required_count, uint32_t *out, size_t places,
                       roam_fit_note *told);
 
+/* Writes a mesh of triangles of any shape within an error, as three places in the array of heights for each triangle,
+ * counterclockwise, and tells of it: off / over is the greatest distance of a height from the mesh, exactly. Every grid point is
+ * within `thousandths` thousandths of a unit of each triangle that holds it, the triangles tile the square without cracks, and
+ * they are never more than the fewest right triangles (roam_fit_with), mostly a third to a fifth of them. `effort` is 1 to 9: up
+ * to 3 so many rounds, above that searches beyond the error and back, which take some ten times as long at 9. The same
+ * arguments give the same mesh. ROAM_NO_ROOM: `places` is below 3 times the triangles that were found; 3 times those of
+ * roam_fit_with always suffice. Takes 26 bytes a grid point and some 100 a triangle of that mesh, and gives them back. */
+int32_t roam_tin(const uint16_t *heights, size_t count, uint32_t thousandths, uint32_t effort, uint32_t *out, size_t places,
+                 roam_fit_note *told);
+
 /* Mosaics: a terrain of tiles that meet. Each tile is a grid of its own, of one side for all, and shares a row of points with its
  * neighbours. A mosaic keeps which border points each tile's mesh has, and tells which tile has to be fitted next and with which
  * points; when none is left, the tiles' meshes are one mesh without cracks. Where each tile is fitted with just what is required

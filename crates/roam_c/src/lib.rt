@@ -27,7 +27,7 @@ pub use draws::roam_world_draws;
 pub use fitter::{
     roam_fit_with, roam_fitter_border, roam_fitter_close, roam_fitter_deviation, roam_fitter_fit,
     roam_fitter_indices, roam_fitter_leaves, roam_fitter_more, roam_fitter_open,
-    roam_fitter_restore,
+    roam_fitter_restore, roam_tin,
 };
 pub use found::{roam_certificate, roam_fit};
 pub use handle::{Handle, crossing};

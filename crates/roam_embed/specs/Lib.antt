@@ -15,4 +15,5 @@ pub mod Border
 pub mod Listed
 pub mod Fitter
 pub mod FitWith
+pub mod Tins
 pub mod Mosaics

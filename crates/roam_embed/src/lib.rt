@@ -25,6 +25,7 @@ mod mosaic;
 mod notes;
 mod renewal;
 mod shapes;
+mod tins;
 mod view;
 
 pub use answer::Answer;
@@ -47,6 +48,7 @@ pub use mosaic::{Mosaic, next_tile, open_mosaic, put_tile, tell_required};
 pub use notes::{Deviation, Fitted, Frame, PlaneNumbers, Required, Standing, Tile};
 pub use renewal::renew_engine;
 pub use shapes::{tell_compact, tell_deviation, tell_positions, tell_strip};
+pub use tins::tell_tin;
 pub use view::{
     LONGEST_WAY, MOST_PLANES, add_plane, clear_planes, move_camera, put_budget, put_threshold,
 };
