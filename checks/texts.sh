@@ -25,9 +25,9 @@ lines_of_code() {
 # The law crates, whose functions have empty bodies.
 laws=$(sed -n 's/^|\[`\([a-z0-9_]*\)`\].*)|law|.*/\1/p' docs/CRATES.md)
 
-# The most edits of a crate: each costs the gate 6 to 40 seconds, and the first the crate's proof once more.
+# The most edits of a crate in the gate: each costs it 6 to 40 seconds, and the first the crate's proof once more.
 most_edits=5
-# The lines of code from which on a crate has one.
+# The lines of code from which on a crate has one there or, with a line in its README, in checks/edits.
 least_code=20
 
 for name in $crates; do
@@ -40,8 +40,13 @@ for name in $crates; do
   grep -q "^|\[\`$name\`\](../crates/$name/README.md)|\(law\|code\)|" docs/CRATES.md || why+=("no row in docs/CRATES.md")
   edits=("crates/$name"/must-fail/*.edit)
   [ -e "${edits[0]}" ] || edits=()
-  if [ "${#edits[@]}" -eq 0 ] && [[ $name != *_tests ]] && [ "$(lines_of_code "crates/$name")" -gt "$least_code" ]; then
-    grep -q '^No edit that must fail: [^ ]' "crates/$name/README.md" || why+=("no edit that must fail, and no line 'No edit that must fail: ..' in README.md")
+  beside=("checks/edits/$name"/*.edit)
+  says_none=$(grep -c '^No edit that must fail: [^ ]' "crates/$name/README.md")
+  if [ "${#edits[@]}" -gt 0 ]; then
+    [ "$says_none" -eq 0 ] || why+=("README.md says that no edit must fail")
+  elif [[ $name != *_tests ]] && [ "$(lines_of_code "crates/$name")" -gt "$least_code" ]; then
+    [ "$says_none" -eq 1 ] || why+=("no edit that must fail, and no line 'No edit that must fail: ..' in README.md")
+    [ -e "${beside[0]}" ] || why+=("no edit in must-fail/ or in checks/edits/$name")
   fi
   if [ "${#edits[@]}" -gt "$most_edits" ]; then
     why+=("${#edits[@]} edits that must fail")
@@ -52,6 +57,11 @@ for name in $crates; do
   fi
   decide "crate_$name" ${why[0]+"${why[@]}"}
 done
+
+# The edits beside the gate: each was tried and is refused; on standard error, how many of them on other sources.
+if has each_edit_beside_the_gate_is_refused python3 git; then
+  none each_edit_beside_the_gate_is_refused "$(python3 checks/edits.py --check)"
+fi
 
 # What proofs of a crate cite of another crate's proofs is a law crate's; a code crate is used by its clauses alone.
 # What the toolchain writes of a type by itself (that it may be dropped, or sent) is no lemma of a crate.
@@ -89,7 +99,7 @@ short() {
 if has the_main_contracts_have_few_words python3; then
   none roam_has_ten_clauses "$(short crates/roam_run/src/run.rt roam --ensures 10 --most 270 --within "$runs")"
   none roam_has_a_page_of_words "$(short crates/roam_run/src/run.rt roam --most 63 --within "$page")"
-  none a_frame_has_few_words "$(short crates/frame_loop/src/frame.rt frame --ensures 8 --most 120 --within "$engine")"
+  none a_frame_has_eight_clauses_and_few_words "$(short crates/frame_loop/src/frame.rt frame --ensures 8 --most 120 --within "$engine")"
 fi
 
 # The worked view of docs/REFERENCE.md is what its command prints.

@@ -32,11 +32,12 @@ class Clause:
 class Item:
     """A public function or type: `of` is the type or the trait that a function belongs to, or empty; `seen_as` is what
     a contract sees of a type with a model, `tells` what a trait tells to contracts; `words` are those of specs/ that its file
-    brings in, by the name they have there: crate and module."""
+    brings in, by the name they have there: crate and module; `head` is its text up to its clauses and its body."""
     kind: str
     name: str
     of: str
     doc: str
+    head: str = ""
     clauses: list[Clause] = field(default_factory=list)
     is_law: bool = False
     seen_as: str = ""
@@ -119,6 +120,16 @@ def depth_change(line: str) -> int:
     return line.count("{") - line.count("}")
 
 
+def head_of(lines: list[str]) -> str:
+    """The lines of an item up to its clauses, its body or its end."""
+    for count, line in enumerate(lines):
+        if count and re.match(r"requires|ensures|//|[{}]", line.strip()):
+            return "\n".join(lines[:count])
+        if line.rstrip().endswith(("{", "{}", ";")):
+            return "\n".join(lines[:count + 1]).rstrip("{}; ")
+    return "\n".join(lines)
+
+
 def body_from(text: str, begin: int) -> str:
     """What stands from a place behind a brace to the brace that closes it."""
     depth, at = 1, begin
@@ -165,7 +176,8 @@ def items_of_file(text: str) -> list[tuple[Item, bool]]:
             elif item:
                 public, kind, name = item.groups()
                 is_trait_method = kind == "fn" and is_public_trait and bool(owner)
-                current = Item(kind, name, owner if kind == "fn" and owner != "-" else "", "\n".join(doc))
+                current = Item(kind, name, owner if kind == "fn" and owner != "-" else "", "\n".join(doc),
+                               head_of(lines[number:]))
                 found.append((current, bool(public) and owner != "-" or is_trait_method))
                 if kind == "trait":
                     owner, is_public_trait, trait = name, bool(public), current

@@ -9,3 +9,5 @@ pub mod ChangeLemmas
 pub mod SharedLemmas
 pub mod AreaLemmas
 pub mod ClearLemmas
+pub mod SurfaceLemmas
+pub mod PlacedLemmas

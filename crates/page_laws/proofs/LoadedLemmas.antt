@@ -213,6 +213,29 @@ wedge-whole n heights known a address all =
 
 -- a page alone
 
+pub page-midpoint : (i j : ℕ) (a b : ℕ) → (a + b) % 2 ≡ 0 → (i * (j + a) + i * (j + b)) / 2 ≡ i * (j + (a + b) / 2)
+page-midpoint i j a b even =
+    let half : a + b ≡ 2 * ((a + b) / 2) = omega arith in
+    let e : i * (a + b) ≡ i * (2 * ((a + b) / 2)) = ap (λ k. i * k) half in
+    let f : i * (j + a) + i * (j + b) ≡ 2 * (i * (j + (a + b) / 2)) = omega arith in
+    omega arith
+
+-- the middle of a base is a point of the page
+pub page-middle : (n q : ℕ) (t : Point) (c : Corners) → HasEvenBase c →
+    midpoint (page_corners n q t c).v0 (page_corners n q t c).v1 ≡ page_point n q t (midpoint c.v0 c.v1)
+page-middle n q t c even =
+    same_point ((2 ^ q * (2 ^ n * t.x + c.v0.x) + 2 ^ q * (2 ^ n * t.x + c.v1.x)) / 2)
+    ((2 ^ q * (2 ^ n * t.y + c.v0.y) + 2 ^ q * (2 ^ n * t.y + c.v1.y)) / 2)
+    (2 ^ q * (2 ^ n * t.x + (c.v0.x + c.v1.x) / 2)) (2 ^ q * (2 ^ n * t.y + (c.v0.y + c.v1.y) / 2))
+    (page-midpoint (2 ^ q) (2 ^ n * t.x) c.v0.x c.v1.x even.x)
+    (page-midpoint (2 ^ q) (2 ^ n * t.y) c.v0.y c.v1.y even.y)
+
+pub even-half : (m : ℕ) (turned : Bool) (which : ℕ) → m % 2 ≡ 0 → HasEvenBase (half_corners m turned which)
+even-half m false zero even = record { x = omega arith; y = omega arith }
+even-half m false (suc _) even = record { x = omega arith; y = omega arith }
+even-half m true zero even = record { x = omega arith; y = omega arith }
+even-half m true (suc _) even = record { x = omega arith; y = omega arith }
+
 module _ (n q p : ℕ) (t : Point) (tile : IsTile (2 ^ p) (2 ^ p) t) (height : Point → ℕ) (heights : List ℕ)
     (samples : AreSamples n q t height heights) where
   -- the heights of a page's triangle
@@ -228,27 +251,13 @@ module _ (n q p : ℕ) (t : Point) (tile : IsTile (2 ^ p) (2 ^ p) t) (height : P
       }
 
   -- how far the surface is from the middle of a base that has a point of the page in its middle
-  page-midpoint : (i j : ℕ) (a b : ℕ) → (a + b) % 2 ≡ 0 → (i * (j + a) + i * (j + b)) / 2 ≡ i * (j + (a + b) / 2)
-  page-midpoint i j a b even =
-      let half : a + b ≡ 2 * ((a + b) / 2) = omega arith in
-      let e : i * (a + b) ≡ i * (2 * ((a + b) / 2)) = ap (λ k. i * k) half in
-      let f : i * (j + a) + i * (j + b) ≡ 2 * (i * (j + (a + b) / 2)) = omega arith in
-      omega arith
-
   bend-page : (c : Corners) → IsWithin (2 ^ n) c → HasEvenBase c →
       bend height (page_corners n q t c) ≡ bend (height_of n heights) c
   bend-page c within even =
-      let middle : midpoint (page_corners n q t c).v0 (page_corners n q t c).v1
-      ≡ page_point n q t (midpoint c.v0 c.v1) =
-      same_point ((2 ^ q * (2 ^ n * t.x + c.v0.x) + 2 ^ q * (2 ^ n * t.x + c.v1.x)) / 2)
-      ((2 ^ q * (2 ^ n * t.y + c.v0.y) + 2 ^ q * (2 ^ n * t.y + c.v1.y)) / 2)
-      (2 ^ q * (2 ^ n * t.x + (c.v0.x + c.v1.x) / 2)) (2 ^ q * (2 ^ n * t.y + (c.v0.y + c.v1.y) / 2))
-      (page-midpoint (2 ^ q) (2 ^ n * t.x) c.v0.x c.v1.x even.x)
-      (page-midpoint (2 ^ q) (2 ^ n * t.y) c.v0.y c.v1.y even.y) in
       let x0 = within.v0_x in let x1 = within.v1_x in let y0 = within.v0_y in let y1 = within.v1_y in
       let centre : height (midpoint (page_corners n q t c).v0 (page_corners n q t c).v1)
       ≡ height_of n heights (midpoint c.v0 c.v1) =
-      ap height middle ∙ sym (samples (midpoint c.v0 c.v1) record { x = omega arith; y = omega arith }) in
+      ap height (page-middle n q t c even) ∙ sym (samples (midpoint c.v0 c.v1) record { x = omega arith; y = omega arith }) in
       let first : height (page_corners n q t c).v0 ≡ height_of n heights c.v0 =
       sym (samples c.v0 record { x = x0; y = y0 }) in
       let second : height (page_corners n q t c).v1 ≡ height_of n heights c.v1 =
@@ -282,12 +291,6 @@ module _ (n q p : ℕ) (t : Point) (tile : IsTile (2 ^ p) (2 ^ p) t) (height : P
     v1_x = omega arith;
     v1_y = omega arith;
   }
-
-  even-half : (m : ℕ) (turned : Bool) (which : ℕ) → m % 2 ≡ 0 → HasEvenBase (half_corners m turned which)
-  even-half m false zero even = record { x = omega arith; y = omega arith }
-  even-half m false (suc _) even = record { x = omega arith; y = omega arith }
-  even-half m true zero even = record { x = omega arith; y = omega arith }
-  even-half m true (suc _) even = record { x = omega arith; y = omega arith }
 
   -- and so is a half
   pub joined-half : (which : ℕ) (x y : KnownWedge) → 1 ≤ n → which < 2 →

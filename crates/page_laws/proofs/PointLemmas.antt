@@ -54,7 +54,7 @@ scaled-twice i j c = same_by_coordinates _ _ record {
 }
 
 -- a triangle of a grid has the same corners in a finer one, in finer steps
-corners_of-finer : (n q a : ℕ) → level_of a ≤ 2 * n → corners_of (n + q) a ≡ scaled (2 ^ q) (corners_of n a)
+pub corners_of-finer : (n q a : ℕ) → level_of a ≤ 2 * n → corners_of (n + q) a ≡ scaled (2 ^ q) (corners_of n a)
 corners_of-finer n q a fits =
     corners_of-lattice (n + q) a (omega arith)
     ∙ ap (λ k. scaled k (lattice (level_of a) a)) (step_of-finer n q (level_of a) fits)

@@ -2,20 +2,22 @@
 -- a page has it at its points.
 -- Source: the nested bounds of Duchaineau et al., "ROAMing Terrain", IEEE Visualization 1997, the part on nested
 -- bounds; that they end at triangles that are not known is this project's own.
--- Words: bend, corner_wedge, joined_wedge, known_wedge, known_box, known_priority, AreSamples, IsAtOrUnder.
-use Rattle.std.specs.Prelude.{◌≡◌, ◌⊎◌, ℕ, zero, suc, ◌+◌, ◌-◌, ◌*◌, ◌^◌, Bool, true, false, IsTrue, min, max, pos}
+-- Words: bend, corner_wedge, joined_wedge, known_wedge, known_box, known_priority, AreSamples, IsAtOrUnder,
+-- AreLoadedHeights, IsHalfOff.
+use Rattle.std.specs.Prelude.{◌≡◌, ◌⊎◌, ℕ, zero, suc, ◌+◌, ◌-◌, ◌*◌, ◌^◌, ◌≤◌, Bool, true, false, IsTrue, min, max, pos}
 use Rattle.std.specs.Prelude.{List}
 use Rattle.mesh_defs.specs.declared.point.Point.{Point}
 use Rattle.mesh_defs.specs.declared.point.Corners.{Corners}
 use Rattle.mesh_defs.specs.Triangle.{level_of, corners_of, midpoint}
 use Rattle.mesh_defs.specs.Thickness.{height_of, apart}
-use Rattle.mesh_defs.specs.BoundingBox.{BoundingBox, least_of_3, greatest_of_3, distance_of}
+use Rattle.mesh_defs.specs.BoundingBox.{BoundingBox, least_of_3, greatest_of_3, distance_of, holds_point}
 use Rattle.mesh_defs.specs.View.{View, mark_of}
 use Rattle.mesh_defs.specs.Priority.{above, seen_ratio}
 use Rattle.bintree_laws.specs.Corners.{IsInSquare}
 use Rattle.mesh_laws.specs.Ancestors.{is_above}
 use Rattle.page_laws.specs.declared.wedge.KnownWedge.{KnownWedge}
-use Rattle.page_laws.specs.Pages.{page_point}
+use Rattle.fit_laws.specs.PlaneHeight.{off_plane}
+use Rattle.page_laws.specs.Pages.{Pages, is_known, page_point, IsLoadedPoint}
 
 -- how far the surface is from the middle of a triangle's base, in half units of height
 abbrev pub bend : (Point → ℕ) → Corners → ℕ
@@ -77,3 +79,12 @@ AreSamples n q t height heights =
 -- b is a, or lies below it
 abbrev pub IsAtOrUnder : ℕ → ℕ → Type 0
 IsAtOrUnder a b = (b ≡ a) ⊎ IsTrue (is_above a b)
+
+-- the heights of the whole terrain are these where a page is loaded
+abbrev pub AreLoadedHeights : Pages → (Point → ℕ) → List ℕ → Type 0
+AreLoadedHeights w height heights = (p : Point) → IsLoadedPoint w p → height_of w.large heights p ≡ height p
+
+-- the triangle holds r, and the surface is off its plane there by at most half its thickness over what is known
+abbrev pub IsHalfOff : Pages → (Point → ℕ) → List ℕ → ℕ → Point → Type 0
+IsHalfOff w height heights a r = IsTrue (holds_point w.large a r)
+    × (2 * off_plane w.large heights a r ≤ 2 ^ w.large * (known_wedge w.large height (is_known w) a).thickness)

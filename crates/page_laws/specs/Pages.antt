@@ -5,7 +5,7 @@
 -- This project's own.
 -- Words: Pages, cuts_to, half, is_turned, left_quarter, right_quarter, half_corners, square_at, is_in_page,
 -- is_in_pages, is_known, page_point, page_corners, page_area, IsPagePoint, IsLoadedPoint, square_above, AreBeside,
--- IsPyramid, IsAtGap, with_page, without_page.
+-- AreOnTerrain, IsPyramid, IsAtGap, with_page, without_page.
 use Rattle.std.specs.Prelude.{◌≡◌, ◌⊎◌, ℕ, zero, suc, ◌+◌, ◌-◌, ◌*◌, ◌/◌, ◌%◌, ◌^◌, ◌<◌, ◌≤◌, Bool, ◌&&◌, ◌||◌, true}
 use Rattle.std.specs.Prelude.{false, IsTrue, nat_eq, nat_le, nat_lt, not}
 use Rattle.mesh_defs.specs.declared.point.Point.{Point}
@@ -119,6 +119,11 @@ square_above t = record { x = t.x / 2; y = t.y / 2 }
 abbrev pub AreBeside : Point → Point → Type 0
 AreBeside t u = ((t.y ≡ u.y) × ((t.x ≡ u.x + 1) ⊎ (u.x ≡ t.x + 1)))
     ⊎ ((t.x ≡ u.x) × ((t.y ≡ u.y + 1) ⊎ (u.y ≡ t.y + 1)))
+
+-- no page is loaded of a square that the terrain does not have
+abbrev pub AreOnTerrain : Pages → Type 0
+AreOnTerrain w = (q : ℕ) (t : Point) → q ≤ w.top → IsTrue (w.loaded q t) →
+    IsTile (2 ^ cuts_to w q) (2 ^ cuts_to w q) t
 
 -- The coarsest pages are all loaded, and each other page lies in one that is loaded, of the next resolution, as those
 -- beside that are. So no two pages that meet are more than a resolution apart.

@@ -22,5 +22,5 @@ pub use finding::{finding_laws, height_laws};
 pub use opening::open_laws;
 pub use pyramids::pyramid_laws;
 pub use squares::{point_laws, square_laws};
-pub use surfaces::{page_wedge_laws, wedge_laws};
+pub use surfaces::{page_wedge_laws, surface_laws, wedge_laws};
 pub use wedge::KnownWedge;

@@ -1,13 +1,18 @@
 //! The thickness and the box over what is known, as laws.
 
-ghost use Rattle.std.specs.Prelude.{◌≡◌, ℕ, ◌+◌, ◌-◌, ◌*◌, ◌^◌, ◌<◌, ◌≤◌, Bool, true, false, IsTrue, List};
+ghost use Rattle.std.specs.Prelude.{◌≡◌, ℕ, ◌+◌, ◌-◌, ◌*◌, ◌^◌, ◌<◌, ◌≤◌, ◌⊎◌, Bool, true, false, IsTrue};
+ghost use Rattle.std.specs.Prelude.{List, Contains};
 ghost use Rattle.mesh_defs.specs.declared.point.Point.{Point};
 ghost use Rattle.mesh_defs.specs.Triangle.{level_of, corners_of, IsAddress, IsSplittable};
+ghost use Rattle.mesh_defs.specs.ClosedSet.{IsClosed, leaves_of};
 ghost use Rattle.mesh_defs.specs.Thickness.{height_of, thickness_of};
+ghost use Rattle.mesh_laws.specs.Vertex.{centre_of, IsSquareCorner, IsCentre};
 ghost use Rattle.mosaic_laws.specs.Tile.{IsTile, in_tile};
 ghost use Rattle.page_laws.specs.declared.wedge.KnownWedge.{KnownWedge};
 ghost use Rattle.page_laws.specs.Pages.{half, is_turned, half_corners, Pages, cuts_to, square_at, is_known, IsPyramid};
+ghost use Rattle.page_laws.specs.Pages.{IsLoadedPoint, AreOnTerrain};
 ghost use Rattle.page_laws.specs.Loaded.{corner_wedge, joined_wedge, known_wedge, AreSamples, IsAtOrUnder};
+ghost use Rattle.page_laws.specs.Loaded.{AreLoadedHeights, IsHalfOff};
 
 /// Wedges over what is known: thickness, least and greatest height.
 ///
@@ -53,4 +58,21 @@ pub fn page_wedge_laws()
         (1 ≤ q → w.loaded (q - 1) (square_at w (q - 1) (in_tile (cuts_to w q) t a)) ≡ false) →
         known_wedge w.large height (is_known w) (in_tile (cuts_to w q) t a)
         ≡ known_wedge w.n (height_of w.n heights) (λ b. true) a }
+{}
+
+/// How far the surface is from the planes of triangles, where its heights are loaded.
+///
+/// `points` a loaded point is a corner of the terrain or the centre of a known triangle. `triangle` a triangle holds the
+/// centre of each known triangle at or below it, and there the surface is off its plane by at most half its thickness
+/// over what is known. So `mesh` at each loaded point each mesh has a triangle that the surface is off by at most half
+/// its thickness. What is not loaded does not matter, and of other points nothing is said.
+pub fn surface_laws()
+    ensures points { (w : Pages) (r : Point) → IsPyramid w → AreOnTerrain w → IsLoadedPoint w r →
+        IsSquareCorner (2 ^ w.large) r ⊎ IsCentre w.large (is_known w) r }
+    ensures triangle { (w : Pages) (height : Point → ℕ) (heights : List ℕ) (a b : ℕ) → IsPyramid w →
+        AreLoadedHeights w height heights → IsAtOrUnder a b → IsTrue (is_known w b) →
+        IsHalfOff w height heights a (centre_of w.large b) }
+    ensures mesh { (w : Pages) (height : Point → ℕ) (heights : List ℕ) (has : ℕ → Bool) (r : Point) → IsPyramid w →
+        AreOnTerrain w → AreLoadedHeights w height heights → IsClosed w.large has → IsLoadedPoint w r →
+        ((a : ℕ) × Contains (leaves_of w.large has) a × IsHalfOff w height heights a r) }
 {}

@@ -1,0 +1,11 @@
+pub mod WeightLemmas
+pub mod SideLemmas
+pub mod PassLemmas
+pub mod SumLemmas
+pub mod MeshLemmas
+pub mod InsideLemmas
+pub mod TilingLemmas
+pub mod ScaleLemmas
+pub mod NearLemmas
+pub mod RowLemmas
+pub mod ConformingLemmas

@@ -1,0 +1,4 @@
+pub mod Cover
+pub mod Sums
+pub mod Mesh
+pub mod Conforming
