@@ -16,6 +16,11 @@ pub record TinMesh : Type 0 where
   pub places : List ℕ
   pub deviation : Deviation
 
+-- there are at most 2 ^ 24 triangles, and no more vertices than corners
+pub record IsCounted (vertices : List Point) (edges : List ℕ) : Type 0 where
+  pub corners : length edges ≤ 50331648
+  pub points : length vertices ≤ length edges
+
 -- the heights of grid points
 abbrev pub heights_at : HeightField → List Point → List ℕ
 heights_at grid points = map (λ (p : Point). height_at grid.n grid.heights p.x p.y) points
@@ -33,6 +38,7 @@ pub record IsTin (grid : HeightField) (thousandths most : ℕ) (mesh : TinMesh) 
   pub conforming :
       IsConforming (2 ^ grid.n) (2 ^ grid.n) mesh.points (heights_at grid mesh.points) mesh.corners across
   pub tiles : IsTiling (2 ^ grid.n) (2 ^ grid.n) (length mesh.corners / 3) (corner_in mesh.points mesh.corners)
+  pub threes : length mesh.corners ≡ length mesh.corners / 3 * 3
   pub placed : ArePlaces grid.n mesh.points mesh.corners mesh.places
   pub few : length mesh.corners / 3 ≤ most
   pub within : IsWithinError (2 ^ grid.n) (2 ^ grid.n) grid.heights mesh.points (heights_at grid mesh.points)

@@ -28,7 +28,10 @@ pub(crate) fn judged(
 {
     let (corners, across) = (&found.corners, &found.across);
     let count = corners.len() / 3;
-    if corners.len() != count * 3 || corners.len() > MOST_CORNERS || across.len() != corners.len() || count > most {
+    if corners.len() != count * 3 || corners.len() > MOST_CORNERS || count > most {
+        return Ok(None);
+    }
+    if across.len() != corners.len() || found.points.len() > corners.len() {
         return Ok(None);
     }
     let Some(heights) = heights_of(alloc, grid, &found.points)? else {

@@ -1,6 +1,6 @@
 //! A mesh of triangles of any shape over a grid.
 
-ghost use Rattle.std.specs.Prelude.{◌≡◌};
+ghost use Rattle.std.specs.Prelude.{◌≡◌, ◌/◌, length};
 
 use mesh_defs::Point;
 use mesh_within::Deviation;
@@ -21,6 +21,10 @@ impl Model for Tin {
     ghost Value = { TinMesh };
 
     ghost view = { λ t. record { points = t.points.items; corners = t.corners.items; places = t.places.items; deviation = t.deviation } };
+
+    ghost use Rattle.tin_mesh.specs.Tin.{IsCounted};
+
+    ghost invariant = { λ t. IsCounted t.points.items t.corners.items };
 }
 
 impl Tin {
@@ -36,6 +40,20 @@ impl Tin {
         ensures { result.now ≡ self.now.corners }
     {
         &self.corners
+    }
+
+    /// How many vertices there are.
+    pub fn vertex_count(&self) -> u32
+        ensures { result ≡ length self.now.points }
+    {
+        self.points.len() as u32
+    }
+
+    /// How many triangles there are.
+    pub fn triangle_count(&self) -> u32
+        ensures { result ≡ length self.now.corners / 3 }
+    {
+        (self.corners.len() / 3) as u32
     }
 
     /// The corners as places in the heights, in file order: rows from the top, each from left to right.
