@@ -4,7 +4,7 @@ use crate::arrays::NONE;
 use crate::errors::triangle_cost;
 use crate::ground::Ground;
 use crate::network::{JOINS, JOINS_NOW, Network, Place};
-use crate::numbers::{Num, as_index, num};
+use crate::numbers::{Num, as_index, num, rise};
 use crate::remove::{Worker, cost_of};
 
 /// A join: the end that goes, where the other one comes to lie, and how much the penalties rise.
@@ -40,11 +40,11 @@ impl Worker {
         for at in 0..self.star.count {
             let u = self.star.vertex(at);
             if v < u && (is_due || network.is_due(u, trial)) && self.read_both(network, v, u) {
-                let old = num(self.cost_of_both(network) as i64);
+                let old = self.cost_of_both(network);
                 for quarters in 1..4 {
                     let place = between(ground, network.place(v), network.place(u), quarters);
                     if let Some(cost) = self.fan_cost(network, ground, place) {
-                        let rise = num(cost as i64) - old;
+                        let rise = rise(old, cost);
                         if best.is_none_or(|it| rise < it.rise) {
                             best = Some(Join {
                                 gone: u,
@@ -107,7 +107,7 @@ impl Worker {
         for at in 0..self.both.triangles.min(64) {
             sum = sum.saturating_add(network.cost(self.both.triangle(at)));
         }
-        sum.min(0x3fff_ffff_ffff_ffff)
+        sum
     }
 
     /// The penalties of the triangles from a place to the ring round both; none where one is not allowed.
@@ -120,7 +120,7 @@ impl Worker {
             );
             sum = sum.saturating_add(triangle_cost(ground, place, a, b)?);
         }
-        Some(sum.min(0x3fff_ffff_ffff_ffff))
+        Some(sum)
     }
 
     /// Puts a fan round the vertex in place of both stars, whose ring is read anew.

@@ -5,7 +5,7 @@ use crate::errors::triangle_cost;
 use crate::ground::Ground;
 use crate::known::KnownTable;
 use crate::network::{Network, REMOVAL};
-use crate::numbers::num;
+use crate::numbers::rise;
 use crate::star::Star;
 use std::alloc::{AllocError, Global};
 use std::collections::BinaryHeap;
@@ -105,9 +105,7 @@ impl Worker {
             return None;
         }
         let new = self.best_fill(network, ground)?;
-        let old = self.star_cost(network);
-        let most = 0x3fff_ffff_ffff_ffff;
-        Some((num(old.min(most) as i64) - num(new.min(most) as i64)).0)
+        Some(rise(new, self.star_cost(network)).0)
     }
 
     /// Puts a vertex into the heap, if it can go.
