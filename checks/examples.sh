@@ -1,5 +1,5 @@
 # shellcheck shell=bash disable=SC2154
-# What the programs of examples/ say to bad words, and the server of a script that is a pipe. Sourced by checks/run.
+# What the programs of examples/ say to bad words, and the server of a script that is a pipe. Sourced by lines.sh.
 
 cd -- "$top" || exit 1
 
@@ -7,7 +7,7 @@ cd -- "$top" || exit 1
 refused() {
   local name=$1 text=$2 why=() told
   shift 2
-  told=$(python3 examples/frustum.py "$@" 2>&1 >"$room/printed")
+  told=$(limited python3 examples/frustum.py "$@" 2>&1 >"$room/printed")
   [ $? -eq 1 ] || why+=("the status is not 1")
   [ ! -s "$room/printed" ] || why+=("it printed '$(head -c 60 "$room/printed")'")
   [[ $told == *"$text"* && $told != *$'\n'* ]] || why+=("it says '$(head -c 200 <<<"$told")'")
@@ -26,7 +26,7 @@ refused a_picture_without_height 'WIDTH and HEIGHT are 4 and 0' 0 0 900 1 0 0 90
 # The server answers each frame before it is asked for the next, as a run of the whole script does; and a refused line ends it.
 mkdir -- "$room/server"
 printf 'camera %s\nframe\n' '0 0 0' '2000 2000 1200' '8000 7000 1100' >"$room/server/script"
-(cd -- "$room/server" && "$program" mesh "$top/examples/jacksboro/grid.pgm" script out 2000 90 >report 2>said &&
+(cd -- "$room/server" && limited "$program" mesh "$top/examples/jacksboro/grid.pgm" script out 2000 90 >report 2>said &&
   paste -d ' ' report <(for mesh in out*.obj; do echo "bytes $(wc -c <"$mesh")"; done) >wanted)
 timeout 60 python3 examples/server.py "$program" examples/jacksboro/grid.pgm 2000 90 0,0,0 2000,2000,1200 8000,7000,1100 >"$room/server/told" 2>&1
 status=$?
@@ -45,7 +45,7 @@ fi
 # docs/REFERENCE.md: a height of one unit on flat ground counts nothing at distance 131,072 and more. The box goes up to 1.
 printf 'P2\n3 3\n9\n0 0 0\n0 1 0\n0 0 0\n' >"$room/one.pgm"
 printf 'camera 0 0 131072\nframe\ncamera 0 0 131073\nframe\n' >"$room/far"
-told=$(cd -- "$room" && "$program" mesh one.pgm far far_out 8 1 2>&1 | cut -d ' ' -f 4,8)
+told=$(cd -- "$room" && limited "$program" mesh one.pgm far far_out 8 1 2>&1 | cut -d ' ' -f 4,8)
 if [ "$told" = $'4 0\n2 0' ]; then
   ok a_height_of_one_unit_counts_nothing_from_afar
 else

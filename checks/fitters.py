@@ -4,7 +4,7 @@ from __future__ import annotations
 import ctypes
 import dataclasses
 import math
-from collections.abc import Sequence
+from collections.abc import Callable, Sequence
 from pathlib import Path
 from typing import Any, Optional
 
@@ -52,6 +52,7 @@ CALLS = {
     "fitter_more": (HANDLE, *FIT, WORDS), "fitter_indices": LIST, "fitter_leaves": LIST, "fitter_border": LIST,
     "fitter_deviation": (HANDLE, ctypes.POINTER(DeviationNote)), "fitter_restore": (HANDLE, WORDS, SIZE),
     "fit_with": (HEIGHTS, SIZE, *FIT, WORDS, SIZE, ctypes.POINTER(FitNote)),
+    "tin": (HEIGHTS, SIZE, WORD, WORD, WORDS, SIZE, ctypes.POINTER(FitNote)),
     "mosaic_open": (HANDLE, WORD, WORD, WORD), "mosaic_close": (HANDLE,),
     "mosaic_next": (HANDLE, ctypes.POINTER(TileNote)), "mosaic_put": (HANDLE, WORD, WORD, WORDS, SIZE),
     "mosaic_required": (HANDLE, WORD, WORD, WORDS, SIZE, ctypes.POINTER(RequiredNote)),
@@ -72,6 +73,31 @@ class Refused(Exception):
     def __init__(self, call: str, answer: int) -> None:
         super().__init__(f"roam_{call} answers {answer}")
         self.answer = answer
+
+
+def lying(kind: Any, method: str, lie: Callable[[Any], Any]) -> Any:
+    """A class like this one, one of whose methods tells a lie in the place of what it has found: a comparison has to see it."""
+    def told(self: Any, *words: Any) -> Any:
+        return lie(getattr(kind, method)(self, *words))
+    return type(f"Lying{kind.__name__}", (kind,), {method: told})
+
+
+def one_more(name: str) -> Callable[[Any], Any]:
+    """The lie of a note in which one number is too great by 1."""
+    def lie(note: Any) -> Any:
+        setattr(note, name, getattr(note, name) + 1)
+        return note
+    return lie
+
+
+def exchanged(found: list[Any]) -> list[Any]:
+    """The lie of a list whose first and last items have changed places."""
+    return [*found[-1:], *found[1:-1], *found[:1]] if len(found) > 1 else found
+
+
+def refusal(_: Any) -> Any:
+    """The lie of a call that is refused."""
+    raise Refused("nothing", NO_ROOM)
 
 
 class Library:

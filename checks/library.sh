@@ -1,6 +1,6 @@
 # shellcheck shell=bash disable=SC2154
 # The engine as a library: what C, C++, Python and C# get of it, each compiler and tool where it is there. The library is
-# crates/roam_c/out/libroam_c.a, which `rt ci` and lib/build leave; ROAM_ARCHIVE names another one. Sourced by checks/run.
+# crates/roam_c/out/libroam_c.a, which `rt ci` and lib/build leave; ROAM_ARCHIVE names another one. Sourced by lines.sh.
 
 # calls_of NAME COUNT: how many random calls; a tenth of worlds, each of which may load a terrain.
 calls_of() { if [ "$1" = worlds ]; then echo $(($2 / 10)); else echo "$2"; fi; }
@@ -26,7 +26,7 @@ RT
     local why=() status
     : >small/bin/commands
     rm -rf installed
-    PATH=$PWD/small/bin:$PATH small/lib/build installed >said 2>&1
+    PATH=$PWD/small/bin:$PATH limited small/lib/build installed >said 2>&1
     status=$?
     [ $status -eq "$2" ] || why+=("exit status $status, not $2: $(tail -n 3 said | tr '\n' '/')")
     [ "$(tr '\n' ' ' <small/bin/commands)" = "$3" ] || why+=("commands: $(tr '\n' ' ' <small/bin/commands)")
@@ -55,7 +55,7 @@ jacksboro=$top/examples/jacksboro/grid.pgm
 # runs NAME TEXT WORDS..: one command; its last line has to hold TEXT.
 runs() {
   local said status
-  said=$("${@:3}" 2>&1)
+  said=$(limited "${@:3}" 2>&1)
   status=$?
   if [ $status -eq 0 ] && [[ $(tail -n 1 <<<"$said") == *"$2"* ]]; then
     ok "$1"
@@ -66,12 +66,12 @@ runs() {
 
 # builds NAME WORDS..: one call of a compiler; a check of its own only where it fails.
 builds() {
-  "${@:2}" >said 2>&1 && return
+  limited "${@:2}" >said 2>&1 && return
   wrong "$1" "not built: '$(head -n 5 said | head -c 600 | tr '\n' '/')'"
   return 1
 }
 
-if ! "$top/lib/build" "$prefix" "$archive" >said 2>&1; then
+if ! limited "$top/lib/build" "$prefix" "$archive" >said 2>&1; then
   wrong library_is_installed "'$(tail -n 5 said | tr '\n' '/')'"
   return
 fi
@@ -203,7 +203,7 @@ sanitized=(-g -O1 '-fsanitize=address,undefined' -fno-sanitize-recover=all)
 sanitizer=
 echo 'int main(void) { return 0; }' >empty.c
 for cc in clang gcc; do
-  "$cc" "${sanitized[@]}" -o empty empty.c >said 2>&1 && ./empty && sanitizer=$cc && break
+  "$cc" "${sanitized[@]}" -o empty empty.c >said 2>&1 && limited ./empty && sanitizer=$cc && break
 done
 if [ -n "$sanitizer" ]; then
   c=("$sanitizer" "${sanitized[@]}")
@@ -231,7 +231,7 @@ fi
 # ThreadSanitizer sees the C++ and the heap, not what the library reads and writes; helgrind, below, sees that too.
 racing=
 for cc in clang++ g++; do
-  "$cc" -g -O1 -fsanitize=thread -x c++ -o empty empty.c >said 2>&1 && ./empty && racing=$cc && break
+  "$cc" -g -O1 -fsanitize=thread -x c++ -o empty empty.c >said 2>&1 && limited ./empty && racing=$cc && break
 done
 if [ -n "$racing" ]; then
   for file in "${threads[@]}"; do
@@ -286,7 +286,7 @@ if has library_python python3; then
     runs library_python_obj '' cmp found/mesh.obj "$top/examples/jacksboro/expected/out000001.obj"
     runs library_python_certificate certified python3 "$top/checks/certificates.py" "$jacksboro" found/mesh.obj found/certificate 2000 90
     if [ -x "$program" ]; then
-      "$program" certify make "$jacksboro" 0 0 0 2000 90 >of_program
+      limited "$program" certify make "$jacksboro" 0 0 0 2000 90 >of_program
       runs library_python_certificate_of_program '' cmp found/certificate of_program
     else
       skip library_python_certificate_of_program 'the program is not built'

@@ -3,6 +3,7 @@ fit_certificates.py, copied into an empty folder and run by Python without the f
 wanted ones, and those of the program's own check. The fitted meshes are the program's."""
 from __future__ import annotations
 
+import contextlib
 import fnmatch
 import re
 import shutil
@@ -10,14 +11,14 @@ import subprocess
 import sys
 import tempfile
 from pathlib import Path
-from typing import Any
+from typing import Any, Optional
 
 import pytest
 from hypothesis import given
 
 import random_runs as runs
 from conftest import CHECKS, TOP
-from place import Place, table
+from place import Place, flat_mesh, table
 from random_runs import Run, random_runs
 
 EXAMPLES = TOP / "examples"
@@ -46,6 +47,29 @@ def judge(place: Place, alone: Path, status: int, line: str, *words: object, is_
     assert found == status and fnmatch.fnmatchcase(told, f"{line}\n"), f"the checker says '{told}' with status {found}"
     place.run("certify", "check-fit" if is_fit else "check", *words)
     assert (place.status, place.report.decode()) == (status, told), "the program says something else"
+
+
+# Checkers and programs that are right except for one thing: each is found. `$0` is the right program.
+@table(
+    "checker, program, text",
+    ("a_judgement_that_is_right", "", '"$0" "$@"', None),
+    ("a_checker_with_another_status", "sys.exit(7)", '"$0" "$@"', "the checker says .* with status 7"),
+    ("a_checker_with_another_line", "print('rejected: bad reason 1')", '"$0" "$@"', "the checker says 'rejected"),
+    ("a_program_with_another_status", "", '"$0" "$@"; exit 7', "the program says something else"),
+    ("a_program_with_another_line", "", '"$0" "$@" | sed s/worst/wurst/', "the program says something else"),
+)
+def test_a_judgement_finds(place: Place, alone: Path, checker: str, program: str, text: Optional[str]) -> None:
+    place.write("c", place.run("certify", "make", "g", 0, 0, 0, 2, 1).report)
+    place.write("o", flat_mesh(2))
+    other = place.folder / "other"
+    shutil.copytree(alone, other)
+    if checker:
+        (other / "certificates.py").write_text(f"import sys\n{checker}\n")
+    wrong = place.write("wrong", f"#!/bin/sh\nexec /bin/sh -c '{program}' '{place.program}' \"$@\"\n")
+    wrong.chmod(0o755)
+    place.program = wrong
+    with contextlib.nullcontext() if text is None else pytest.raises(AssertionError, match=text):
+        judge(place, other, 0, "certified *", "g", "o", "c", 2, 1)
 
 
 def damage(place: Place, name: str, edit: str) -> None:

@@ -6,10 +6,12 @@ from __future__ import annotations
 import os
 import re
 import subprocess
+import sys
+import tempfile
 import threading
 import time
 from pathlib import Path
-from typing import Optional
+from typing import Any, Optional
 
 import pytest
 
@@ -50,6 +52,82 @@ def test_a_folder_under_the_name_of_mesh_2(place: Place) -> None:
     place.write("s", "frame\nframe\n")
     place.run(*MESH)
     place.expect(6, lines(1), "roam: cannot open the mesh 'out000002.obj': Is a directory", meshes=1)
+
+
+# --- Each file is opened once, whether it can be opened or not. ---
+
+# A library that is loaded before the program: the name of each file that it opens is a line of the descriptor OPENS.
+TELLING = r"""
+#define _GNU_SOURCE
+#include <dlfcn.h>
+#include <fcntl.h>
+#include <stdarg.h>
+#include <stdio.h>
+#include <stdlib.h>
+#include <sys/stat.h>
+
+static void told(const char *path) { dprintf(atoi(getenv("OPENS")), "%s\n", path); }
+static mode_t mode_of(va_list more, int flags) {
+    const mode_t mode = flags & (O_CREAT | O_TMPFILE) ? va_arg(more, mode_t) : 0;
+    va_end(more);
+    return mode;
+}
+#define OPENS(name)                                                                                        \
+    int name(const char *path, int flags, ...) {                                                           \
+        va_list more;                                                                                      \
+        va_start(more, flags);                                                                             \
+        told(path);                                                                                        \
+        return ((int (*)(const char *, int, mode_t))dlsym(RTLD_NEXT, #name))(path, flags, mode_of(more, flags)); \
+    }
+#define OPENS_AT(name)                                                                                     \
+    int name(int folder, const char *path, int flags, ...) {                                               \
+        va_list more;                                                                                      \
+        va_start(more, flags);                                                                             \
+        told(path);                                                                                        \
+        return ((int (*)(int, const char *, int, mode_t))dlsym(RTLD_NEXT, #name))(folder, path, flags, mode_of(more, flags)); \
+    }
+OPENS(open) OPENS(open64) OPENS_AT(openat) OPENS_AT(openat64)
+"""
+
+
+@pytest.fixture(scope="session")
+def telling(tmp_path_factory: Any) -> Path:
+    folder = tmp_path_factory.mktemp("telling")
+    (folder / "tell.c").write_text(TELLING)
+    subprocess.run(["cc", "-O1", "-shared", "-fPIC", "-o", folder / "tell.so", folder / "tell.c", "-ldl"], check=True)
+    return Path(folder / "tell.so")
+
+
+def opens(place: Place, telling: Path, *words: object, **how: Any) -> list[str]:
+    """The names of the files that a run opens, in their order."""
+    with tempfile.TemporaryFile() as out:
+        env = {**os.environ, "OPENS": str(out.fileno()), "LD_PRELOAD": str(telling)}
+        place.run(*words, env=env, pass_fds=[out.fileno()], **how)
+        out.seek(0)
+        return [line for line in out.read().decode().splitlines() if not line.startswith("/")]
+
+
+# Of each the words, the status, and the names of all files that are opened.
+@table(
+    "words, status, names",
+    ("files_that_are_there_are_opened_once", "mesh g s out 2 1", 0, "g s out000001.obj"),
+    ("a_grid_that_is_not_there_is_opened_once", "info absent", 5, "absent"),
+    ("a_script_that_is_not_there_is_opened_once", "mesh g absent out 2 1", 5, "g absent"),
+    ("a_mesh_that_cannot_be_made_is_opened_once", "mesh g s absent/out 2 1", 6, "g s absent/out000001.obj"),
+    ("a_folder_as_mesh_is_opened_once", "fit g folder error 1 1", 6, "g folder000001.obj"),
+    ("points_that_are_not_there_are_opened_once", "fit g out error 1 1 keep absent", 5, "g absent"),
+    ("a_certificate_that_is_not_there_is_opened_once", "certify check-fit g o absent error 1 1", 5, "g o absent"),
+)
+def test_opens(place: Place, telling: Path, words: str, status: int, names: str) -> None:
+    (place.folder / "folder000001.obj").mkdir()
+    place.write("o", flat_mesh(2))
+    assert sorted(opens(place, telling, *words.split())) == sorted(names.split())
+    assert place.status == status
+
+
+def test_a_program_that_opens_a_file_again_is_seen(place: Place, telling: Path) -> None:
+    line = "import os\nfor _ in 'ab':\n    try:\n        os.open('absent', os.O_RDONLY)\n    except OSError:\n        pass"
+    assert opens(place, telling, "-I", "-c", line, program=sys.executable) == ["absent", "absent"]
 
 
 # --- Devices and disks that are full. ---

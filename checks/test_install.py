@@ -173,8 +173,8 @@ class Clone:
     def __init__(self, room: Path, archive: Path) -> None:
         self.top, self.bin = room / "clone", room / "bin"
         self.bin.mkdir()
-        for name in ("calfrewin", "lib/build", "lib/heap.c", "lib/roam.h", "lib/roam.hpp", "lib/roam_pager.hpp", "lib/roam.pc",
-                     "lib/cmake", "lib/csharp", "tools", "python"):
+        for name in ("calfrewin", "lib/build", "lib/steps.py", "lib/targets.py", "lib/heap.c", "lib/roam.h", "lib/roam.hpp",
+                     "lib/roam_pager.hpp", "lib/roam.pc", "lib/cmake", "lib/csharp", "tools", "python"):
             target = self.top / name
             target.parent.mkdir(parents=True, exist_ok=True)
             (shutil.copytree if (TOP / name).is_dir() else shutil.copy)(TOP / name, target)

@@ -4,6 +4,7 @@ from __future__ import annotations
 
 import os
 import re
+import resource
 import shutil
 import signal
 import subprocess
@@ -20,13 +21,14 @@ from conftest import TOP
 
 # Notes when a command begins and ends, with its crate; `run` makes a program that tells its folder and words. A crate
 # whose text is 'beside NAME' waits until NAME has begun, for at most a minute; 'after NAME' until it is refused, and
-# then half a second in which the launcher can see it; 'slow' keeps work, says which process it is, and sleeps; 'pause'
-# sleeps half a second; 'broken' is refused.
+# then half a second in which the launcher can see it; 'slow' keeps work, says which process it is, and sleeps; 'once'
+# does so the first time; 'broken' is refused.
 TOOLCHAIN = r"""#!/usr/bin/env bash
 notes=${0%/*}/commands
 echo "$1 ${PWD##*/}" >>"$notes"
+echo "${PWD##*/} $3" >>"${0%/*}/jobs"
 read -r first other <src/text
-[ "$first" = pause ] && sleep 0.5
+[ "$first" = once ] && [ ! -e "${0%/*}/slow" ] && first=slow
 [ "$first" = slow ] && mkdir -p out/incremental && : >out/incremental/proved && echo $$ >>"${0%/*}/slow" && exec sleep 60
 await() { # LINE FILE: until it stands there
   for ((k = 0; k < 6000; k++)); do grep -qsx "$1" "$2" && break; sleep 0.01; done
@@ -61,13 +63,15 @@ echo "end ${PWD##*/}" >>"$notes"
 
 CHAIN = "# a comment\nroam_cli: middle low\nunused:\nmiddle staticlib: low kit_library\nlow:\n"
 WIDE = "left:\nright:\nchain1:\nchain2: chain1\nroam_cli: left right chain2\n"
+# Of two calls that share a build: one makes roam_cli, the other one side.
+SHARED = "low:\nother:\nside: low other\nroam_cli: low\n"
 
 # What the command `roam` does where the program is to be built, on two processors with memory for two whatever there is here.
 ON_TWO = """import sys
 sys.path.insert(0, sys.argv[1])
 import launcher
 launcher.processors, launcher.free_memory = lambda: 2, lambda: 8_000_000_000
-sys.exit(launcher.main(["run", *sys.argv[2:]]))"""
+sys.exit(launcher.main(sys.argv[2:]))"""
 
 
 class Repository:
@@ -78,7 +82,8 @@ class Repository:
         for it in (self.top / "tools", self.bin, self.caller):
             it.mkdir(parents=True)
         shutil.copy(TOP / "roam", self.top)
-        shutil.copy(TOP / "tools/launcher.py", self.top / "tools")
+        for it in ("launcher.py", "first_look.py"):
+            shutil.copy(TOP / "tools" / it, self.top / "tools")
         (self.bin / "roam").symlink_to(self.top / "roam")
         (self.bin / "rt").write_text(TOOLCHAIN)
         (self.bin / "rt").chmod(0o755)
@@ -112,10 +117,10 @@ class Repository:
         return subprocess.run([str(self.bin / "roam"), *words], cwd=self.caller, env=self.environment(jobs, path),
                               timeout=300, stdin=subprocess.DEVNULL, capture_output=True, text=True, check=False)
 
-    def begin(self, said: Path, jobs: int = 2) -> subprocess.Popen[bytes]:
-        """A build on two processors, under way; what it says is in a file."""
-        (self.bin / "commands").write_text("")
-        words = [sys.executable, "-c", ON_TWO, str(self.top / "tools"), "mesh"]
+    def begin(self, said: Path, *words: str, jobs: int = 2) -> subprocess.Popen[bytes]:
+        """A build on two processors, under way, of the program if nothing else is named; what it says is in a file."""
+        (self.bin / "commands").touch()
+        words = (sys.executable, "-c", ON_TWO, str(self.top / "tools"), *(words or ("run", "mesh")))
         with open(said, "wb") as err:
             return subprocess.Popen(words, cwd=self.caller, env=self.environment(jobs, None),
                                     stdin=subprocess.DEVNULL, stdout=subprocess.DEVNULL, stderr=err)
@@ -415,15 +420,262 @@ def test_launcher_leaves_the_signals_of_the_program_alone(chain: Repository) -> 
     assert chain.roam().stdout.split() == ["SigIgn:", "0" * 16]
 
 
-def test_launcher_builds_once_for_two_calls(wide: Repository, tmp_path: Path) -> None:
-    wide.edit("chain1", "pause")
-    first = wide.begin(tmp_path / "said")
-    until(lambda: "lib chain1" in wide.notes("commands"))
-    second = wide.begin(tmp_path / "said2")
-    until(lambda: (tmp_path / "said2").read_text())
-    assert first.wait(300) == 3 and second.wait(300) == 3
-    assert (tmp_path / "said2").read_text() == "roam: another call is proving and building; waiting for it\n"
-    assert (tmp_path / "said").read_text().count("proving and building") == 1
+# --- Two calls at a time. ---
+
+@pytest.fixture
+def shared(tmp_path: Path) -> Repository:
+    return Repository(tmp_path, SHARED)
+
+
+SIDE = ("build", "side", "rlib/made")
+
+
+def test_launcher_proves_a_crate_once_for_two_calls(shared: Repository, tmp_path: Path) -> None:
+    # The first call comes on only where the second one begins what it wants besides.
+    shared.edit("low", "beside other")
+    first = shared.begin(tmp_path / "said")
+    until(lambda: "lib low" in shared.notes("commands"))
+    second = shared.begin(tmp_path / "said2", *SIDE)
+    assert (first.wait(300), second.wait(300)) == (3, 0)
+    assert sorted(shared.commands()) == ["lib low", "lib other", "lib side", "run roam_cli"]
+    said = (tmp_path / "said2").read_text()
+    assert "roam: another call is proving and building too" in said and "low is proved, by another call; " in said
+    shared.check_left()
+
+
+def test_launcher_builds_a_program_once_for_two_calls(shared: Repository, tmp_path: Path) -> None:
+    shared.edit("roam_cli", "beside other")
+    calls = [shared.begin(tmp_path / "said")]
+    until(lambda: "run roam_cli" in shared.notes("commands"))
+    calls += [shared.begin(tmp_path / f"said{number}", *words) for number, words in ((2, ("run", "mesh")), (3, SIDE))]
+    assert [it.wait(300) for it in calls] == [3, 3, 0]
+    assert shared.commands().count("run roam_cli") == 1
+    assert "roam_cli is proved, by another call; 0 left" in (tmp_path / "said2").read_text()
+
+
+def test_launcher_goes_on_where_another_call_is_ended(shared: Repository, tmp_path: Path) -> None:
+    shared.edit("low", "once")
+    first = shared.begin(tmp_path / "said")
+    until(lambda: shared.notes("slow"))
+    second = shared.begin(tmp_path / "said2", *SIDE)
+    until(lambda: "other is proved" in (tmp_path / "said2").read_text())
+    first.send_signal(signal.SIGTERM)
+    assert (first.wait(300), second.wait(300)) == (128 + signal.SIGTERM, 0)
+    assert shared.commands().count("lib low") == 2 and "low is proved, in " in (tmp_path / "said2").read_text()
+
+
+def test_launcher_removes_the_copies_of_a_call_that_was_killed(shared: Repository, tmp_path: Path) -> None:
+    shared.edit("low", "once")
+    first = shared.begin(tmp_path / "said")
+    until(lambda: shared.notes("slow"))
+    first.kill()
+    first.wait()
+    assert list(shared.top.glob("crates/roam_cli/out/tree/*"))
+    assert shared.begin(tmp_path / "said").wait(300) == 3
+    shared.check_left()
+    os.kill(int(shared.notes("slow")[0]), signal.SIGKILL)
+
+
+# --- Idle processors. ---
+
+@pytest.mark.parametrize("seconds, jobs", [
+    pytest.param("low 100 4 50", {"low 2", "other 1"}, id="launcher_gives_a_crate_the_processors_that_no_other_waits_for"),
+    pytest.param("low 100", {"low 1", "other 1"}, id="launcher_gives_them_only_where_they_help"),
+])
+def test_jobs(shared: Repository, tmp_path: Path, seconds: str, jobs: set[str]) -> None:
+    shared.edit("low", "source")
+    (shared.top / "crates.txt").write_text("low:\nother: low\nroam_cli: other\n")
+    shared.foretell(seconds + "\n")
+    assert shared.begin(tmp_path / "said").wait(300) == 3
+    assert jobs <= set(shared.notes("jobs"))
+
+
+def test_launcher_shares_processors_among_those_that_wait(wide: Repository, tmp_path: Path) -> None:
+    wide.foretell("left 100 4 50\nright 100 4 50\nchain1 1\n")
+    assert wide.begin(tmp_path / "said").wait(300) == 3
+    assert wide.notes("jobs")[0] in ("left 1", "right 1")
+
+
+@pytest.mark.parametrize("memory, expected", [
+    pytest.param(6.5e9, [True, True, False], id="launcher_begins_what_there_is_memory_for"),
+    pytest.param(5e9, [True, False, False], id="launcher_begins_no_large_proof_beside_another_one_without_memory"),
+    pytest.param(1e9, [True, False, False], id="launcher_begins_one_proof_whatever_memory_there_is"),
+])
+def test_memory(chain: Repository, monkeypatch: pytest.MonkeyPatch, memory: float, expected: list[bool]) -> None:
+    (chain.top / "crates.txt").write_text("low:\nroam_c: low\nroam_cli: roam_c\n")
+    for name in ("low", "roam_c", "roam_cli"):
+        (chain.top / "crates" / name / "out").mkdir(parents=True)
+    monkeypatch.setattr(launcher, "free_memory", lambda: int(memory))
+    made = launcher.Build(launcher.Crates(chain.top, "roam_cli"), chain.top / "made")
+    made.most = 4
+    assert [made._begin(name, 0) for name in ("roam_c", "roam_cli", "low")] == expected
+    for name in list(made.lane):
+        made._let_go(name)
+
+
+# --- What it tells of the time left. ---
+
+def test_launcher_tells_each_minute_once() -> None:
+    clock = launcher.Clock(600, 0)
+    told = [clock.told(600 - now, now) for now in range(30, 600, 30)]
+    assert [it for it in told if it] == [launcher.in_minutes(60 * minutes) + " left" for minutes in range(9, 0, -1)]
+
+
+def test_launcher_says_that_it_takes_longer_than_foretold() -> None:
+    clock = launcher.Clock(60, 0)
+    told = [text for now in range(30, 1200, 30) if (text := clock.told(20, now))]
+    assert all(text.endswith("minutes left, longer than foretold") for text in told[1:]), told
+    assert told == sorted(told, key=lambda text: int(re.sub("[^0-9]", "", text) or 1)) and len(told) < 12
+    assert all(told.count(text) <= 3 for text in told)
+
+
+def plan_of(wide: Repository, seconds: str) -> launcher.Plan:
+    wide.foretell(seconds)
+    return launcher.Plan(launcher.Crates(wide.top, "roam_cli"))
+
+
+def test_launcher_measures_the_machine(wide: Repository) -> None:
+    plan = plan_of(wide, SECONDS.format(left=100))
+    assert plan.seconds_left([], {}, 1) == pytest.approx(500)
+    plan.has_taken("left", 1, 240)
+    assert plan.seconds_left(["left"], {}, 1) == pytest.approx(400 * 300 / 160)
+    # What takes longer than foretold counts before it has ended.
+    assert plan.seconds_left(["left"], {"right": (1, 400.0)}, 1) == pytest.approx(300 * 700 / 260 + 100)
+
+
+def test_launcher_takes_a_late_crate_for_four_fifths_done(wide: Repository) -> None:
+    plan = plan_of(wide, "roam_cli 10\n")
+    done = ["left", "right", "chain1", "chain2"]
+    assert [plan.seconds_left(done, {"roam_cli": (1, so_far)}, 1) for so_far in (400.0, 800.0)] == [100, 200]
+
+
+def test_launcher_counts_a_part_that_further_processors_do_not_shorten(wide: Repository) -> None:
+    plan = plan_of(wide, "left 100 4 55\n")
+    assert [round(plan.seconds("left", jobs)) for jobs in (1, 2, 4)] == [100, 70, 55]
+    assert (plan.jobs("left", 8, 0), plan.jobs("left", 3, 1), plan.jobs("left", 2, 5), plan.jobs("right", 8, 0)) == (4, 2, 1, 1)
+
+
+# --- A first look, without proof. ---
+
+# A toolchain that compiles by what is in the place of its own folder, and keeps no program.
+TRIES = '''#!/usr/bin/env python3
+import os, subprocess, sys, tempfile, types
+here = os.path.dirname(os.path.realpath(__file__))
+rtlib = types.SimpleNamespace(KIT=os.path.dirname(here), RATTLE="rattle")
+class Crate:
+    def __init__(self, folder, top, known): pass
+    def stamp(self): return ""
+    def below(self): return []
+rtlib.Crate = Crate
+def main(words):
+    with open(f"{here}/commands", "a") as notes: print(*words, os.path.basename(os.getcwd()), file=notes)
+    if "broken" in open("src/text").read():
+        print("error: broken")
+        return 1
+    with tempfile.TemporaryDirectory() as room:
+        subprocess.run([f"{rtlib.KIT}/toolchain/bin/ld.lld", "-pie", "-o", "program", "input"], cwd=room, check=True)
+        return subprocess.run([f"{room}/program", *words[2:]], stdout=subprocess.DEVNULL).returncode
+if __name__ == "__main__":
+    sys.exit(main(sys.argv[1:]))
+'''
+LINKER = r"""#!/bin/sh
+printf '#!/bin/sh\npwd; printf "<%%s>" "$@"; [ "$2" = /dev/null/grid ] && exit 5; exit 3\n' >"$3"
+chmod +x "$3"
+"""
+NOT_PROVED = "roam: this program is not proved; without --try it is\n"
+MADE = ["try -- info /dev/null/grid roam_cli"]
+
+
+@pytest.fixture
+def tries(tmp_path: Path) -> Repository:
+    """A repository with that toolchain, in a folder whose name wants quotes."""
+    made = Repository(tmp_path / "it's here", CHAIN)
+    (made.bin / "rt").write_text(TRIES)
+    linker = made.bin.parent / "toolchain/bin/ld.lld"
+    linker.parent.mkdir(parents=True)
+    linker.write_text(LINKER)
+    linker.chmod(0o755)
+    return made
+
+
+def look(tries: Repository, status: int, commands: list[str], lines: int) -> str:
+    ended = tries.roam("--try", *WORDS)
+    assert (ended.returncode, tries.commands(), len(ended.stderr.splitlines())) == (status, commands, lines), ended.stderr
+    if status == 3:
+        assert ended.stdout == f"{tries.caller}\n<mesh><a b><><*>" and ended.stderr.endswith(NOT_PROVED)
+    tries.check_left()
+    return ended.stderr
+
+
+def test_roam_has_a_program_without_proof_for_a_first_look(tries: Repository) -> None:
+    look(tries, 3, MADE, 2)
+
+
+def test_roam_keeps_the_program_without_proof(tries: Repository) -> None:
+    look(tries, 3, MADE, 2)
+    look(tries, 3, [], 1)
+    tries.edit("low", "other")
+    look(tries, 3, MADE, 2)
+
+
+def test_roam_takes_the_proved_program_for_a_first_look(chain: Repository) -> None:
+    launch(chain, 3, ALL, 4)
+    ended = chain.roam("--try", *WORDS)
+    assert (ended.returncode, ended.stdout, ended.stderr) == (3, f"{chain.caller}\n<mesh><a b><><*>", "")
+
+
+def test_roam_says_what_it_could_not_compile(tries: Repository) -> None:
+    tries.edit("roam_cli", "broken")
+    said = look(tries, 125, MADE, 3)
+    log = tries.top / "crates/roam_cli/out/not_proved.log"
+    assert said.endswith("error: broken\nroam: the program could not be made without proof; all that the toolchain said is "
+                         f"in {log}\n")
+
+
+def test_roam_says_that_another_toolchain_keeps_no_program(chain: Repository) -> None:
+    ended = chain.roam("--try", "mesh")
+    assert ended.returncode == 125 and "this toolchain is not one that keeps a program" in ended.stderr
+
+
+def test_roam_says_that_a_first_look_wants_the_toolchain(tries: Repository) -> None:
+    ended = tries.roam("--try", "mesh", path="/usr/bin:/bin")
+    assert (ended.returncode, ended.stderr) == (127, "roam: the toolchain's command 'rt' is not on PATH\n")
+
+
+# --- The program `calfrewin`: what can be said before anything is built. ---
+
+def answer_of(calfrewin: Path, words: list[str]) -> tuple[subprocess.CompletedProcess[str], float]:
+    """One call without the toolchain on PATH, and the seconds that it takes of a processor."""
+    before = resource.getrusage(resource.RUSAGE_CHILDREN)
+    ended = subprocess.run([calfrewin, *words], env={**os.environ, "PATH": "/usr/bin:/bin"}, cwd=calfrewin.parent, timeout=300,
+                           capture_output=True, text=True, check=False)
+    after = resource.getrusage(resource.RUSAGE_CHILDREN)
+    return ended, after.ru_utime + after.ru_stime - before.ru_utime - before.ru_stime
+
+
+GRID = "examples/jacksboro/grid.pgm"
+
+
+@pytest.mark.parametrize("words, status, said", [
+    pytest.param(["--help"], 0, "Usage: calfrewin ", id="calfrewin_helps_before_it_builds"),
+    pytest.param(["--version"], 0, "calfrewin, version ", id="calfrewin_tells_its_version_before_it_builds"),
+    pytest.param(["--eror", "2"], 2, "No such option: --eror", id="calfrewin_refuses_an_option_before_it_builds"),
+    pytest.param(["none.tif", "my.glb", "--error", "2"], 1, "none.tif", id="calfrewin_refuses_a_file_before_it_builds"),
+    pytest.param([GRID, "my.glb", "--error", "20"], 1, "give --spacing", id="calfrewin_asks_for_a_spacing_before_it_builds"),
+    pytest.param([GRID, "my.glb", "--error", "20", "--spacing", "90"], 127, "'rt' is not on PATH",
+                 id="calfrewin_builds_where_all_is_right"),
+])
+def test_words(tmp_path: Path, words: list[str], status: int, said: str) -> None:
+    for it in ("calfrewin", "crates.txt", GRID):
+        (tmp_path / it).parent.mkdir(parents=True, exist_ok=True)
+        shutil.copy(TOP / it, tmp_path / it)
+    for it in ("tools", "python/src"):
+        shutil.copytree(TOP / it, tmp_path / it, ignore=shutil.ignore_patterns("*.so", "__pycache__"))
+    ended, seconds = answer_of(tmp_path / "calfrewin", words)
+    assert ended.returncode == status and said in ended.stdout + ended.stderr, ended.stderr
+    assert "Traceback" not in ended.stderr and seconds < 2
+    assert not list(tmp_path.glob("crates/*/out/*")) and not (tmp_path / "my.glb").exists()
+    assert [it.name for it in tmp_path.glob("lib/out/*")] in ([], ["python"])
 
 
 # --- A PATH with what the launcher needs and no toolchain. ---
@@ -471,6 +723,38 @@ def test_rt(chain: Repository, driver: str, taken: int) -> None:
                            env=chain.environment(None, None), capture_output=True, text=True, check=False)
     told = f"['lib', 'a b'] ['stamp of caller', 'stamp of caller'] {taken}\n"
     assert (ended.returncode, ended.stdout) == (7, told), ended.stderr
+
+
+KEPT = '''
+    def call(self, *words): return subprocess.run(words, cwd=self.folder).returncode
+rtlib = types.SimpleNamespace(Crate=Crate)
+def main(words):
+    it = Crate(os.getcwd(), "", {})
+    it.name = "caller"
+    build = 'cd code && "$4/bin/clang" -c module.bc && cat "$4/lib/here"'
+    return it.call("sh", "-c", build, *words, "--toolchain", os.environ["TOOLS"])
+'''
+
+
+@pytest.mark.parametrize("words, kept", [
+    pytest.param(["build", "--crate-type", "staticlib"], ["caller.bc"], id="launcher_keeps_the_code_of_a_static_library"),
+    pytest.param(["build", "--crate-type", "library"], [], id="launcher_keeps_no_code_of_another_library"),
+])
+def test_code(chain: Repository, words: list[str], kept: list[str]) -> None:
+    tools = chain.bin / "the tools"
+    for name, text in (("bin/clang", "#!/bin/sh\necho compiled $*\n"), ("lib/here", "a file\n")):
+        (tools / name).parent.mkdir(parents=True)
+        (tools / name).write_text(text)
+        (tools / name).chmod(0o755)
+    for name in ("code", "out"):
+        (chain.caller / name).mkdir()
+    (chain.caller / "code/module.bc").write_text("code")
+    head, _, tail = DRIVER.partition("rtlib =")
+    (chain.bin / "rt").write_text(head.replace("import os,", "import os, subprocess,") + KEPT + tail[tail.index("if __name__"):])
+    ended = subprocess.run([sys.executable, str(chain.top / "tools/launcher.py"), "rt", *words], cwd=chain.caller,
+                           env={**chain.environment(None, None), "TOOLS": str(tools)}, capture_output=True, text=True, check=False)
+    assert (ended.returncode, ended.stdout) == (0, "compiled -c module.bc\na file\n"), ended.stderr
+    assert [(it.name, it.read_text()) for it in (chain.caller / "out").iterdir()] == [(it, "code") for it in kept]
 
 
 def test_launcher_notes_the_libraries_of_a_passed_gate(chain: Repository) -> None:

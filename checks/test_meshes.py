@@ -2,10 +2,11 @@
 many as RANDOM_RUNS says."""
 from __future__ import annotations
 
+import contextlib
 import subprocess
 import sys
 from pathlib import Path
-from typing import Any
+from typing import Any, Optional
 
 import generated
 import pytest
@@ -66,6 +67,40 @@ def test_fit(program: Path, side: int, seed: int, kind: str, bound: object) -> N
 def test_script(program: Path, side: int, seed: int, budget: int, spacing: int, script: bytes) -> None:
     with both(program, {"g": rough_grid(side, seed), "s": script}) as them:
         them.check("mesh", "g", "s", "out", budget, spacing)
+
+
+# --- Programs that are right except for one thing: the comparison finds each. ---
+
+WRONG = """#!/usr/bin/env python3
+import pathlib, subprocess, sys
+ended = subprocess.run([{program!r}, *sys.argv[1:]], stdout=subprocess.PIPE)
+report, status, mesh = ended.stdout, ended.returncode, pathlib.Path("out000001.obj")
+lines = mesh.read_bytes().splitlines(True)
+{lie}
+mesh.write_bytes(b"".join(lines))
+sys.stdout.buffer.write(report)
+sys.exit(status)
+"""
+
+
+@table(
+    "lie, text",
+    ("a_program_that_is_right", "", None),
+    ("a_program_with_another_status", "status = 1", "status and report"),
+    ("a_program_with_another_worst", "report = report.replace(b'worst ', b'worst 1')", "status and report"),
+    ("a_program_without_its_report", "report = b''", "status and report"),
+    ("a_program_with_two_triangles_exchanged", "lines[-1], lines[-2] = lines[-2], lines[-1]", "out000001.obj'.* differ"),
+    ("a_program_with_another_height", "lines[0] = lines[0][:-1] + b'1\\n'", "out000001.obj'.* differ"),
+    ("a_program_with_a_mesh_too_many", "pathlib.Path('out000002.obj').touch()", "meshes .*out000002"),
+    ("a_program_with_its_mesh_under_another_name", "mesh.unlink(); mesh = pathlib.Path('out1.obj')", "meshes .*out1.obj"),
+)
+def test_the_comparison_finds(program: Path, tmp_path: Path, lie: str, text: Optional[str]) -> None:
+    wrong = tmp_path / "wrong"
+    wrong.write_text(WRONG.format(program=str(program), lie=lie))
+    wrong.chmod(0o755)
+    with both(wrong, {"g": rough_grid(5, 3), "s": b"frame\n"}) as them:
+        with contextlib.nullcontext() if text is None else pytest.raises(AssertionError, match=text):
+            them.check("mesh", "g", "s", "out", 9, 1)
 
 
 # --- Generated runs. ---

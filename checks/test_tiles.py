@@ -2,6 +2,7 @@
 cracks.py says of their meshes."""
 from __future__ import annotations
 
+import contextlib
 import dataclasses
 import random
 from pathlib import Path
@@ -146,10 +147,10 @@ def check_mesh(ground: Ground, terrain: Terrain, fitter: Fitter, split: set[int]
     places = {ground.place(point) for triangle in corners for point in triangle}
     rim = {0, terrain.m}
     border = [k for k in sorted(places) if rim & set(ground.point(k)) and not set(ground.point(k)) <= rim]
-    assert fitter.leaves() == leaves
-    assert fitter.indices() == [ground.place(point) for triangle in corners for point in triangle]
-    assert fitter.border() == border
-    assert fitter.deviation() == (deviation(terrain, leaves), terrain.m)
+    assert fitter.leaves() == leaves, "the mesh is another"
+    assert fitter.indices() == [ground.place(point) for triangle in corners for point in triangle], "its corners are others"
+    assert fitter.border() == border, "its border is another"
+    assert fitter.deviation() == (deviation(terrain, leaves), terrain.m), "it is off by something else"
 
 
 @given(st.data())
@@ -182,6 +183,24 @@ def test_a_fitter_finds_the_mesh_of_the_plain_loop(library: Library, data: Any) 
     assert other.more(request) == len(split) + 2
     check_mesh(ground, terrain, other, split)
     fitter.close(), other.close()
+
+
+@table(
+    "method, lie, text",
+    ("leaves_of_a_fitter_in_another_order", "leaves", fitters.exchanged, "the mesh is another"),
+    ("two_corners_of_a_fitter_exchanged", "indices", fitters.exchanged, "its corners are others"),
+    ("a_border_of_a_fitter_without_its_last_point", "border", lambda found: found[:-1], "its border is another"),
+    ("another_deviation_of_a_fitter", "deviation", lambda found: (found[0] + 1, found[1]), "it is off by something else"),
+)
+def test_the_comparison_of_a_fitter_finds_lies(library: Library, method: str, lie: Any, text: str) -> None:
+    ground = Ground(1, [0, 0, 0, 0, 9, 7, 0, 0, 0])
+    terrain, required = ground.terrain(), Request(0, (), [1])
+    for kind, is_right in ((Fitter, True), (fitters.lying(Fitter, method, lie), False)):
+        fitter = kind(library, ground.heights)
+        fitter.fit(required)
+        with contextlib.nullcontext() if is_right else pytest.raises(AssertionError, match=text):
+            check_mesh(ground, terrain, fitter, ground.plain(terrain, required))
+        fitter.close()
 
 
 @given(st.data())
@@ -281,18 +300,19 @@ class Tiles:
         return mesh
 
 
-def fitted_in_rounds(library: Library, tiles: Tiles, roll: random.Random) -> dict[tuple[int, int], Fitter]:
+def fitted_in_rounds(library: Library, tiles: Tiles, roll: random.Random, fitter: Any = Fitter,
+                     rounds: Any = Mosaic) -> dict[tuple[int, int], Fitter]:
     """The fitters of all tiles when none lacks anything: first some tiles that are taken at random, fitted from nothing
     and put late or twice, and then those that the mosaic tells, going on from the mesh that is there."""
-    mosaic = Mosaic(library, tiles.columns, tiles.rows, 2 ** tiles.n + 1)
-    found = {tile: Fitter(library, tiles.part(tile, tiles.heights)) for tile in tiles.all()}
+    mosaic = rounds(library, tiles.columns, tiles.rows, 2 ** tiles.n + 1)
+    found = {tile: fitter(library, tiles.part(tile, tiles.heights)) for tile in tiles.all()}
     late: list[tuple[tuple[int, int], list[int]]] = []
     for _ in range(roll.randrange(3) * len(found)):
         tile = roll.choice(list(found))
         late.append((tile, mosaic.required(tile)[0]))
         if roll.random() < 0.6:
             tile, required = late.pop(roll.randrange(len(late)))
-            fresh = Fitter(library, tiles.part(tile, tiles.heights))
+            fresh = fitter(library, tiles.part(tile, tiles.heights))
             fresh.fit(tiles.request(tile, required))
             before, _ = mosaic.required(tile)
             try:
@@ -314,18 +334,19 @@ def fitted_in_rounds(library: Library, tiles: Tiles, roll: random.Random) -> dic
         mosaic.put(tile, found[tile].border())
     for tile in found:
         required, lacks = mosaic.required(tile)
-        assert not lacks and set(required) <= {place for place in found[tile].indices()}
+        assert not lacks and set(required) <= {place for place in found[tile].indices()}, f"tile {tile} lacks a point"
     mosaic.close()
     return found
 
 
-def check_mosaic(library: Library, tiles: Tiles, roll: random.Random) -> None:
+def check_mosaic(library: Library, tiles: Tiles, roll: random.Random, **kinds: Any) -> None:
     """The tiles have the least mesh of one large grid, without cracks."""
-    found = fitted_in_rounds(library, tiles, roll)
+    found = fitted_in_rounds(library, tiles, roll, **kinds)
     wanted = tiles.plain()
     for tile, fitter in found.items():
         assert fitter.leaves() == wanted[tile], f"tile {tile} has another mesh"
-    assert cracks.crack_in(tiles.mesh(found), tiles.columns * 2 ** tiles.n, tiles.rows * 2 ** tiles.n) is None
+    crack = cracks.crack_in(tiles.mesh(found), tiles.columns * 2 ** tiles.n, tiles.rows * 2 ** tiles.n)
+    assert crack is None, f"a crack: {crack}"
     for fitter in found.values():
         fitter.close()
 
@@ -351,6 +372,22 @@ def test_mosaic_of_rough_ground(library: Library, n: int, columns: int, rows: in
         check_mosaic(library, Tiles(n, columns, rows, heights, thousandths), roll)
     tolerances = np.array([[roll.choice([-1, 0, 500 * most, 900 * most]) for _ in row] for row in heights])
     check_mosaic(library, Tiles(n, columns, rows, heights, 0, np.minimum(tolerances, 65535999)), roll)
+
+
+@table(
+    "kind, method, lie, text",
+    ("leaves_of_a_tile_in_another_order", Fitter, "leaves", fitters.exchanged, "has another mesh"),
+    ("corners_of_a_tile_in_another_order", Fitter, "indices", fitters.exchanged, "a crack"),
+    ("a_mosaic_that_tells_no_tile", Mosaic, "next", lambda tile: None, "lacks a point"),
+    ("a_mosaic_that_requires_a_corner_more", Mosaic, "required", lambda it: ([*it[0], 0, 2], it[1]), "has another mesh"),
+)
+def test_the_comparison_of_a_mosaic_finds_lies(library: Library, kind: Any, method: str, lie: Any, text: str) -> None:
+    tiles = Tiles(1, 2, 2, rough(random.Random(3), 5, 5), 0)
+    kinds = {"fitter": Fitter, "rounds": Mosaic}
+    check_mosaic(library, tiles, random.Random(1), **kinds)
+    kinds["fitter" if kind is Fitter else "rounds"] = fitters.lying(kind, method, lie)
+    with pytest.raises(AssertionError, match=text):
+        check_mosaic(library, tiles, random.Random(1), **kinds)
 
 
 @table("n, p, seed, thousandths", *(

@@ -89,7 +89,8 @@ def answer_of(call: Callable[..., None], *words: Any) -> int:
 class Flight:
     """A world of the library and a plain one, to which the same happens; and pages that are in no world, with their heights."""
 
-    def __init__(self, library: Library, roll: random.Random, plain: Callable[..., worlds.World]) -> None:
+    def __init__(self, library: Library, roll: random.Random, plain: Callable[..., worlds.World],
+                 world: Callable[..., fitters.World]) -> None:
         self.library, self.roll = library, roll
         self.n, self.most, spacing = roll.randint(1, 4), roll.randint(2, 300), roll.choice([1, 30, 1024])
         large = roll.randint(self.n, min(self.n + 4, roll.choice([5, 5, 5, 5, 6, 7])))
@@ -97,7 +98,7 @@ class Flight:
         self.width = spacing << large
         coarsest = [roll.choice(self.few) for _ in range((2 ** self.n + 1) ** 2)]
         self.plain = plain(coarsest, large, spacing, self.most)
-        self.world = fitters.World(library, Page(library, coarsest), large, self.most, spacing)
+        self.world = world(library, Page(library, coarsest), large, self.most, spacing)
         self.kept: list[tuple[Square, list[int], Page]] = []
         self.split: set[int] = set()  # by the last frame
         self.worst = 0
@@ -247,8 +248,9 @@ class Flight:
                 self.frame()
 
 
-def flown(library: Library, seed: int, plain: Callable[..., worlds.World] = worlds.World) -> None:
-    flight = Flight(library, random.Random(seed), plain)
+def flown(library: Library, seed: int, plain: Callable[..., worlds.World] = worlds.World,
+          world: Callable[..., fitters.World] = fitters.World) -> None:
+    flight = Flight(library, random.Random(seed), plain, world)
     flight.fly(30)
     flight.close()
 
@@ -296,3 +298,26 @@ def test_the_comparison_finds_mistakes(library: Library, wrong: Callable[..., wo
     with pytest.raises(AssertionError, match="another"):
         for seed in range(40):
             flown(library, seed, wrong)
+
+
+# --- Lies of a world, one for each thing that is compared, with all else right: the comparison finds each. ---
+
+@table(
+    "method, lie, text",
+    ("a_load_that_is_refused", "load", fitters.refusal, "another answer to the load"),
+    ("an_unload_that_is_refused", "unload", fitters.refusal, "another answer to the unload"),
+    ("a_height_that_is_refused", "set_height", fitters.refusal, "another answer to a change"),
+    ("an_area_that_is_refused", "raise_area", fitters.refusal, "another answer to a change"),
+    ("leaves_in_another_order", "leaves", fitters.exchanged, "the mesh is another"),
+    ("another_leaf", "leaves", lambda found: [*found[:-1], found[-1] ^ 1], "the mesh is another"),
+    ("another_worst", "frame", fitters.one_more("worst"), "the worst is another"),
+    ("another_count", "frame", fitters.one_more("triangles"), "the worst is another"),
+    ("another_that_blocks", "frame", fitters.one_more("blocking"), "what blocks is another"),
+    ("another_need", "frame", fitters.one_more("need"), "what blocks is another"),
+    ("another_number_of_splits", "frame", fitters.one_more("splits"), "the steps are others"),
+    ("another_number_of_merges", "frame", fitters.one_more("merges"), "the steps are others"),
+)
+def test_the_comparison_finds_lies(library: Library, method: str, lie: Callable[[Any], Any], text: str) -> None:
+    with pytest.raises(AssertionError, match=text):
+        for seed in range(40):
+            flown(library, seed, world=fitters.lying(fitters.World, method, lie))

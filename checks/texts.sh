@@ -1,6 +1,6 @@
 # shellcheck shell=bash disable=SC2154,SC2016
 # The repository's texts: what a script can see of its rules (CONTRIBUTING.md), beside test_texts.py (words, links, figures,
-# the site) and test_pages.py (what is generated). Sourced by checks/run.
+# the site) and test_pages.py (what is generated). Sourced by lines.sh.
 
 cd -- "$top" || exit 1
 
@@ -41,12 +41,14 @@ for name in $crates; do
   edits=("crates/$name"/must-fail/*.edit)
   [ -e "${edits[0]}" ] || edits=()
   beside=("checks/edits/$name"/*.edit)
+  [ -e "${beside[0]}" ] || beside=()
+  [ $((${#edits[@]} + ${#beside[@]})) -eq 0 ] || echo "counted edits_of_$name $((${#edits[@]} + ${#beside[@]}))"
   says_none=$(grep -c '^No edit that must fail: [^ ]' "crates/$name/README.md")
   if [ "${#edits[@]}" -gt 0 ]; then
     [ "$says_none" -eq 0 ] || why+=("README.md says that no edit must fail")
   elif [[ $name != *_tests ]] && [ "$(lines_of_code "crates/$name")" -gt "$least_code" ]; then
     [ "$says_none" -eq 1 ] || why+=("no edit that must fail, and no line 'No edit that must fail: ..' in README.md")
-    [ -e "${beside[0]}" ] || why+=("no edit in must-fail/ or in checks/edits/$name")
+    [ "${#beside[@]}" -gt 0 ] || why+=("no edit in must-fail/ or in checks/edits/$name")
   fi
   if [ "${#edits[@]}" -gt "$most_edits" ]; then
     why+=("${#edits[@]} edits that must fail")

@@ -1,7 +1,7 @@
 # shellcheck shell=bash disable=SC2154
 # Grids that other tools make, as docs/GRIDS.md tells: netpbm, ImageMagick and GDAL, each where it is there. `info` has to
 # tell the side and the maxval that the tool was asked for, and the least and the greatest sample that the tool itself
-# finds in its file. Sourced by checks/run.
+# finds in its file. Sourced by lines.sh.
 
 # begins FILE TEXT: whether the file begins with this text (as printf's %b).
 begins() { cmp -s -n "$(printf '%b' "$2" | wc -c)" -- "$1" <(printf '%b' "$2"); }
@@ -11,7 +11,7 @@ begins() { cmp -s -n "$(printf '%b' "$2" | wc -c)" -- "$1" <(printf '%b' "$2"); 
 told() {
   local why=() answer
   begins "$2" "$3" || why+=("the tool wrote another header: $(head -c 60 -- "$2" | tr -c '[:print:]' '/')")
-  answer=$("$program" info "$2" 2>&1 </dev/null) || why+=("exit status $?")
+  answer=$(limited "$program" info "$2" 2>&1 </dev/null) || why+=("exit status $?")
   [[ $answer == "side $4 maxval $5 low $6 high $7 thickness "* ]] ||
     why+=("'$(head -c 100 <<<"$answer")', not 'side $4 maxval $5 low $6 high $7 ..'")
   decide "$1" ${why[0]+"${why[@]}"}
@@ -20,8 +20,8 @@ told() {
 # same_heights NAME FILE FILE: the two files are told of with the same line.
 same_heights() {
   local one two
-  one=$("$program" info "$2" 2>&1)
-  two=$("$program" info "$3" 2>&1)
+  one=$(limited "$program" info "$2" 2>&1)
+  two=$(limited "$program" info "$3" 2>&1)
   if [ "$one" = "$two" ] && [[ $one == side* ]]; then ok "$1"; else wrong "$1" "'$one' and '$two'"; fi
 }
 

@@ -1,6 +1,6 @@
 """Flies `calfrewin fly` in a headless Chromium, and asks its server wrongly: a line 'ok NAME' or 'FAILED NAME: why' a check.
 
-usage: python3 checks/viewer.py GRID PICTURE CHROMIUM       all; the picture of the tenth frame is left in PICTURE
+usage: python3 checks/viewer.py GRID PICTURE CHROMIUM [PART]  all; the picture of the tenth frame is left in PICTURE
        python3 checks/viewer.py GRID                        the server alone
        python3 checks/viewer.py GRID --time FRAMES          prints the server's milliseconds a frame along a path, over the grid
                                                             and over one twice as fine: with middles, a little rough
@@ -433,6 +433,78 @@ def check_sea(chromium):
             server.process.wait()
 
 
+# Keeps what the page asks of /frame, each request by its numbers.
+KEEPING = """{
+  const send = window.fetch;
+  window.asked = [];
+  window.fetch = (name, how) => {
+    if (name === "frame") window.asked = [...window.asked.slice(-3), Array.from(new BigInt64Array(how.body.buffer), Number)];
+    return send(name, how);
+  };
+}"""
+STANDS = "window.asked.length > 3 && window.asked.every((it) => String(it) === String(window.asked[0]))"
+
+
+def check_view(server, chromium):
+    """What the page asks for a camera that stands, with heights drawn as they are and four times as high, and the pixels that it
+    tells, in windows that are wider and narrower than they are high."""
+    with tempfile.TemporaryDirectory(ignore_cleanup_errors=True) as profile:
+        browser = Browser(chromium, profile)
+        try:
+            browser.call("Page.addScriptToEvaluateOnNewDocument", source=KEEPING)
+            browser.call("Page.navigate", url=f"http://127.0.0.1:{server.port}/?frames=1000000&triangles=900")
+            browser.wait('document.getElementById("told").textContent.includes("triangles")', 120)
+            browser.value('document.getElementById("play").checked = false')
+            check_lifted(browser)
+            check_pixels(browser)
+        finally:
+            browser.close()
+
+
+def asked(browser, width, height, **settings):
+    """The budget, the threshold, the camera and the planes of a request that repeats, in a window of this size."""
+    browser.call("Emulation.setDeviceMetricsOverride", width=width, height=height, deviceScaleFactor=1, mobile=False)
+    for name, value in settings.items():
+        browser.value(f'document.getElementById("{name}").value = {value}')
+    browser.value("window.asked = []")
+    if not browser.wait(STANDS, 120):
+        raise SystemExit(f"FAILED viewer_the_page_asks_the_same_while_it_stands: {browser.value('window.asked')} {browser.wrong}")
+    numbers = browser.value("window.asked[0]")
+    return numbers[0], numbers[1], numbers[2:5], [numbers[k:k + 4] for k in range(5, len(numbers), 4)]
+
+
+def check_lifted(browser):
+    """The eye and what it sees are where they are drawn: at four times the height where heights are drawn so."""
+    _, _, (x, y, z), planes = asked(browser, 900, 600, lift=4)
+    _, _, flat, drawn = asked(browser, 900, 600, lift=1)
+    decide("viewer_the_eye_is_over_the_ground_as_it_is_drawn",
+           [] if flat[:2] == [x, y] and abs(flat[2] - 4 * z) <= 2 and z > 100 else [f"{x} {y} {z} four times as high, {flat} as it is"])
+    points = [(x, y, z), (0, 0, 0), (9000, 20_000, 700), (-5000, 300, 4000)]
+    values = [[a * x + b * y + c * z + d for x, y, z in points] for a, b, c, d in planes]
+    wanted = [[a * x + b * y + c * 4 * z + d for x, y, z in points] for a, b, c, d in drawn]
+    why = [] if values == wanted and len(planes) == 4 else [f"the planes are {planes}, and {drawn} as it is"]
+    why += [f"the eye is outside the plane {k}" for k, its in enumerate(values) if its[0] < 0]
+    decide("viewer_planes_are_over_the_ground_as_it_is_drawn", why)
+
+
+def check_pixels(browser):
+    """An error of one unit of height at a distance of one is seen as high as the picture has rows for one unit there: half of
+    them for the tangent of half a radian, up and down."""
+    why = []
+    for width, height, lift in ((900, 600, 1), (500, 800, 1), (1200, 300, 4)):
+        rows = height / 2 / math.tan(0.5)
+        _, threshold, _, _ = asked(browser, width, height, lift=lift, pixels=3)
+        if abs(threshold - 3 / rows / lift * 2 * 65536) > 1:
+            why.append(f"for 3 pixels of {height} rows the threshold is {threshold}")
+        asked(browser, width, height, lift=lift, pixels=0)
+        worst = int(browser.said[-1].split(" worst ")[1].split()[0])
+        told = browser.value('document.getElementById("told").textContent').split("off by at most ")[1].split(" pixels")[0]
+        pixels = worst / 65536 / 2 * lift * rows
+        if worst == 0 or abs(float(told.replace(",", "")) - pixels) > max(0.51, 0.1 * (pixels < 10)):
+            why.append(f"a worst of {worst} is told as {told} pixels of {height} rows, and is {pixels:.2f}")
+    decide("viewer_pixels_are_of_the_windows_height", why)
+
+
 def check_tiles(grid, chromium):
     """The page beside 3D Tiles draws them, from a server of the folder."""
     with tempfile.TemporaryDirectory(ignore_cleanup_errors=True) as room:
@@ -527,14 +599,14 @@ def main():
                 other.process.terminate()
                 other.process.wait()
             return
-        check_server(server)
-        if len(words) == 3:
-            check_browser(server, words[1], words[2])
-            check_sea(words[2])
-            check_tiles(words[0], words[2])
-        check_pages(words[2] if len(words) == 3 else None)
-        check_lift(server)
-        check_worn()
+        grid, picture, chromium, part = (*words, *[None] * (4 - len(words)))
+        parts = {"server": lambda: check_server(server), "browser": lambda: check_browser(server, picture, chromium),
+                 "view": lambda: check_view(server, chromium), "sea": lambda: check_sea(chromium),
+                 "tiles": lambda: check_tiles(grid, chromium), "pages": lambda: check_pages(chromium),
+                 "lift": lambda: check_lift(server), "worn": check_worn}
+        for name, check in parts.items():
+            if part in (None, name) and (chromium or name in ("server", "pages", "lift", "worn")):
+                check()
         decide("viewer_server_stays_and_says_nothing_wrong", [it.strip() for it in server.errors] + ([] if server.process.poll() is None else ["it ended"]))
     finally:
         server.process.terminate()

@@ -1,7 +1,9 @@
 #!/usr/bin/env python3
 """Sets up what the program `calfrewin` of a clone wants, and runs it in this process's place; for the command `calfrewin`.
 
-usage: tools/first_use.py [--setup] [WORD ..]   --setup: packages of Debian are installed by sudo; without words it ends then"""
+usage: tools/first_use.py [--setup] [WORD ..]   --setup: packages of Debian are installed by sudo; without words it ends then
+
+The library is built where the program first calls it: what can be said of words, options and files is said before."""
 from __future__ import annotations
 
 import importlib.util
@@ -24,8 +26,12 @@ def is_built() -> bool:
     return crates.is_current(LIBRARY) and not launcher.is_any_newer([TOP / "lib/heap.c"], LIBRARY)
 
 
-def build() -> None:
+def build(by_sudo: bool = False) -> None:
+    """The library, built where that is due. Ends the process with a status where it cannot be."""
+    if is_built():
+        return
     import launcher
+    provide({"cc": "gcc", "ar": "binutils"}, by_sudo)
     launcher.build(TOP, "roam_c", ARCHIVE.name)
     ended = subprocess.run([sys.executable, str(TOP / "lib/build"), str(OUT), str(ARCHIVE)], check=False)
     if ended.returncode:
@@ -59,6 +65,7 @@ def choose_python(by_sudo: bool) -> str:
 
 def main(words: list[str]) -> int:
     sys.dont_write_bytecode = True
+    import launcher  # noqa: F401  (before the path changes: the library is built from within the program)
     import packages
     by_sudo = words[:1] == ["--setup"]
     words = words[1:] if by_sudo else words
@@ -66,23 +73,29 @@ def main(words: list[str]) -> int:
         python = sys.executable
         if by_sudo or not (OUT / "python").is_file() or lacks(packages.OF_THE_PACKAGE):
             python = choose_python(by_sudo)
-        if not is_built():
-            provide({"cc": "gcc", "ar": "binutils"}, by_sudo)
-            build()
+        if by_sudo:
+            build(by_sudo)
         if by_sudo and not words:
             return 0
         if python != sys.executable or lacks(packages.OF_THE_PACKAGE):
             os.environ[CHOSEN] = "1"
             os.execv(python, [python, __file__, *words])
     os.environ.pop(CHOSEN, None)
+    return run(words)
+
+
+def run(words: list[str]) -> int:
+    """The program, of this clone and in this process."""
     sys.path[0] = str(TOP / "python/src")
     sys.argv = ["calfrewin", *words]
     sys.dont_write_bytecode = False
     try:
+        from calfrewin import _library  # type: ignore
         from calfrewin.__main__ import main as calfrewin  # type: ignore
     except ImportError as why:
         print(f"calfrewin: {why}", file=sys.stderr)
         return 1
+    _library.before_load = build
     return int(calfrewin() or 0)
 
 

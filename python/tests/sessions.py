@@ -41,7 +41,7 @@ def fitted(terrain, thousandths, budget):
 class Session:
     """One engine, and beside it the terrain as the definitions have it."""
 
-    def __init__(self, draw):
+    def __init__(self, draw, engine=calfrewin.Engine):
         self.draw, n = draw, draw.choice([1, 1, 2, 2, 3])
         self.side = 2 ** n + 1
         rough = draw.choice([1, 9, 300, 65_535])
@@ -50,7 +50,7 @@ class Session:
         points = {(k % self.side, self.side - 1 - k // self.side): height for k, height in enumerate(heights)}
         self.most, self.before, self.leaves = most, set(), []
         self.terrain = Terrain((n, 65_535, points), spacing, most)
-        self.engine = calfrewin.Engine(heights, most, spacing)
+        self.engine = engine(heights, most, spacing)
         self.reach = spacing * self.side + 100
 
     def point(self):
@@ -175,9 +175,9 @@ def sorted_as(these, wanted):
     return [int(a) for a in these if int(a) in wanted]
 
 
-def run(seed, number):
+def run(seed, number, engine=calfrewin.Engine):
     """One session; an AssertionError, or certifying.Rejected, says what is wrong with it."""
-    session = Session(random.Random(f"{seed} {number}"))
+    session = Session(random.Random(f"{seed} {number}"), engine)
     with session.engine:
         for frame in range(8):
             for _ in range(session.draw.randrange(4)):

@@ -7,7 +7,7 @@ import shutil
 import numpy as np
 import pytest
 from click.testing import CliRunner
-from hypothesis import given, settings, strategies as st
+from hypothesis import example, given, settings, strategies as st
 
 from calfrewin import certify as checker, check, command, reasons as given_reasons, tiles
 from calfrewin.certify import add, certify, triangles_of
@@ -70,6 +70,7 @@ def test_what_was_made_is_certified_in_any_system(tmp_path, crs, cell, x, y, hol
 @settings(max_examples=10)
 @given(st.integers(2, 90), st.integers(2, 90), st.integers(0, 10 ** 6), st.sampled_from([9, 17]),
        st.sampled_from([0.5, 5.0, 60.0]), st.booleans())
+@example(32, 32, 0, 9, 0.5, False)  # the last row and column of its block of 4 x 4 tiles are beyond the end
 def test_any_shape_and_any_holes_are_certified(tmp_path_factory, rows, columns, seed, tile, error, holes):
     folder = tmp_path_factory.mktemp("shape")
     heights = hills(rows, columns, seed)

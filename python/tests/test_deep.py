@@ -1,5 +1,6 @@
 """Engines of up to 8,193 points a side against plain greedy splitting: flat ground but for a window of rough heights, so
 that a triangle which does not meet the window needs no look."""
+import contextlib
 import functools
 import heapq
 import math
@@ -8,6 +9,7 @@ import numpy as np
 import pytest
 
 from calfrewin import Engine, Fitter
+from fitters import lying
 from frames import leaves_of
 from terrain import level
 
@@ -94,8 +96,8 @@ class Plain:
         return leaves, max(map(self.priority, leaves))
 
 
-@pytest.mark.parametrize("exponent, at, spacing", [(12, (2048, 1000), 30), (13, (8150, 3), 90), (13, (4085, 4090), 1024)])
-def test_frames_of_deep_grids_are_those_of_greedy_splitting(exponent, at, spacing):
+def check_frames(exponent, at, spacing, views, kind=Engine):
+    """Frames of a deep grid for these budgets and cameras, beside the plain loop."""
     side = 2 ** exponent + 1
     rough = np.random.default_rng(exponent).integers(0, 65536, (WINDOW, WINDOW))
     heights = np.zeros((side, side), np.uint16)
@@ -103,21 +105,38 @@ def test_frames_of_deep_grids_are_those_of_greedy_splitting(exponent, at, spacin
         for y in range(WINDOW):
             heights[side - 1 - (at[1] + y), at[0] + x] = rough[x][y]
     plain = Plain(exponent, rough, at, spacing)
-    with Engine(heights, 2000, spacing) as engine:
+    with kind(heights, 2000, spacing) as engine:
         del heights
-        near = spacing * at[0], spacing * at[1], 200
-        for budget, camera in [(2000, (0, 0, 100_000)), (2000, near), (300, (2 ** 23, 5, 2 ** 20)),
-                               (1999, (2 ** 30, -2 ** 30, 2 ** 30)), (2000, (near[0] + 700, 0, 0))]:
+        for budget, camera in views:
             plain.camera = camera
             engine.camera(*camera)
             engine.budget(budget)
             note = engine.frame()
             leaves, worst = plain.leaves(budget)
-            assert engine.leaves().tolist() == leaves
-            assert (note.triangles, note.worst) == (len(leaves), worst)
+            assert engine.leaves().tolist() == leaves, "the mesh is another"
+            assert (note.triangles, note.worst) == (len(leaves), worst), "the worst is another"
             corners = [plain.corners(a) for a in leaves]
             places = [[(side - 1 - y) * side + x for x, y in triangle] for triangle in corners]
-            assert engine.indices().tolist() == places
+            assert engine.indices().tolist() == places, "the indices are others"
+
+
+@pytest.mark.parametrize("exponent, at, spacing", [(12, (2048, 1000), 30), (13, (8150, 3), 90), (13, (4085, 4090), 1024)])
+def test_frames_of_deep_grids_are_those_of_greedy_splitting(exponent, at, spacing):
+    near = spacing * at[0], spacing * at[1], 200
+    check_frames(exponent, at, spacing, [
+        (2000, (0, 0, 100_000)), (2000, near), (300, (2 ** 23, 5, 2 ** 20)), (1999, (2 ** 30, -2 ** 30, 2 ** 30)),
+        (2000, (near[0] + 700, 0, 0))])
+
+
+@pytest.mark.parametrize("method, lie, text", [
+    ("leaves", lambda found: found[::-1], "the mesh is another"),
+    ("frame", lambda note: note._replace(worst=note.worst + 1), "the worst is another"),
+    ("indices", lambda found: found[:, [0, 2, 1]], "the indices are others"),
+])
+def test_the_comparison_with_greedy_splitting_finds_lies(method, lie, text):
+    for kind in (Engine, lying(Engine, method, lie)):
+        with contextlib.nullcontext() if kind is Engine else pytest.raises(AssertionError, match=text):
+            check_frames(5, (3, 4), 30, [(300, (0, 0, 900))], kind)
 
 
 def worst_of(heights, triangles):

@@ -14,6 +14,7 @@ from hypothesis import given, strategies as st
 import calfrewin
 import sessions
 from calfrewin import Engine, _library, surface
+from fitters import lying
 from threads import check_that_one_thread_is_taken, on_a_thread
 
 TOP = pathlib.Path(__file__).resolve().parents[2]
@@ -61,6 +62,35 @@ def test_the_ranges_are_those_of_the_header():
 @pytest.mark.parametrize("number", range(100))
 def test_a_session_is_as_the_definitions_have_it(number):
     sessions.run(1, number)
+
+
+def exchanged(found):
+    """A list whose last two items have changed places."""
+    return np.concatenate((found[:-2], found[-1:], found[-2:-1]))
+
+
+@pytest.mark.parametrize("method, lie, text", [
+    ("leaves", exchanged, "the mesh is"),
+    ("indices", exchanged, "the indices are others"),
+    ("positions", lambda found: found + np.array([0, 0, 1], found.dtype), "the vertices are others"),
+    ("compact", exchanged, "their numbers are others"),
+    ("strip", exchanged, "the strip is another"),
+    ("deviation", lambda found: found + 1, "the deviation is another"),
+    ("changed", lambda found: found._replace(gone=found.gone[1:]), "what the frame took out is another"),
+    ("changed", lambda found: found._replace(come=found.come[1:]), "what the frame put in is another"),
+    ("fit", lambda found: found._replace(triangles=exchanged(found.triangles)), "the fitted mesh is another"),
+    ("fit", lambda found: found._replace(vertices=found.vertices + 1), "its vertices are others"),
+    ("fit", lambda found: found._replace(deviation=found.deviation + 1), "its deviation is another"),
+    ("certificate", lambda text: re.sub(r"-?\d+", lambda it: str(int(it[0]) + 1), text, count=1),
+     "the certificate is of another place"),
+    *(("frame", lambda note, name=name: note._replace(**{name: getattr(note, name) + 1}), "the note is")
+      for name in calfrewin.Note._fields if name != "worst"),
+    ("frame", lambda note: note._replace(worst=note.worst ^ 1), "the note is|the mesh has not the fewest"),
+])
+def test_a_session_finds_lies(method, lie, text):
+    with pytest.raises(AssertionError, match=text):
+        for number in range(20):
+            sessions.run(1, number, lying(Engine, method, lie))
 
 
 @pytest.mark.parametrize("name", ["jacksboro", "flight"])

@@ -128,6 +128,15 @@ def test_points_left_out_are_measured(tmp_path):
     assert r.measured(raster, whole) == pytest.approx(np.abs(whole.mesh.surface() - heights).max(), abs=1e-6)
 
 
+@pytest.mark.parametrize("row, column", [(99, 100), (50, 129), (0, 1), (1, 0)])
+def test_points_left_out_are_measured_in_the_first_and_last_row_and_column(tmp_path, row, column):
+    heights = np.zeros((100, 130), np.float32)  # rows 0, 3, .. 99 and columns 0, 3, .. 129 are taken
+    heights[row, column] = 50
+    raster = opened(write_tif(tmp_path / "a.tif", heights))
+    found = r.fit_raster(raster, error=1.0, every=3)
+    assert found.mesh.height.max() == 0 and r.measured(raster, found) == 50
+
+
 def test_more_points_than_the_engine_has_are_left_out_evenly(tmp_path):
     np.save(tmp_path / "a.npy", np.zeros((10, 4100), np.float32))
     mesh, _, every = r.fit_raster(opened(tmp_path / "a.npy", spacing=5.0), error=1)
@@ -166,6 +175,8 @@ def test_units_scales_and_holes(tmp_path):
     scaled = opened(write_tif(tmp_path / "b.tif", numbers, nodata=90, scale=(0.1, 100)))
     want = np.where(numbers == 90, np.nan, 100 + 0.1 * numbers)
     assert np.allclose(all_of(scaled), want, equal_nan=True) and np.isnan(want).sum() > 9 and not scaled.is_whole
+    both = opened(write_tif(tmp_path / "f.tif", numbers, scale=(0.1, 100), unit="ft"))
+    assert np.allclose(all_of(both), (100 + 0.1 * numbers) * 0.3048)
     with pytest.raises(r.Unreadable, match="'furlong'"):
         opened(write_tif(tmp_path / "c.tif", heights, unit="furlong"))
     raster = opened(write_tif(tmp_path / "d.tif", heights, crs="EPSG:2263+6360"))

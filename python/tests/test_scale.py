@@ -10,6 +10,7 @@ import struct
 import subprocess
 import sys
 import time
+from dataclasses import fields, replace
 
 import numpy as np
 import pytest
@@ -186,7 +187,12 @@ def test_the_check_finds_what_is_planted(tmp_path, terrain):
     def too_great(node):
         node["children"][0]["geometricError"] *= 3
 
-    for change, text in ((without_a_child, "is not there"), (too_great, "greater geometricError")):
+    def with_one_beyond(node):  # a fourth quarter of a tile of which the raster has two
+        over = next(it for it in node["children"] if it["content"]["uri"] == "1/0/1.glb")
+        over["children"].append(over["children"][0] | {"content": {"uri": "2/0/3.glb"}, "children": []})
+
+    for change, text in ((without_a_child, "is not there"), (too_great, "greater geometricError"),
+                         (with_one_beyond, "2/0/3.glb lies beyond the raster")):
         changed = json.loads(json.dumps(tree))
         change(changed["root"])
         json.dump(changed, open(tmp_path / "t/tileset.json", "w"))
@@ -194,6 +200,17 @@ def test_the_check_finds_what_is_planted(tmp_path, terrain):
     json.dump(tree, open(tmp_path / "t/tileset.json", "w"))
     assert "is off by" in " ".join(checked(terrain, tmp_path / "t", error=1.0)["wrong"])
     assert checked(terrain, tmp_path / "t", workers=2)["wrong"] == []
+
+
+def test_the_check_finds_a_vertex_that_is_off_by_half_as_much_again_as_is_told(tmp_path):
+    path = write_tif(tmp_path / "a.tif", hills(65, 65, relief=900))  # up to 900 m from the middle of a tile
+    built(path, tmp_path / "t", error=0.2)
+
+    def raised(points):
+        points[len(points) // 2, 1] += 0.3
+
+    vertex_moved(f"{tmp_path}/t/1/0/0.glb", raised)
+    assert re.search("1/0/0.glb is off by 0.[34].* and tells 0.[12]", " ".join(checked(path, tmp_path / "t")["wrong"]))
 
 
 @pytest.mark.parametrize("most", [260, 2000])
@@ -244,7 +261,7 @@ def test_what_is_damaged_of_a_stopped_run_is_made_anew(tmp_path, terrain):
     built(terrain, tmp_path / "whole")
     with pytest.raises(Stop):
         built(terrain, tmp_path / "t", depth=1, progress=stopping(24))
-    kept = [path for path in glob.glob(f"{tmp_path}/t/.calfrewin/*/*") if "plan" not in path]
+    kept = [path for path in glob.glob(f"{tmp_path}/t/.calfrewin/*/*") if os.path.basename(path) != "plan.json"]
     assert {path.split("/")[-2].split("_")[0] for path in kept} == {"points", "meshes", "made"}
     for number, path in enumerate(sorted(kept)):
         data = bytearray(open(path, "rb").read())
@@ -263,10 +280,10 @@ def test_another_plan_a_changed_raster_and_a_second_run_are_refused(tmp_path, te
     path = str(shutil.copy(terrain, tmp_path / "a.tif"))
     with pytest.raises(Stop):
         built(path, tmp_path / "t", progress=stopping(2))
-    with pytest.raises(run.Other, match="--overwrite"):
-        built(path, tmp_path / "t", error=3.0)
-    with pytest.raises(run.Other, match="--overwrite"):
-        built(path, tmp_path / "t", depth=1)
+    for other in ({"error": 3.0}, {"depth": 1}, {"tile": 17}, {"unit": 0.05}, {"fill": 1.0}, {"normals": False}, {"skirts": True},
+                  {"flat": True}, {"certify": True}, {"triangles": 2000}):
+        with pytest.raises(run.Other, match="--overwrite"):
+            built(path, tmp_path / "t", **other)
     plan = tiles.plan_of(open_raster(path), str(tmp_path / "t"), error=2.0, tile=33)
     with run.locked(plan, False):
         with pytest.raises(run.Busy, match="another run"):
@@ -279,6 +296,15 @@ def test_another_plan_a_changed_raster_and_a_second_run_are_refused(tmp_path, te
     assert not os.path.exists(tmp_path / "t/tileset.json")
     built(path, tmp_path / "t", overwrite=True)
     assert checked(path, tmp_path / "t")["wrong"] == []
+
+
+def test_all_of_a_plan_except_its_folder_and_its_blocks_is_in_its_digest(terrain):
+    plan = tiles.plan_of(open_raster(terrain), "t", error=2.0, tile=33)
+    other = {"raster": replace(plan.raster, band=2), "out": "u", "steps": 64, "levels": 4, "error": 3.0, "unit": 0.5, "fill": 7.0,
+             "depth": 0, "normals": False, "skirts": True, "crs": "EPSG:4326", "root": plan.root[::-1], "form": None,
+             "left_out": 0.5, "stamps": (), "certify": True}
+    assert other.keys() == {it.name for it in fields(plan)}
+    assert {name for name, it in other.items() if replace(plan, **{name: it}).digest == plan.digest} == {"out", "depth"}
 
 
 def test_a_full_disk_leaves_nothing_that_looks_finished(tmp_path, terrain, monkeypatch):
@@ -442,6 +468,28 @@ def test_a_cluster_makes_the_same_with_a_worker_killed_and_with_its_scheduler_ki
         assert digest(tmp_path / "s") == digest(tmp_path / "whole")
     finally:
         killed(processes)
+
+
+@pytest.mark.xdist_group("dask")
+def test_a_task_that_is_cancelled_is_told_and_not_passed_over():
+    distributed = pytest.importorskip("distributed")
+    from calfrewin.workers import Dask, Lost
+    words = {"processes": False, "n_workers": 1, "threads_per_worker": 1, "dashboard_address": None}
+    with distributed.Client(**words) as client:
+        class Cancelling:
+            """A client one of whose tasks is cancelled, as those of a scheduler that goes are."""
+            cancel = client.cancel
+
+            def submit(self, function, call, number, **options):
+                future = client.submit(function, call, number, **options)
+                if number == 1:
+                    client.cancel([future])
+                return future
+
+        tasks = {number: (abs, (number,)) for number in range(3)}
+        assert dict(Dask(client).do(tasks)) == {0: 0, 1: 1, 2: 2}
+        with pytest.raises(Lost, match="a task was cancelled"):
+            list(Dask(Cancelling()).do(tasks))
 
 
 def edges_of(triangles, count):

@@ -8,7 +8,8 @@ import numpy as np
 import pytest
 from hypothesis import given, strategies as st
 
-from calfrewin import quantized, systems, tiles
+from calfrewin import blocks, quantized, systems, tiles
+from calfrewin.ground import ground_of
 from calfrewin.raster import open_raster
 from readers import check_tileset, read_glb, up_of
 from made import hills, write_tif
@@ -98,6 +99,67 @@ def test_without_a_system_boxes_hold_the_tiles(tmp_path):
     assert (np.abs(p - box[:3]) <= [box[3], box[7], box[11]] + np.array(1e-3)).all()
 
 
+@pytest.mark.parametrize("crs", [None, "EPSG:32632"])
+def test_normals_of_a_plane_are_its_own_at_each_level(tmp_path, crs):
+    down, right = np.mgrid[0:129, 0:129] * 30.0  # on the middle meridian of the zone, so rows lie along the east
+    path = write_tif(tmp_path / "a.tif", (0.1 * right + 0.2 * down).astype(np.float32), crs=crs)
+    tiles.build(tiles.plan_of(open_raster(path), str(tmp_path / "t"), error=1.0, tile=33))
+    wanted = np.array([-0.1, 0.2, 1]) / np.sqrt(1.05)  # it rises to the east and falls to the north
+    files = glob.glob(f"{tmp_path}/t/*/*/*.glb")
+    assert {os.path.relpath(it, tmp_path / "t").split("/")[0] for it in files} == {"0", "1", "2"}
+    for path in files:
+        assert np.abs(up_of(read_glb(open(path, "rb").read())["normals"]) - wanted).max() < 0.01, path
+
+
+def walls_of(it):
+    """The upright triangles of a tile, and how deep they are below each vertex of its border, by its place."""
+    points = up_of(it["points"])
+    a, b, c = (points[it["triangles"][:, k]] for k in range(3))
+    normals = np.cross(b - a, c - a)
+    is_wall = np.abs(normals[:, 2]) < 1e-3 * np.linalg.norm(normals, axis=1)
+    assert (normals[~is_wall, 2] > 0).all()
+    out = (a + b + c)[is_wall] / 3 - (points.min(0) + points.max(0)) / 2
+    heights = {}
+    for x, y, z in points[np.unique(it["triangles"][is_wall])]:
+        heights.setdefault((round(x), round(y)), []).append(z)
+    return normals[is_wall], out, {at: max(its) - min(its) for at, its in heights.items()}
+
+
+def test_walls_look_out_and_are_as_deep_as_two_tiles_of_a_level_may_be_apart(tmp_path):
+    path = write_tif(tmp_path / "a.tif", hills(129, 129, relief=900), crs=None)
+    tiles.build(tiles.plan_of(open_raster(path), str(tmp_path / "t"), error=20.0, tile=33, skirts=True))
+    for level in range(3):
+        found = [read_glb(open(it, "rb").read()) for it in glob.glob(f"{tmp_path}/t/{2 - level}/*/*.glb")]
+        assert len(found) == 16 // 4 ** level
+        for it in found:
+            normals, out, depths = walls_of(it)
+            assert (normals[:, :2] * out[:, :2]).sum(1).min() > 0
+            # Each is within 20 m of the points of its border, of which the next level takes half, with twice the error.
+            assert len(depths) >= 4 and min(depths.values()) >= 2 * 20 * 2 ** level - 0.01
+
+
+def off_of_halves(heights):
+    """How far the points of a square are from its two halves, which meet from the first point to the last."""
+    down, right = np.mgrid[0:len(heights), 0:len(heights)] / (len(heights) - 1)
+    (nw, ne), (sw, se) = heights[0, [0, -1]], heights[-1, [0, -1]]
+    flat = np.where(right >= down, nw + right * (ne - nw) + down * (se - ne), nw + down * (sw - nw) + right * (se - sw))
+    return np.abs(flat - heights).max()
+
+
+def test_what_one_form_of_the_earth_leaves_out_is_in_the_error_of_each_level(tmp_path):
+    path = write_tif(tmp_path / "a.tif", np.zeros((257, 257), np.float32), cell=1500.0)
+    plan = tiles.plan_of(open_raster(path), "", error=2.0, tile=9)
+    assert plan.form is not None and plan.left_out > plan.unit / 8 and plan.levels == 5
+    sea = blocks.Points(np.zeros((9, 9), np.int32), None)
+    for level in range(6):
+        at = (np.arange(9) - 4.0) * 2 ** level
+        for row, column in np.ndindex(*plan.count(level)):
+            ground = ground_of(plan, level, row, column, sea)
+            earth = plan.curvature((8 * column + 4) * 2 ** level, (8 * row + 4) * 2 ** level, level)
+            off = off_of_halves(earth.drop(at[None, :], at[:, None]))
+            assert abs(off - off_of_halves(ground.grid * ground.unit)) <= ground.rounding, (level, row, column)
+
+
 @given(st.integers(1, 5), st.integers(0, 10 ** 6))
 def test_halved_tells_how_far_the_others_are(n, seed):
     from calfrewin import surface
@@ -119,7 +181,7 @@ def test_quantized_mesh_comes_back(n, seed, error):
     heights = hills(side, side, seed).astype(np.float64)
     data, told, triangles = quantized.tile_of(heights, (7.0, 44.0, 7.01, 44.01), error)
     it = quantized.decode(data)
-    assert len(it["triangles"]) == triangles and it["low"] <= heights.min() + 0.5 or True
+    assert len(it["triangles"]) == triangles
     p = np.column_stack((it["u"], it["v"]))
     a, b, c = (p[it["triangles"][:, k]] for k in range(3))
     area = (b - a)[:, 0] * (c - a)[:, 1] - (b - a)[:, 1] * (c - a)[:, 0]
@@ -127,9 +189,38 @@ def test_quantized_mesh_comes_back(n, seed, error):
     for edge, (axis, end) in zip(it["edges"], ((0, 0), (1, 0), (0, 32767), (1, 32767))):
         assert set(edge) == set(np.flatnonzero(p[:, axis] == end))
     row, column = np.rint((32767 - p[:, 1]) * (side - 1) / 32767).astype(int), np.rint(p[:, 0] * (side - 1) / 32767).astype(int)
+    places = np.column_stack((column, side - 1 - row)) * 32767 / (side - 1)
+    assert np.abs(p - places).max() <= 0.5  # of 1/32767 of the tile
     assert np.abs(it["height"] - heights[row, column]).max() <= np.ptp(heights) / 32767 + 1e-3
     points = systems.geocentric(7 + 0.01 * it["u"] / 32767, 44 + 0.01 * it["v"] / 32767, it["height"])
     assert np.linalg.norm(points - it["sphere"][:3], axis=1).max() <= it["sphere"][3] + 0.5
+
+
+def octahedron(data):
+    """Normals of length 1 from two bytes each, as the extension of quantized-mesh has them."""
+    xy = np.frombuffer(data, np.uint8).reshape(-1, 2) / 255 * 2 - 1
+    z = 1 - np.abs(xy).sum(1)
+    folded = (1 - np.abs(xy[:, ::-1])) * np.where(xy < 0, -1, 1)
+    found = np.column_stack((np.where(z[:, None] < 0, folded, xy), z))
+    return found / np.linalg.norm(found, axis=1, keepdims=True)
+
+
+@pytest.mark.parametrize("east, north", [(0.5, 0.0), (0.0, 0.5), (-0.2, 0.4)])
+def test_normals_of_quantized_mesh_are_those_of_the_slope(east, north):
+    from pyproj import Geod, Transformer
+    to_earth, inverse = Transformer.from_crs(4979, 4978, always_xy=True), Geod(ellps="WGS84").inv
+    west, south, side = 7.0, 44.0, 17
+    width, depth = inverse(west, south + 0.005, west + 0.01, south + 0.005)[2], inverse(west, south, west, south + 0.01)[2]
+    parts = np.arange(side) / (side - 1)
+    heights = east * width * parts[None, :] + north * depth * (1 - parts[:, None])
+    it = quantized.decode(quantized.tile_of(heights, (west, south, west + 0.01, south + 0.01), 1.0)[0])
+    at = west + 0.01 * it["u"] / 32767, south + 0.01 * it["v"] / 32767, it["height"]
+    here = np.column_stack(to_earth.transform(*at))
+    axes = [np.column_stack(to_earth.transform(*(it + step for it, step in zip(at, steps)))) - here
+            for steps in ((1e-6, 0, 0), (0, 1e-6, 0), (0, 0, 1))]
+    axes = [it / np.linalg.norm(it, axis=1, keepdims=True) for it in axes]
+    wanted = (axes[2] - east * axes[0] - north * axes[1]) / np.sqrt(1 + east * east + north * north)
+    assert np.abs(octahedron(it["extensions"][1]) - wanted).max() < 0.02  # a byte is 0.008
 
 
 def test_geocentric_is_that_of_proj(rng):
@@ -137,6 +228,16 @@ def test_geocentric_is_that_of_proj(rng):
     lon, lat, h = rng.uniform(-180, 180, 50), rng.uniform(-90, 90, 50), rng.uniform(-100, 9000, 50)
     want = np.column_stack(Transformer.from_crs(4979, 4978, always_xy=True).transform(lon, lat, h))
     assert np.allclose(systems.geocentric(lon, lat, h), want, atol=1e-6)
+
+
+# Of each the unit of a raster of the number 1000, its scale and offset, and how many metres that are.
+@pytest.mark.parametrize("unit, scale, metres", [(None, None, 1000.0), ("ft", None, 304.8), (None, (0.5, 100), 600.0),
+                                                 ("ft", (0.5, 100), 182.88)])
+def test_terrain_is_in_metres(tmp_path, unit, scale, metres):
+    path = write_tif(tmp_path / "a.tif", np.full((200, 200), 1000, np.float32), unit=unit, scale=scale)
+    zoom = quantized.terrain(open_raster(path), str(tmp_path / "q"), side=33)["zoom"]
+    found = [quantized.decode(gzip.open(it).read()) for it in glob.glob(f"{tmp_path}/q/{zoom}/*/*.terrain")]
+    assert max(it["high"] for it in found) == pytest.approx(metres, abs=0.01)
 
 
 def test_terrain(tmp_path):

@@ -452,7 +452,7 @@ impl Fitter {
     /// Copies (2^n + 1)^2 heights, n from 1 to 14: rows from the far side to the near one, each from left to right. All
     /// memory is taken here; the mesh is the two halves of the square.
     pub fn open(heights: &[u16]) -> Result<Self, Error> {
-        let side = (1..=11).map(|n| (1 << n) + 1).find(|side| side * side == heights.len()).unwrap_or(0);
+        let side = (1..=14).map(|n| (1 << n) + 1).find(|side| side * side == heights.len()).unwrap_or(0);
         let mut it = Fitter { handle: EMPTY, side, triangles: 2 };
         // SAFETY: the handle is empty, and the slice is valid for its length.
         told(unsafe { c::roam_fitter_open(&mut it.handle, heights.as_ptr(), heights.len()) })?;

@@ -18,6 +18,14 @@ fn a_required_point_is_a_vertex_of_a_flat_grid() {
     }
 }
 
+/// As many triangles as over nine points, for the same point: the middle of the far side. Of more than 2049 points a side.
+#[test]
+fn a_large_grid_has_a_border() {
+    let mut fitter = Fitter::open(&vec![7; 4097 * 4097]).unwrap();
+    assert_eq!((fitter.border(), fitter.fit(Tolerance::Common(0), &[2048])), (vec![], Ok(5)));
+    assert_eq!(fitter.border(), [2048]);
+}
+
 #[test]
 fn a_point_that_does_not_count_splits_nothing() {
     let mut fitter = Fitter::open(&HILL).unwrap();

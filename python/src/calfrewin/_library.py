@@ -6,10 +6,10 @@ import os
 import pathlib
 import platform
 from ctypes import POINTER, c_char_p, c_int32, c_int64, c_size_t, c_uint16, c_uint32, c_uint64, c_void_p
-from typing import Any
+from typing import Any, Callable, Dict
 
 __all__ = ["ChangesNote", "DeviationNote", "FitNote", "FrameNote", "Handle", "Plane", "RequiredNote", "StateNote", "TileNote",
-           "WorldNote", "calls", "path"]
+           "WorldNote", "calls", "load", "path"]
 
 
 class Handle(ctypes.Structure):
@@ -163,5 +163,28 @@ def _load(found: str) -> dict[str, Any]:
     return calls
 
 
+class _Calls(Dict[str, Any]):
+    """The calls by their names, without roam_. The first one loads the library, so that words, options and files are refused
+    without it."""
+
+    def __missing__(self, name: str) -> Any:
+        load()
+        return self[name]
+
+
+def _do_nothing() -> None:
+    pass
+
+
+def load() -> None:
+    """Loads the library, where that is not done: as the first call does."""
+    global path
+    if not calls:
+        before_load()
+        path = _found()
+        calls.update(_load(path))
+
+
+before_load: Callable[[], None] = _do_nothing  # in a clone: builds the library where that is due
 path = _found()
-calls = _load(path)
+calls = _Calls()

@@ -10,7 +10,7 @@ from typing import Any, ClassVar, Iterator, Optional, Type, TypeVar
 import numpy as np
 
 from . import _library as c
-from ._library import calls
+from ._library import calls, load
 from ._types import Numbers
 
 NO_MEMORY, TOO_MANY_PLANES, WORN, IS_EMPTY, BAD_MESH, SHRUNK, BAD_PAGE, NOT_THERE = 1, 7, 10, 12, 14, 15, 16, 17
@@ -34,6 +34,7 @@ class Owner:
     _told: ClassVar[dict[int, str]] = {}  #: of answers that are its own
 
     def __init__(self) -> None:
+        load()
         self._handle, self._lock = c.Handle(), threading.RLock()
         self._reference = byref(self._handle)
 

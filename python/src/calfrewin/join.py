@@ -15,7 +15,7 @@ from typing import Any, Callable, NamedTuple, Optional
 import numpy as np
 import numpy.typing as npt
 
-from . import files, systems
+from . import _library, files, systems
 from ._types import Floats, Numbers
 from .blocks import BlockPoints, refuse_changed
 from .clip import GridMesh
@@ -158,6 +158,7 @@ def join(raster: Raster, out: str, *, error: Optional[float] = None, triangles: 
     """
     began = time.perf_counter()
     plan = plan_of(raster, out + ".run", error=error, tile=tile, unit=unit, fill=fill, flat=True)
+    _library.load()  # before anything is written, and for all processes
     with locked(plan, overwrite, triangles), workers_of(client, workers) as hands:
         found: dict[str, Any] = {}
         half = progress and third(progress)

@@ -17,7 +17,7 @@ from typing import Any, Callable, Optional
 
 import numpy as np
 
-from . import files
+from . import _library, files
 from ._types import Flags
 from .blocks import BlockPoints, Multiples, Points, keep, load, refuse_changed
 from .reasons import certify
@@ -249,6 +249,7 @@ def build(plan: Plan, *, client: Any = None, workers: int = 1, triangles: Option
         blocks.Changed: the raster is written to while it is read.
         run.Busy: another run writes into this folder. run.Other: an earlier run of another plan has left something there.
     """
+    _library.load()  # before anything is written, and for all processes
     began = time.perf_counter()
     with locked(plan, overwrite, triangles), workers_of(client, workers) as hands:
         found: dict[str, Any] = {}
