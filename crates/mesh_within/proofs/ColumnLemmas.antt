@@ -1,6 +1,5 @@
 -- Where a row meets the line of an edge: the columns that do not lie right of it.
-use Rattle.std.proofs.Common.{◌≡◌, ℕ, ◌+◌, ◌-◌, ◌*◌, ◌/◌, ◌<◌, ◌≤◌, ◌↔◌, ap, arith, ⊎_elim, le-div_iff_mul-le, div-lt_iff_lt-mul}
-use Rattle.std.proofs.lemmas.Bool.{cases_lt}
+use Rattle.std.proofs.Common.{◌≡◌, ℕ, ◌+◌, ◌-◌, ◌*◌, ◌/◌, ◌<◌, ◌≤◌, ◌↔◌, ap, arith, le-div_iff_mul-le, div-lt_iff_lt-mul}
 use Rattle.mesh_defs.specs.declared.point.Point.{Point}
 use Rattle.mesh_within.specs.Gap.{IsLeftAt}
 
@@ -32,8 +31,7 @@ pub left-up : (p q : Point) (x y h l : ℕ) → h ≡ p.x * q.y + q.x * y → l 
     IsLeftAt x y p q ↔ (x ≤ (h - l) / (q.y - p.y))
 left-up p q x y h l he le up some =
     let d : ℕ = q.y - p.y in
-    let split : q.y * x ≡ p.y * x + d * x = scaled q.y p.y d x (omega arith) in
-    (
+    let split : q.y * x ≡ p.y * x + d * x = scaled q.y p.y d x (omega arith) in (
       λ left. to-quotient d (h - l) x (omega arith) (omega arith),
       λ within. let product : d * x ≤ h - l = within-quotient d (h - l) x (omega arith) within in omega arith,
     )
@@ -43,8 +41,7 @@ pub left-down : (p q : Point) (x y h l n : ℕ) → h ≡ p.x * q.y + q.x * y �
     IsLeftAt x y p q ↔ ((n + (p.y - q.y - 1)) / (p.y - q.y) ≤ x)
 left-down p q x y h l n he le ne down =
     let d : ℕ = p.y - q.y in
-    let split : p.y * x ≡ q.y * x + d * x = scaled p.y q.y d x (omega arith) in
-    (
+    let split : p.y * x ≡ q.y * x + d * x = scaled p.y q.y d x (omega arith) in (
       λ left. from-quotient d n x (omega arith) (omega arith),
       λ within. let product : n ≤ d * x = over-quotient d n x (omega arith) within in omega arith,
     )

@@ -65,13 +65,12 @@ pub rows-between : (a b c o : Point) (low high : ℕ) → IsCounterclockwise a b
     low ≤ a.y → low ≤ b.y → low ≤ c.y → a.y ≤ high → b.y ≤ high → c.y ≤ high → (low ≤ o.y) × (o.y ≤ high)
 rows-between a b c o low high left held la lb lc ha hb hc =
     let sum = weighed (high_across o b c) (low_across o b c) (high_across o c a) (low_across o c a) (high_across o a b) (low_across o a b)
-        (high_across o b c - low_across o b c) (high_across o c a - low_across o c a) (high_across o a b - low_across o a b)
-        a.y b.y c.y o.y (balance a b c o)
-        (more (high_across o b c) (low_across o b c) held.bc) (more (high_across o c a) (low_across o c a) held.ca)
-        (more (high_across o a b) (low_across o a b) held.ab) in
+    (high_across o b c - low_across o b c) (high_across o c a - low_across o c a) (high_across o a b - low_across o a b)
+    a.y b.y c.y o.y (balance a b c o)
+    (more (high_across o b c) (low_across o b c) held.bc) (more (high_across o c a) (low_across o c a) held.ca)
+    (more (high_across o a b) (low_across o a b) held.ab) in
     let some = some-area (high_across o b c) (low_across o b c) (high_across o c a) (low_across o c a) (high_across o a b) (low_across o a b)
-        (high_across a b c) (low_across a b c) (areas-sum a b c o) left held.bc held.ca held.ab in
-    (
+    (high_across a b c) (low_across a b c) (areas-sum a b c o) left held.bc held.ca held.ab in (
       weighed-least (high_across o b c - low_across o b c) (high_across o c a - low_across o c a) (high_across o a b - low_across o a b)
           a.y b.y c.y o.y low sum some la lb lc,
       weighed-most (high_across o b c - low_across o b c) (high_across o c a - low_across o c a) (high_across o a b - low_across o a b)

@@ -1,12 +1,10 @@
 -- The farthest grid point of a triangle, column by column and row by row.
-use Rattle.std.proofs.Common.{◌≡◌, ℕ, ◌+◌, ◌<◌, ◌≤◌, ◌⊎◌, ◌↔◌, List, refl, sym, ap, subst, arith, inl, inr, ⊎_elim}
+use Rattle.std.proofs.Common.{◌≡◌, ℕ, ◌+◌, ◌<◌, ◌≤◌, ◌⊎◌, List, sym, ap, subst, arith, inr, ⊎_elim}
 use Rattle.std.proofs.lemmas.Bool.{cases_lt}
 use Rattle.mesh_defs.specs.declared.point.Point.{Point}
-use Rattle.mesh_cover.specs.Cover.{IsHeld}
 use Rattle.mesh_within.specs.declared.shape.Facet.{Facet}
 use Rattle.mesh_within.specs.declared.shape.Spot.{Spot}
-use Rattle.mesh_within.specs.declared.shape.Columns.{Columns}
-use Rattle.mesh_within.specs.Gap.{gap_of, IsSpot, IsColumn, Holds}
+use Rattle.mesh_within.specs.Gap.{IsSpot}
 
 abbrev pub Attained : ℕ → ℕ → List ℕ → Facet → Spot → Type 0
 Attained right top surface f s = (s.gap ≡ 0) ⊎ IsSpot right top surface f s
@@ -39,6 +37,6 @@ rows-more g P low y old most before grows row o has from less = ⊎_elim
     (λ (le : y ≤ o.y).
     let e : o.y ≡ y = omega arith in
     let moved : (P (record { x = o.x; y = o.y }) → g (record { x = o.x; y = o.y }) ≤ most) =
-        subst (λ (i : ℕ). P (record { x = o.x; y = i }) → g (record { x = o.x; y = i }) ≤ most) (sym e) (row o.x) in
+    subst (λ (i : ℕ). P (record { x = o.x; y = i }) → g (record { x = o.x; y = i }) ≤ most) (sym e) (row o.x) in
     moved has)
     (cases_lt o.y y)

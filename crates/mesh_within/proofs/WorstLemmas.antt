@@ -1,13 +1,13 @@
 -- The greatest deviation, triangle by triangle.
-use Rattle.std.proofs.Common.{◌≡◌, ℕ, ◌+◌, ◌*◌, ◌-◌, ◌/◌, ◌<◌, ◌≤◌, ◌⊎◌, List, length, refl, sym, ap, subst, arith, inl, inr, ⊎_elim, mul-le-mul_left, below_more}
+use Rattle.std.proofs.Common.{◌≡◌, ℕ, ◌+◌, ◌*◌, ◌/◌, ◌<◌, ◌≤◌, ◌⊎◌, ◌↔◌, List, length, sym, ap, subst, arith, inl, inr, ⊎_elim, mul-le-mul_left, below_more}
 use Rattle.std.proofs.lemmas.Bool.{cases_lt}
 use Rattle.mesh_defs.specs.declared.point.Point.{Point}
-use Rattle.mesh_cover.specs.Cover.{high_across, low_across, IsCounterclockwise}
+use Rattle.mesh_cover.specs.Cover.{IsCounterclockwise}
 use Rattle.mesh_within.specs.declared.shape.Facet.{Facet}
 use Rattle.mesh_within.specs.declared.shape.Spot.{Spot}
 use Rattle.mesh_within.specs.declared.deviation.Deviation.{Deviation}
 use Rattle.mesh_within.specs.Gap.{area_across, facet_in, gap_of, Holds, IsSpot}
-use Rattle.mesh_within.specs.Deviation.{area_in, gap_in, IsPointOf, IsAttained, IsDeviationBefore}
+use Rattle.mesh_within.specs.Deviation.{area_in, gap_in, IsPointOf, IsAttained, IsDeviationBefore, IsDeviation, IsWithinError}
 
 pub area-some : (a b c : Point) → IsCounterclockwise a b c → 0 < area_across a b c
 unfolding area_across
@@ -65,11 +65,11 @@ worst-raised right top surface points heights corners t d e before gaps area som
   some = some;
   bound = below_more (λ (k : ℕ). Bound right top surface points heights corners k e) t
       (λ k less o has. fraction-le (gap_in right top surface points heights corners k o) (area_in points corners k) d.gap d.area e.gap e.area
-          before.some (before.bound k less o has) more)
+      before.some (before.bound k less o has) more)
       (λ o has.
-          let h = same-le (gap_in right top surface points heights corners t o) e.gap e.area (gaps o has) in
-          let same : e.gap * e.area ≡ e.gap * area_in points corners t = ap (λ i. e.gap * i) area in
-          omega arith);
+      let h = same-le (gap_in right top surface points heights corners t o) e.gap e.area (gaps o has) in
+      let same : e.gap * e.area ≡ e.gap * area_in points corners t = ap (λ i. e.gap * i) area in
+      omega arith);
   attained = attained;
 }
 
@@ -79,16 +79,16 @@ facet-gaps : (right top : ℕ) (surface : List ℕ) (points : List Point) (heigh
     Gaps right top surface points heights corners t most
 facet-gaps right top surface points heights corners t most f same bound =
     let moved : ((o : Point) → Holds right (facet_in points heights corners t) o → gap_of right top surface (facet_in points heights corners t) o ≤ most) =
-        subst (λ (g : Facet). (o : Point) → Holds right g o → gap_of right top surface g o ≤ most) same bound in
+    subst (λ (g : Facet). (o : Point) → Holds right g o → gap_of right top surface g o ≤ most) same bound in
     λ o has. moved o (record { column = has.column; held = has.held })
 
 facet-attained : (right top : ℕ) (surface : List ℕ) (points : List Point) (heights corners : List ℕ) (t : ℕ) (f : Facet) (s : Spot) →
     t < length corners / 3 → f ≡ facet_in points heights corners t → IsSpot right top surface f s →
     IsAttained right top surface points heights corners
-        (record { triangle = t; column = s.column; row = s.row; gap = s.gap; area = f.area })
+    (record { triangle = t; column = s.column; row = s.row; gap = s.gap; area = f.area })
 facet-attained right top surface points heights corners t f s below same spot =
     let moved : IsSpot right top surface (facet_in points heights corners t) s =
-        subst (λ (g : Facet). IsSpot right top surface g s) same spot in
+    subst (λ (g : Facet). IsSpot right top surface g s) same spot in
     record {
       triangle = below;
       point = record { column = moved.held.column; held = moved.held.held };
@@ -110,14 +110,34 @@ worst-more right top surface points heights corners t d e f s below before same 
     ⊎_elim
     (λ (kept : (e ≡ d) × (s.gap * d.area ≤ d.gap * f.area)).
     let le : s.gap * d.area ≤ d.gap * area_in points corners t =
-        (let h : d.gap * f.area ≡ d.gap * area_in points corners t = ap (λ i. d.gap * i) area in omega (arith, kept.1)) in
+    (let h : d.gap * f.area ≡ d.gap * area_in points corners t = ap (λ i. d.gap * i) area in omega (arith, kept.1)) in
     subst (λ (w : Deviation). IsDeviationBefore right top surface points heights corners (t + 1) w) (sym kept.0)
-        (worst-kept right top surface points heights corners t s.gap d before gaps le))
+    (worst-kept right top surface points heights corners t s.gap d before gaps le))
     (λ (raised : (e ≡ record { triangle = t; column = s.column; row = s.row; gap = s.gap; area = f.area }) × (d.gap * f.area < s.gap * d.area)).
     subst (λ (w : Deviation). IsDeviationBefore right top surface points heights corners (t + 1) w) (sym raised.0)
-        (worst-raised right top surface points heights corners t d here before gaps area some (omega (arith, raised.1))
-        (⊎_elim
-            (λ (none : s.gap ≡ 0). inl none)
-            (λ (spot : IsSpot right top surface f s). inr (facet-attained right top surface points heights corners t f s below same spot))
-            attained)))
+    (worst-raised right top surface points heights corners t d here before gaps area some (omega (arith, raised.1))
+    (⊎_elim
+    (λ (none : s.gap ≡ 0). inl none)
+    (λ (spot : IsSpot right top surface f s). inr (facet-attained right top surface points heights corners t f s below same spot))
+    attained)))
     either
+
+-- the greatest deviation is within an error where all are
+pub within-law : (right top : ℕ) (surface : List ℕ) (points : List Point) (heights corners : List ℕ) (d : Deviation) (error : ℕ) →
+    IsDeviation right top surface points heights corners d →
+    (1000 * d.gap ≤ error * d.area) ↔ IsWithinError right top surface points heights corners error
+within-law right top surface points heights corners d error dev = (
+  λ le t less o has.
+      let bound = dev.bound t less o has in
+      let h = fraction-le (1000 * gap_in right top surface points heights corners t o) (area_in points corners t) (1000 * d.gap) d.area
+      error 1 dev.some (omega arith) (omega arith) in
+      omega arith,
+  λ within. ⊎_elim
+      (λ (none : d.gap ≡ 0). omega arith)
+      (λ (there : IsAttained right top surface points heights corners d).
+      let h = within d.triangle there.triangle (record { x = d.column; y = d.row }) there.point in
+      let gap = there.gap in
+      let area : error * d.area ≡ error * area_in points corners d.triangle = ap (λ i. error * i) there.area in
+      omega arith)
+      dev.attained,
+)

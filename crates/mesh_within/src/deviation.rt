@@ -26,7 +26,14 @@ pub struct Deviation {
 }
 
 /// A triangle of the mesh.
-fn facet_at(right: u32, top: u32, points: &[Point], heights: &[u16], corners: &[u32], t: usize) -> Facet
+fn facet_at(
+    right: u32,
+    top: u32,
+    points: &[Point],
+    heights: &[u16],
+    corners: &[u32],
+    t: usize,
+) -> Facet
     requires right { right ≤ 16384 }
     requires top { top ≤ 16384 }
     requires few { length corners.now ≤ 50331648 }

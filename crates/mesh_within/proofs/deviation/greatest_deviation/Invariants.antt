@@ -1,4 +1,3 @@
-use Rattle.std.proofs.Common.{◌<◌, ◌^◌}
 use Rattle.mesh_within.specs.Deviation.{IsDeviationBefore}
 use Rattle.mesh_within.proofs.deviation.greatest_deviation.Given as goal
 

@@ -1,4 +1,4 @@
-use Rattle.std.proofs.Common.{◌≡◌, ℕ, ◌*◌, ◌^◌, ◌<◌, ◌≤◌, arith, mul-le-mul}
+use Rattle.std.proofs.Common.{ℕ, ◌*◌, ◌^◌, ◌<◌, ◌≤◌, arith, mul-le-mul}
 use Rattle.mesh_within.proofs.deviation.is_greater.Goals as goal
 
 small-product : (i j : ℕ) → i < 2 ^ 64 → j < 2 ^ 32 → i * j < 2 ^ 128

@@ -1,4 +1,4 @@
-use Rattle.std.proofs.Common.{◌≡◌, ℕ, ◌+◌, ◌<◌, ◌≤◌, arith}
+use Rattle.std.proofs.Common.{arith}
 use Rattle.mesh_within.specs.Gap.{gap_of, Holds}
 use Rattle.mesh_within.proofs.RowLemmas.{rows-between}
 use Rattle.mesh_within.proofs.SpotLemmas.{rows-more}
@@ -16,5 +16,5 @@ loop-y-preserved c = record {
 pub returns-clause-bound : goal.returns-clause-bound
 returns-clause-bound c = λ o has.
     let rows = rows-between c.args.f.a c.args.f.b c.args.f.c o c.min-low.result c.max-high.result c.requires.facet.left has.held
-        (omega arith) (omega arith) (omega arith) (omega arith) (omega arith) (omega arith) in
+    (omega arith) (omega arith) (omega arith) (omega arith) (omega arith) (omega arith) in
     c.loop-y.invariant.bound o has rows.0 (omega (arith, rows.1))

@@ -1,6 +1,5 @@
 use Rattle.std.proofs.Common.{◌≡◌, ℕ, ◌<◌, ◌≤◌, ◌⊎◌, ◌^◌}
 use Rattle.mesh_within.specs.declared.shape.Spot.{Spot}
-use Rattle.mesh_within.specs.declared.shape.Columns.{Columns}
 use Rattle.mesh_within.specs.declared.shape.Facet.{Facet}
 use Rattle.std.proofs.Common.{List}
 use Rattle.mesh_within.specs.Gap.{gap_of, IsSpot}
