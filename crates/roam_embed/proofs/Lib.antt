@@ -6,3 +6,5 @@ pub mod MosaicLemmas
 pub mod EditLemmas
 pub mod PagingLemmas
 pub mod WorldLemmas
+pub mod RoomLemmas
+pub mod SizeLemmas

@@ -46,7 +46,7 @@ pub use ground::{
     GREATEST_CHANGE, put_height, raise_area, raise_page, raise_world, set_page_height,
     set_world_height,
 };
-pub use laws::{compact_laws, limit_laws};
+pub use laws::{compact_laws, limit_laws, room_laws};
 pub use looking::put_planes;
 pub use make::open_engine;
 pub use mesh::{tell_indices, tell_leaves};
