@@ -141,6 +141,7 @@ taken-again before after p v used is_p is_after = rw is_after (record {
   stay = λ w some. refl;
   told = λ w none. refl;
   grows = λ w none. none;
+  used = λ w some. refl;
   few = omega arith;
   end = refl;
   most = refl;
@@ -169,6 +170,10 @@ taken-first before after p v unused first others total is_p points given end mos
       let one = same-one v w (sym e) in
       absurd (omega arith));
   grows = λ w none. let more = ap (λ xs. times xs w) given ∙ times-push before.given v w in omega arith;
+  used = λ w some.
+      let more = ap (λ xs. times xs w) given ∙ times-push before.given v w in
+      let none = same-other v w (λ e. let old = ap (λ k. get_or before.uses k 0) e in omega arith) in
+      omega arith;
   few = (let long = ap length given ∙ length_push before.given v in omega arith);
   end = end;
   most = most;

@@ -3,3 +3,5 @@ pub mod BorderLemmas
 pub mod CertificateLemmas
 pub mod DrawnLemmas
 pub mod MosaicLemmas
+pub mod RoomLemmas
+pub mod SizeLemmas

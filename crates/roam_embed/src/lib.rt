@@ -40,7 +40,7 @@ pub use fitting::{GREATEST_TOLERANCE, tell_fit};
 pub use frame_loop::MOST_FRAMES;
 pub use frames::{make_frame, tell_standing};
 pub use ground::{GREATEST_CHANGE, put_height, raise_area};
-pub use laws::{compact_laws, limit_laws};
+pub use laws::{compact_laws, limit_laws, room_laws};
 pub use looking::{are_planes, made_planes, put_planes};
 pub use make::{level_of_count, open_engine};
 pub use mesh::{put_addresses, tell_indices, tell_leaves};

@@ -15,7 +15,7 @@ use roam_embed::{Answer, MOST_PLANES, PlaneNumbers, are_planes, made_planes, put
 use std::alloc::Global;
 use triangle_pool::MOST_LEAVES;
 use wedgie_tree::GREATEST_SPACING;
-use world_loop::{Camera, PageStore, Point, UnloadFault, World, WorldNote};
+use world_loop::{Camera, PageStore, Point, UnloadFault, World, WorldNote, draw_laws};
 
 /// A world of a terrain of side 2^large grid steps, of which this page covers the whole.
 ///
@@ -125,6 +125,7 @@ pub fn put_world_budget(world: &mut World, triangles: u32) -> Answer
 pub fn make_world_frame(world: &mut World, out: &mut WorldFrame) -> Answer
     ensures { IsWorldFrameMade world.old world.new out.old out.new result }
 {
+    draw_laws();
     match world.frame() {
         Ok(note) => {
             *out = frame_of_world(&note);

@@ -396,7 +396,7 @@ class Engine(Viewed, Edited):
         'camera 0 0 0'
         """
         place = [_coordinate(name, value) for name, value in zip("xyz", (x, y, z))]
-        text, length = ctypes.create_string_buffer(48 + 30 * self.state().budget), c_size_t()
+        text, length = ctypes.create_string_buffer(48 + 33 * self.state().budget), c_size_t()
         self._call("certificate", *place, text, len(text), byref(length))
         return text.raw[:length.value].decode("ascii")
 
