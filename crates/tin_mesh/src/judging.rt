@@ -1,6 +1,6 @@
 //! Whether what was found is a mesh within the error.
 
-ghost use Rattle.std.specs.Prelude.{◌≡◌, ◌≤◌, ◌<◌, ◌↔◌, ℕ, ◌*◌, ◌/◌, ◌^◌, IsTrue, IfOk, IfSome, length};
+ghost use Rattle.std.specs.Prelude.{◌≡◌, ◌≤◌, ◌<◌, ℕ, ◌*◌, ◌/◌, ◌^◌, IfOk, IfSome, length};
 ghost use Rattle.mesh_defs.specs.declared.level.TheConstants.{GREATEST_LEVEL};
 ghost use Rattle.mesh_cover.specs.Conforming.{IsCorner};
 ghost use Rattle.tin_mesh.specs.Tin.{IsTin, IsMeasured, ArePlaces, heights_at};
@@ -8,7 +8,7 @@ ghost use Rattle.tin_mesh.specs.Tin.{IsTin, IsMeasured, ArePlaces, heights_at};
 use crate::tin::Tin;
 use mesh_cover::first_fault;
 use mesh_defs::{NoMemory, Point};
-use mesh_within::{Deviation, greatest_deviation};
+use mesh_within::{Deviation, greatest_deviation, is_within};
 use pgm_grid::Grid;
 use std::alloc::Global;
 use tin_search::Taken;
@@ -41,7 +41,7 @@ pub(crate) fn judged(
     let Some(deviation) = measured(grid, &found.points, &heights, corners, across, &mut rows) else {
         return Ok(None);
     };
-    if !is_within(deviation.gap, deviation.area, thousandths) {
+    if !is_within(deviation, thousandths) {
         return Ok(None);
     }
     let places = places_of(alloc, grid.n(), &found.points, corners)?;
@@ -91,13 +91,6 @@ fn places_of(alloc: Global, n: u32, points: &[Point], corners: &[u32]) -> Result
         places.push((last - point.y) * (last + 1) + point.x)?;
     }
     Ok(places)
-}
-
-/// Whether a gap over an area is at most so many thousandths.
-fn is_within(gap: u64, area: u32, thousandths: u32) -> bool
-    ensures { IsTrue result ↔ (1000 * gap ≤ thousandths * area) }
-{
-    u128::from(gap) * 1000 <= u128::from(thousandths) * u128::from(area)
 }
 
 /// The heights of grid points; none where one is beyond the grid.
