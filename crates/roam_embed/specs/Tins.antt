@@ -38,8 +38,8 @@ pub record IsTinOf (n : ℕ) (heights : List ℕ) (thousandths : ℕ) (array_bef
       × (length array_before < 3 * length leaves)
   pub found : answer ≡ Done → (leaves : List ℕ) × IsFitWith n heights thousandths [] [] leaves
       × (IsTinWritten (record { n = n; maxval = 65535; heights = heights }) thousandths (length leaves)
-          array_before array told
-        ⊎ IsFewestWritten (record { n = n; maxval = 65535; heights = heights }) leaves array_before array told)
+      array_before array told
+      ⊎ IsFewestWritten (record { n = n; maxval = 65535; heights = heights }) leaves array_before array told)
 
 -- and of any heights
 pub record IsTinTold (heights : List ℕ) (thousandths : ℕ) (array_before array : List ℕ) (told_before told : Fitted)

@@ -1,6 +1,6 @@
 //! The mesh of triangles of any shape for heights alone, in one call.
 
-ghost use Rattle.std.specs.Prelude.{◌≡◌, ◌⊎◌, ◌*◌, ◌<◌, ◌++◌, IfOk, IfSome, length, drop};
+ghost use Rattle.std.specs.Prelude.{◌≡◌, ◌⊎◌, ◌*◌, ◌/◌, ◌<◌, ◌++◌, IfOk, IfSome, length, drop};
 ghost use Rattle.tin_mesh.specs.Tin.{IsTin};
 ghost use Rattle.roam_embed.specs.Tins.{IsTinWritten, IsFewestWritten, IsTinTold};
 
@@ -87,7 +87,14 @@ fn shaped(
     let leaves = set.leaves();
     let mut numbers = VertexTable::new(alloc, set.n())?;
     numbers.number(leaves, set.n());
-    make_tin(alloc, fitter.grid(), leaves, numbers.numbers(), thousandths, effort)
+    make_tin(
+        alloc,
+        fitter.grid(),
+        leaves,
+        numbers.numbers(),
+        thousandths,
+        effort,
+    )
 }
 
 /// Writes the places of a mesh, and tells of it.
