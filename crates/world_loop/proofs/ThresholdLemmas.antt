@@ -12,7 +12,7 @@ use Rattle.mesh_defs.specs.Priority.{seen_ratio}
 use Rattle.mesh_defs.specs.ClosedSet.{IsLeastClosed}
 use Rattle.mesh_defs.proofs.ThresholdLemmas.{lt-above}
 use Rattle.mesh_laws.specs.Least.{is_worse}
-use Rattle.page_laws.specs.Pages.{is_known}
+use Rattle.page_laws.specs.Pages.{AreOnTerrain, is_known}
 use Rattle.page_laws.specs.Loaded.{known_box, known_wedge, known_priority}
 use Rattle.page_wedges.specs.Page.{Page}
 use Rattle.page_store.specs.Store.{Store, pages_of, page_at, is_square, cuts_of, place}
@@ -46,3 +46,17 @@ least-above s has is = record {
   least = λ other closed holds. is.least other closed (λ a h.
       holds a (subst (λ b. IsTrue b) (worse-above s a) h));
 }
+
+-- ---- the terrain
+
+pub on-terrain : (s : Store) → AreOnTerrain (pages_of s)
+unfolding page_at
+on-terrain s q t coarse loaded = ⊎_elim
+    (λ (is : is_square s q t ≡ true).
+    let a = and_parts (nat_le (s.n + q) s.large) (nat_lt t.x (2 ^ cuts_of s q) && nat_lt t.y (2 ^ cuts_of s q)) is in
+    let b = and_parts (nat_lt t.x (2 ^ cuts_of s q)) (nat_lt t.y (2 ^ cuts_of s q)) a.1 in
+    record { column = ltb-true t.x (2 ^ cuts_of s q) b.0; row = ltb-true t.y (2 ^ cuts_of s q) b.1 })
+    (λ (not : is_square s q t ≡ false).
+    absurd (false≢true (sym (ap (λ b. is_some (cond b (slice_index_or s.pages (place (cuts_of s q) t) None) None)) not)
+    ∙ loaded)))
+    (cases_Bool (is_square s q t))

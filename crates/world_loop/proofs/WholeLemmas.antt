@@ -15,8 +15,7 @@ use Rattle.page_laws.specs.declared.wedge.KnownWedge.{KnownWedge}
 use Rattle.page_laws.specs.Opened.{with_known_mate}
 use Rattle.page_laws.specs.Pages.{Pages, cuts_to, is_known, IsPyramid}
 use Rattle.page_laws.specs.Loaded.{joined_wedge, known_wedge_under, known_wedge, known_box, known_priority}
-use Rattle.mesh_defs.specs.declared.point.Point.{Point}
-use Rattle.page_laws.specs.Pages.{IsLoadedPoint}
+use Rattle.page_laws.specs.Loaded.{AreLoadedHeights}
 use Rattle.page_laws.proofs.LoadedLemmas.{under-known, wedge-heights}
 use Rattle.page_laws.proofs.OpenLemmas.{mate-parts, mate-from}
 use Rattle.page_laws.proofs.PyramidLemmas.{known-page, known-splittable, parent-known, square-tile}
@@ -115,7 +114,7 @@ unfolding priority_of box_of
 field-wedge_priority n heights view a = refl
 
 pub whole-priority : WedgeLaws → (s : LoadedState) (heights : List ℕ) (a : ℕ) → IsPyramid s.pages →
-    AreAllLoaded s.pages → ((p : Point) → IsLoadedPoint s.pages p → height_of s.pages.large heights p ≡ s.height p) → IsAddress s.pages.large a →
+    AreAllLoaded s.pages → AreLoadedHeights s.pages s.height heights → IsAddress s.pages.large a →
     (level_of a ≡ 2 * s.pages.large → priority_of s.pages.large heights s.view a ≡ 0) →
     loaded_priority s a ≡ priority_of s.pages.large heights s.view a
 whole-priority laws s heights a pyramid all agree address finest =

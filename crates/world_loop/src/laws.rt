@@ -13,7 +13,7 @@ ghost use Rattle.mesh_laws.specs.Least.{IsLeastMesh};
 ghost use Rattle.bintree_laws.specs.Areas.{overlaps};
 ghost use Rattle.roam_mesh.specs.Mesh.{MeshState, OnlyEntriesStamped};
 ghost use Rattle.page_laws.specs.Pages.{IsPyramid, IsLoadedPoint, page_area};
-ghost use Rattle.mesh_defs.specs.Thickness.{height_of};
+ghost use Rattle.page_laws.specs.Loaded.{AreLoadedHeights, IsHalfOff};
 ghost use Rattle.page_store.specs.Store.{Store, pages_of, height_in};
 ghost use Rattle.page_store.specs.Change.{AreOthersSame, AreHeightsSame};
 ghost use Rattle.page_priority.specs.Loaded.{LoadedState, loaded_priority, loaded_within};
@@ -26,7 +26,7 @@ ghost use Rattle.world_loop.specs.World.{WorldState, loaded_of, sight_of, IsSeen
 ghost use Rattle.world_loop.specs.World.{loaded_above, AreAllLoaded};
 
 use mesh_laws::least_laws;
-use page_laws::{area_laws, height_laws};
+use page_laws::{area_laws, height_laws, surface_laws};
 use page_priority::loaded_laws;
 use view_mesh::sight_laws;
 use view_priority::priority_laws;
@@ -49,12 +49,16 @@ pub fn loaded_mesh_laws()
     ensures least { (s : LoadedState) (budget : ℕ) (has : ℕ → Bool) (blocked : Option Blocked) → IsPyramid s.pages →
         IsFrame s.pages.large budget (loaded_priority s) has 0 blocked →
         IsLeastMesh s.pages.large s.view.threshold (loaded_priority (loaded_above 0 s)) (leaves_of s.pages.large has) }
+    ensures surface { (s : Store) (heights : List ℕ) (has : ℕ → Bool) (r : Point) → IsPyramid (pages_of s) →
+        AreLoadedHeights (pages_of s) (height_in s) heights → IsClosed s.large has → IsLoadedPoint (pages_of s) r →
+        ((a : ℕ) × Contains (leaves_of s.large has) a × IsHalfOff (pages_of s) (height_in s) heights a r) }
     ensures whole { (s : LoadedState) (heights : List ℕ) (a : ℕ) → IsPyramid s.pages → AreAllLoaded s.pages →
-        ((p : Point) → IsLoadedPoint s.pages p → height_of s.pages.large heights p ≡ s.height p) → IsAddress s.pages.large a →
+        AreLoadedHeights s.pages s.height heights → IsAddress s.pages.large a →
         loaded_priority s a ≡ priority_of s.pages.large heights s.view a }
 {
     least_laws();
     loaded_laws();
+    surface_laws();
     wedge_laws();
     priority_laws();
 }

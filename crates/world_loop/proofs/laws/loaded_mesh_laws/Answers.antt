@@ -9,7 +9,7 @@ use Rattle.mosaic_laws.specs.Tile.{IsTile}
 use Rattle.page_store.specs.Store.{Store, page_at, is_square, cuts_of}
 use Rattle.page_priority.specs.Loaded.{LoadedState, is_open, loaded_priority}
 use Rattle.world_loop.specs.World.{loaded_above}
-use Rattle.world_loop.proofs.ThresholdLemmas.{least-above}
+use Rattle.world_loop.proofs.ThresholdLemmas.{least-above, on-terrain}
 use Rattle.world_loop.proofs.WholeLemmas.{whole-priority}
 use Rattle.world_loop.proofs.laws.loaded_mesh_laws.Goals as goal
 
@@ -22,6 +22,10 @@ returns-clause-least c s budget has blocked pyramid frame =
           (c.loaded_laws.ensures.falls s pyramid));
       leaves = refl;
     }
+
+pub returns-clause-surface : goal.returns-clause-surface
+returns-clause-surface c s heights has r pyramid agree closed loaded =
+    c.surface_laws.ensures.mesh _ _ heights has r pyramid (on-terrain s) agree closed loaded
 
 pub returns-clause-whole : goal.returns-clause-whole
 returns-clause-whole c s heights a pyramid all agree address = whole-priority record {
