@@ -18,6 +18,7 @@ use Rattle.mesh_laws.specs.Slots.{split_set}
 use Rattle.view_mesh.specs.Expiry.{IsExpired}
 use Rattle.page_wedges.specs.Page.{Page}
 use Rattle.page_store.specs.Store.{Store, page_at, grid_at, pages_of}
+use Rattle.world_loop.specs.Draws.{AreInReach}
 use Rattle.world_loop.specs.World.{WorldState, priority_in, mesh_seen, next_pace, next_way, IsWorn, IsFrameDone}
 use Rattle.world_loop.specs.declared.world.TheConstants.{FIRST_PACE}
 use Rattle.world_loop.specs.declared.note.WorldNote.{WorldNote}
@@ -104,7 +105,8 @@ IsNoted before after note = IsFrameDone before after note
 module _ (before after : WorldState) (told_before told : WorldFrame) (fresh : IsWorn before → ⊥)
     (best : IsBestMesh after.store.large after.budget (priority_in after) (mesh_seen after))
     (vertices : (p : Point) → IsTrue (is_mesh_vertex after.store.large (mesh_seen after) p) →
-    IsLoadedPoint (pages_of after.store) p) (unneeded : told.blocking ≡ 0 → told.need ≡ 0)
+    IsLoadedPoint (pages_of after.store) p) (reach : AreInReach after.store (mesh_seen after))
+    (unneeded : told.blocking ≡ 0 → told.need ≡ 0)
     (spare : told.spare ≡ 0) where
   told-made : IsNoted before after (world_note_of told) → IsWorldFrameMade before after told_before told Done
   told-made is =
@@ -122,6 +124,7 @@ module _ (before after : WorldState) (told_before told : WorldFrame) (fresh : Is
         unneeded = (λ _. unneeded);
         spare = (λ _. spare);
         vertices = (λ _. vertices);
+        reach = (λ _. reach);
         kept = (λ no. absurd (no refl));
         untold = (λ no. absurd (no refl));
       } where

@@ -28,6 +28,7 @@ use Rattle.page_store.specs.Store.{Store, page_at, grid_at, pages_of, height_in}
 use Rattle.page_store.specs.Change.{AreOthersSame}
 use Rattle.page_store.specs.Load.{CanLoad}
 use Rattle.page_store.specs.Unload.{IsFree}
+use Rattle.world_loop.specs.Draws.{AreInReach}
 use Rattle.world_loop.specs.World.{WorldState, loaded_of, priority_in, mesh_seen, next_pace, next_way, IsWorn, IsFrameDone}
 use Rattle.world_loop.specs.declared.world.TheConstants.{FIRST_PACE}
 use Rattle.world_loop.specs.Turn.{is_turned}
@@ -124,7 +125,7 @@ world_note_of f = record {
 }
 
 -- The mesh is the best one of what is loaded and seen, and what is told of it. Each of its vertices is a point of a
--- loaded page.
+-- loaded page, and each of its triangles has a page, so that draws can be had.
 pub record IsWorldFrameMade (before after : WorldState) (told_before told : WorldFrame) (answer : Answer) : Type 0 where
   pub done : (answer ≡ Done) ↔ (IsWorn before → ⊥)
   pub worn : (answer ≡ Worn) ↔ IsWorn before
@@ -138,6 +139,7 @@ pub record IsWorldFrameMade (before after : WorldState) (told_before told : Worl
   pub spare : answer ≡ Done → told.spare ≡ 0
   pub vertices : answer ≡ Done → (p : Point) → IsTrue (is_mesh_vertex after.store.large (mesh_seen after) p) →
       IsLoadedPoint (pages_of after.store) p
+  pub reach : answer ≡ Done → AreInReach after.store (mesh_seen after)
   pub kept : (answer ≡ Done → ⊥) → after ≡ before
   pub untold : (answer ≡ Done → ⊥) → told ≡ told_before
 

@@ -18,7 +18,7 @@ use mesh_defs::{GREATEST_LEVEL, NoMemory};
 use std::alloc::Global;
 use triangle_pool::MOST_LEAVES;
 use wedgie_tree::GREATEST_SPACING;
-use world_loop::{Camera, PageStore, Point, UnloadFault, World, WorldNote};
+use world_loop::{Camera, PageStore, Point, UnloadFault, World, WorldNote, draw_laws};
 
 /// A world of a terrain of side 2^large grid steps, of which this page covers the whole.
 ///
@@ -128,6 +128,7 @@ pub fn put_world_budget(world: &mut World, triangles: u32) -> Answer
 pub fn make_world_frame(world: &mut World, out: &mut WorldFrame) -> Answer
     ensures { IsWorldFrameMade world.old world.new out.old out.new result }
 {
+    draw_laws();
     match world.frame() {
         Ok(note) => {
             *out = frame_of_world(&note);
