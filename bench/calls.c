@@ -57,7 +57,7 @@ int main(int argc, char **argv) {
     }
     uint32_t *index = malloc(12 * room), *leaf = malloc(4 * room), *before = malloc(4 * room), *gone = malloc(4 * room), *come = malloc(4 * room);
     uint32_t *point = malloc(12 * (room + 2));
-    char *text = malloc(48 + 30 * room);
+    char *text = malloc(48 + 33 * room);
     if (!index || !leaf || !before || !gone || !come || !point || !text) return 1;
     must(roam_camera(&terrain, x, y, z));
     told_frames("first", 1, frame());
@@ -102,7 +102,7 @@ int main(int argc, char **argv) {
     tell("fit_budget", 1, now() - start), start = now();
     must(roam_fit(&terrain, 100000, budget, index, 3 * room, &found));
     tell("fit_error", 1, now() - start), start = now();
-    must(roam_certificate(&terrain, x, y, z, text, 48 + 30 * room, &length));
+    must(roam_certificate(&terrain, x, y, z, text, 48 + 33 * room, &length));
     tell("certificate", 1, now() - start);
 
     /* A view of four planes that turns in each frame: put one by one, and then all at once. */

@@ -52,6 +52,7 @@ CALLS = {
     "fitter_more": (HANDLE, *FIT, WORDS), "fitter_indices": LIST, "fitter_leaves": LIST, "fitter_border": LIST,
     "fitter_deviation": (HANDLE, ctypes.POINTER(DeviationNote)), "fitter_restore": (HANDLE, WORDS, SIZE),
     "fit_with": (HEIGHTS, SIZE, *FIT, WORDS, SIZE, ctypes.POINTER(FitNote)),
+    "tin": (HEIGHTS, SIZE, WORD, WORD, WORDS, SIZE, ctypes.POINTER(FitNote)),
     "mosaic_open": (HANDLE, WORD, WORD, WORD), "mosaic_close": (HANDLE,),
     "mosaic_next": (HANDLE, ctypes.POINTER(TileNote)), "mosaic_put": (HANDLE, WORD, WORD, WORDS, SIZE),
     "mosaic_required": (HANDLE, WORD, WORD, WORDS, SIZE, ctypes.POINTER(RequiredNote)),

@@ -117,8 +117,8 @@ int32_t roam_look(roam_handle *h, const roam_plane *planes, size_t count);
  * too. It answers ROAM_WORN itself behind more than 2^60 evaluations, splits or merges: at a million a second, in 36,000 years. */
 int32_t roam_renew(roam_handle *h);
 
-/* Puts a threshold in force: a triangle whose ratio, 65,536 times its thickness (in half units of height) over its distance and 1,
- * is no more than that has priority 0, and is split only where a neighbour forces it. An engine opens with 0, which changes nothing.
+/* Puts a threshold in force: a triangle whose ratio, 65,536 times its thickness (in half units of height) over its distance and 1
+ * (0 outside a plane), is no more than that has priority 0, and is split only where a neighbour forces it. An engine opens with 0, which changes nothing.
  * Where a frame's `worst` is 0, its mesh has the fewest triangles of all whose ratios are at most the threshold; else the budget is
  * not enough for that. A point of the terrain in a triangle of ratio t is off by less than (t + 1) (d + 1) / 131,072 units of height,
  * d the distance: for p pixels take 262,144 p tan(f / 2) / rows, f the field of view from bottom to top, rows those of the screen.
@@ -165,13 +165,13 @@ int32_t roam_deviation(roam_handle *h, roam_deviation_note *out);
 /* Finds the mesh of fewest triangles that is off by no more than a tolerance, in thousandths of a unit of height, over the heights
  * as they are, whatever the camera; where it would have more than `budget` triangles, the mesh of that budget that is off by the
  * least. Writes its indices as roam_indices does. A tolerance of 0 asks for the best mesh of the budget; a budget of
- * 2 (side - 1)^2 or more is no bound. `places` has to be 3 times the budget, or 3 times that bound where it is less. Takes 14
+ * 2 (side - 1)^2 or more is no bound. `places` has to be 3 times the budget, or 3 times that bound where it is less. Takes 22
  * bytes a grid point, and 16 a triangle of a budget that is a bound, and gives them back. The engine is as before. */
 int32_t roam_fit(roam_handle *h, uint32_t thousandths, uint32_t budget, uint32_t *out, size_t places, roam_fit_note *told);
 
 /* Writes the certificate of the best mesh from (x, y, z), without planes, at threshold 0 and of the budget in force, as text: that of
- * `roam certify make` for the same grid, camera, budget and spacing, which `roam certify check` or a checker of your own can check.
- * 48 + 30 times the budget bytes always suffice. Takes the memory and the time of an engine of this grid and budget and its first
+ * `roam certify make` for the same grid, camera, budget and spacing. Up to 2,049 points a side `roam certify check` and
+ * checks/certificates.py check it, above that a checker of your own. 48 + 33 times the budget bytes always suffice. Takes the memory and the time of an engine of this grid and budget and its first
  * frame, and gives the memory back. The engine is as before. */
 int32_t roam_certificate(roam_handle *h, int64_t x, int64_t y, int64_t z, char *out, size_t room, size_t *length);
 
@@ -242,6 +242,16 @@ int32_t roam_fitter_restore(roam_fitter *f, const uint32_t *leaves, size_t count
 int32_t roam_fit_with(const uint16_t *heights, size_t count, uint32_t thousandths, const uint32_t *tolerances,
                       size_t tolerance_count, const uint32_t *required, size_t required_count, uint32_t *out, size_t places,
                       roam_fit_note *told);
+
+/* Writes a mesh of triangles of any shape within an error, as three places in the array of heights for each triangle,
+ * counterclockwise, and tells of it: off / over is the greatest distance of a height from the mesh, exactly. Every grid point is
+ * within `thousandths` thousandths of a unit of each triangle that holds it, the triangles tile the square without cracks, and
+ * they are never more than the fewest right triangles (roam_fit_with), mostly a third to a fifth of them. `effort` is 1 to 9: up
+ * to 3 so many rounds, above that searches beyond the error and back, which take some ten times as long at 9. The same
+ * arguments give the same mesh. ROAM_NO_ROOM: `places` is below 3 times the triangles that were found; 3 times those of
+ * roam_fit_with always suffice. Takes 26 bytes a grid point and some 100 a triangle of that mesh, and gives them back. */
+int32_t roam_tin(const uint16_t *heights, size_t count, uint32_t thousandths, uint32_t effort, uint32_t *out, size_t places,
+                 roam_fit_note *told);
 
 /* Mosaics: a terrain of tiles that meet. Each tile is a grid of its own, of one side for all, and shares a row of points with its
  * neighbours. A mosaic keeps which border points each tile's mesh has, and tells which tile has to be fitted next and with which
@@ -360,7 +370,9 @@ int32_t roam_world_unload(roam_world *w, uint32_t q, uint32_t column, uint32_t r
 int32_t roam_world_set_height(roam_world *w, uint32_t x, uint32_t y, uint16_t height);
 int32_t roam_world_raise(roam_world *w, uint32_t x0, uint32_t y0, uint32_t x1, uint32_t y1, int32_t dz);
 
-/* As roam_camera, roam_look, roam_threshold and roam_budget; (0, 0) is the near left point of the terrain. A way has no end here. */
+/* As roam_camera, roam_look, roam_threshold and roam_budget; (0, 0) is the near left point of the terrain. A way has no end here.
+ * Thickness, box and ratio are those over what is loaded, 0 for a triangle whose parts would have a height that is not: of these
+ * `worst` 0 says that no mesh has fewer triangles, and what is said of points in a triangle holds at loaded ones. */
 int32_t roam_world_camera(roam_world *w, int64_t x, int64_t y, int64_t z);
 int32_t roam_world_look(roam_world *w, const roam_plane *planes, size_t count);
 int32_t roam_world_threshold(roam_world *w, uint64_t ratio);
@@ -368,7 +380,8 @@ int32_t roam_world_budget(roam_world *w, uint32_t triangles);
 
 /* Makes the mesh of what is loaded and seen: it has no cracks, is within the budget in force, and no other such mesh has a lower
  * `worst`, where a triangle whose parts would have a height that is not loaded has priority 0. Each of its vertices is a point of a
- * loaded page. ROAM_WORN: the world has split or merged 2^61 triangles. Takes no memory. */
+ * loaded page, and roam_world_draws has a page for each triangle until one is unloaded. Where all pages of resolution 0 are loaded,
+ * it is the mesh of an engine over the same heights. ROAM_WORN: the world has split or merged 2^61 triangles. Takes no memory. */
 int32_t roam_world_frame(roam_world *w, roam_world_note *out);
 
 /* As roam_leaves: the addresses are those of a grid of 2^large grid steps a side. */

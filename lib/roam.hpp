@@ -206,7 +206,7 @@ public:
         return found;
     }
     std::string certificate(int64_t x, int64_t y, int64_t z) {
-        std::string out(48 + 30 * size_t{state().budget}, ' ');
+        std::string out(48 + 33 * size_t{state().budget}, ' ');
         size_t length = 0;
         certificate(x, y, z, &out[0], out.size(), length);
         out.resize(length);

@@ -114,7 +114,7 @@ int main() {
     uint32_t positions[15];
     roam_deviation_note off;
     roam_fit_note found;
-    char text[48 + 30 * 8];
+    char text[48 + 33 * 8];
     if (terrain.positions(positions, 14, triangles) != ROAM_NO_ROOM || triangles != 4) return fail("no room for positions");
     if (terrain.positions(positions, 15, triangles) != ROAM_OK || triangles != 5 || positions[8] != 100) return fail("positions");
     if (terrain.compact(out, 12, triangles) != ROAM_OK || triangles != 4 || out[0] != 2) return fail("compact");

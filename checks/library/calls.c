@@ -415,7 +415,7 @@ static void do_fit(struct engine *e, uint32_t thousandths, uint32_t budget, size
     test_state(e);
 }
 
-static char text[48 + 30 * 2 * MOST + 8];
+static char text[48 + 33 * 2 * MOST + 8];
 static void do_certificate(struct engine *e, int64_t x, int64_t y, int64_t z, size_t room) {
     call = CERTIFICATE;
     long held = blocks;
@@ -426,7 +426,7 @@ static void do_certificate(struct engine *e, int64_t x, int64_t y, int64_t z, si
     int32_t answer = roam_certificate(&e->handle, x, y, z, text, room, &length);
     int32_t wanted = or_no_memory(!e->is_open ? ROAM_IS_EMPTY : is_place(x, y, z) ? ROAM_OK : ROAM_BAD_CAMERA);
     if (answer == ROAM_NO_ROOM && wanted == ROAM_OK) { /* by as much as is enough at first, else by one byte */
-        must(room < 48 + 30 * (size_t)e->state.budget, "there is room enough");
+        must(room < 48 + 33 * (size_t)e->state.budget, "there is room enough");
         answers(answer, ROAM_NO_ROOM);
         must(is_filled(text, sizeof text) && is_filled(&length, sizeof length), "a refused call has written");
         test_state(e);

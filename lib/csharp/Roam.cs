@@ -236,7 +236,7 @@ namespace Roam {
         }
         /// The certificate of the best mesh from a place, as text.
         public string Certificate(long x, long y, long z) {
-            var text = new byte[48 + 30 * (long)State().Budget];
+            var text = new byte[48 + 33 * (long)State().Budget];
             UIntPtr length;
             Calls.Must(Calls.roam_certificate(ref h, x, y, z, text, (UIntPtr)text.Length, out length));
             return System.Text.Encoding.ASCII.GetString(text, 0, (int)length);

@@ -50,7 +50,7 @@ def test_a_file_and_what_is_said_of_it(run):
     found = read_glb(open("a.glb", "rb").read())
     assert (len(found["triangles"]), len(found["points"])) == (int(triangles), int(vertices))
     assert (told["triangles"], told["vertices"]) == (int(triangles), int(vertices))
-    assert re.fullmatch(r"greatest error (1\.9\d*|2) m at all points, of which 0\.00\d+ m for rounding to 0\.005 m", error)
+    assert re.fullmatch(r"error at most (1\.9\d*|2) m at all points, of which 0\.00\d+ m for rounding to 0\.005 m", error)
     assert re.fullmatch(r"the middles of the longest edges lie 0\.\d+ m sideways of their ground, as the two systems bend", bent)
     assert covers == "covers 100 % of the file's 150 x 100 points"
     assert re.fullmatch(r"origin \d+ \d+ 0; EPSG:32632, WGS 84 / UTM zone 32N", origin)

@@ -165,3 +165,16 @@ def test_a_fit_of_a_deep_grid_is_as_far_off_as_it_says():
         off, triangles = fitter.deviation(), fitter.indices()
     assert 2 < len(triangles) and off <= 400
     assert worst_of(heights, triangles) == (float(off), 2 * (side - 1) ** 2)  # exact: all numbers have few binary digits
+
+
+def test_a_certificate_of_the_largest_grid_has_room():
+    """Addresses have up to ten digits there: a leaf's line has up to 16 bytes and a reason's 17. The patch is as fine as can be,
+    about the point that always going to the right child leads to, where addresses are greatest."""
+    side, patch, budget = 16_385, 100, 19_800
+    heights = np.zeros((side, side), np.uint16)
+    top, left = side - 3 * side // 5 - patch // 2, 4 * side // 5 - patch // 2
+    heights[top:top + patch, left:left + patch] = np.random.default_rng(1).integers(0, 65_536, (patch, patch))
+    with Engine(heights, budget) as engine:
+        del heights
+        text = engine.certificate(0, 0, 0)
+    assert text.count("leaf") <= budget and 48 + 30 * budget < len(text) <= 48 + 33 * budget

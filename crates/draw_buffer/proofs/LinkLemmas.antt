@@ -1,13 +1,12 @@
 -- What each change of a table keeps of the links between triangles and places.
-use Rattle.std.proofs.Common.{◌≡◌, ◌≢◌, ℕ, ◌+◌, ◌-◌, ◌<◌, ◌≤◌, List, [], ◌∷◌, ◌++◌, Bool, true, eqb, eqb-true, eq-eqb}
-use Rattle.std.proofs.Common.{◌↔◌, length, get_or, set, take, sym, ap, ◌∙◌, arith, ⊎_elim}
-use Rattle.std.specs.List.{swap_remove}
+use Rattle.std.proofs.Common.{◌≡◌, ◌≢◌, ℕ, ◌<◌, List, [], ◌∷◌, ◌++◌, Bool, true, eqb, eqb-true, eq-eqb}
+use Rattle.std.proofs.Common.{◌↔◌, length, get_or, set, sym, ap, ◌∙◌, arith, ⊎_elim}
 use Rattle.std.proofs.lemmas.Bool.{cases_eq}
 use Rattle.std.proofs.lemmas.List.{length-set, length_push, get_or-set_same, get_or-set_other, get_or_append_left}
-use Rattle.std.proofs.lemmas.List.{get_or_push, get_or-take, get_or_default}
+use Rattle.std.proofs.lemmas.List.{get_or_push}
 use Rattle.draw_buffer.specs.Times.{times}
 use Rattle.draw_buffer.specs.Places.{IsPlaceOfEach}
-use Rattle.draw_buffer.proofs.TimesLemmas.{times-at, times-place, length-swap_remove}
+use Rattle.draw_buffer.proofs.TimesLemmas.{times-at, times-place}
 
 -- what a link says of equal numbers
 moved : (ps : List ℕ) (s t k : ℕ) → s ≡ t → (t < length ps) × (get_or ps t 0 ≡ k) →

@@ -1,5 +1,5 @@
 -- What a use more and a use less of a vertex number leave, of the fields and of what is seen.
-use Rattle.std.proofs.Common.{◌≡◌, ◌≢◌, ℕ, ◌+◌, ◌^◌, ◌<◌, ◌≤◌, List, [], ◌∷◌, ◌++◌, length, get_or, set, sum, refl, sym}
+use Rattle.std.proofs.Common.{◌≡◌, ◌≢◌, ℕ, ◌+◌, ◌^◌, ◌<◌, List, [], ◌∷◌, ◌++◌, length, get_or, set, sum, refl, sym}
 use Rattle.std.proofs.Common.{ap, ◌∙◌, subst, arith, ⊎_elim}
 use Rattle.std.proofs.lemmas.Bool.{cases_eq}
 use Rattle.std.proofs.lemmas.List.{length-set, length_push, get_or-set_other}
@@ -141,6 +141,7 @@ taken-again before after p v used is_p is_after = rw is_after (record {
   stay = λ w some. refl;
   told = λ w none. refl;
   grows = λ w none. none;
+  used = λ w some. refl;
   few = omega arith;
   end = refl;
   most = refl;
@@ -169,6 +170,10 @@ taken-first before after p v unused first others total is_p points given end mos
       let one = same-one v w (sym e) in
       absurd (omega arith));
   grows = λ w none. let more = ap (λ xs. times xs w) given ∙ times-push before.given v w in omega arith;
+  used = λ w some.
+      let more = ap (λ xs. times xs w) given ∙ times-push before.given v w in
+      let none = same-other v w (λ e. let old = ap (λ k. get_or before.uses k 0) e in omega arith) in
+      omega arith;
   few = (let long = ap length given ∙ length_push before.given v in omega arith);
   end = end;
   most = most;

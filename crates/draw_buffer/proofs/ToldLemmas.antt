@@ -1,5 +1,5 @@
 -- What each change leaves as it was, where no place is told to be written.
-use Rattle.std.proofs.Common.{◌≡◌, ◌≢◌, ℕ, ◌+◌, ◌-◌, ◌<◌, ◌≤◌, List, [], ◌∷◌, ◌++◌, length, get_or, set, refl, sym, ap}
+use Rattle.std.proofs.Common.{◌≡◌, ◌≢◌, ℕ, ◌+◌, ◌-◌, ◌<◌, List, [], ◌∷◌, ◌++◌, length, get_or, set, refl, sym, ap}
 use Rattle.std.proofs.Common.{◌∙◌, arith}
 use Rattle.std.specs.List.{swap_remove}
 use Rattle.std.proofs.lemmas.List.{length-set, length_push, get_or-set_other, get_or_append_left, get_or-take}
@@ -107,11 +107,15 @@ told-gap e f at x inside long told triangles corners =
 
 -- where nothing changes, each number keeps its point
 pub given-none : (e : ExchangeState) → IsGiven e e
-given-none e = record { grows = λ v none. none; points_stay = λ v none. refl }
+given-none e = record { grows = λ v none. none; points_stay = λ v none. refl; used = λ v some. (some, refl) }
 
 -- two changes that keep the points of numbers not given out keep them one after the other
 pub given-trans : (e f g : ExchangeState) → IsGiven e f → IsGiven f g → IsGiven e g
 given-trans e f g first second = record {
   grows = λ v none. first.grows v (second.grows v none);
   points_stay = λ v none. second.points_stay v none ∙ first.points_stay v (second.grows v none);
+  used = λ v some.
+      let one = first.used v some in
+      let two = second.used v one.0 in
+      (two.0, two.1 ∙ one.1);
 }

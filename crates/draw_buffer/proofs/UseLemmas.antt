@@ -129,6 +129,8 @@ taken-three a b c d places apex v0 v1 first second third = record {
   told = λ w none. third.told w none ∙ second.told w (third.grows w none)
       ∙ first.told w (second.grows w (third.grows w none));
   grows = λ w none. first.grows w (second.grows w (third.grows w none));
+  used = λ w some. third.used w (omega (arith, first.uses w, second.uses w))
+      ∙ second.used w (omega (arith, first.uses w)) ∙ first.used w some;
   few = (let h = first.few in let i = second.few in let j = third.few in omega arith);
   end = third.end ∙ second.end ∙ first.end;
   most = third.most ∙ second.most ∙ first.most;

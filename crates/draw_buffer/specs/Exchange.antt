@@ -65,7 +65,10 @@ pub record KeepsUntold (before after : ExchangeState) : Type 0 where
   pub corners_stay : (k : ℕ) (d : Indices) → k < length after.triangles → times after.written k ≡ 0
       → slice_index_or after.corners k d ≡ slice_index_or before.corners k d
 
--- the numbers that are given out only become more, and one that was not given out has the point that it had
+-- The numbers that are given out only become more, and one that was not given out has the point that it had. What is in
+-- use stays so, and is not given out.
 pub record IsGiven (before after : ExchangeState) : Type 0 where
   pub grows : (v : ℕ) → times after.given v ≡ 0 → times before.given v ≡ 0
   pub points_stay : (v : ℕ) → times after.given v ≡ 0 → slice_index after.points v ≡ slice_index before.points v
+  pub used : (v : ℕ) → 0 < slice_index before.uses v
+      → (0 < slice_index after.uses v) × (times after.given v ≡ times before.given v)

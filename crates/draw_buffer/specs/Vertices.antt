@@ -44,8 +44,8 @@ pub record AreSound (points uses numbers free : List ℕ)
   pub free_space : free_room ≡ most
   pub given_space : given_room ≡ most
 
--- v has the point, and a use more; what is in use keeps its point, and so does each number that is not told to be given
--- out
+-- v has the point, and a use more; what is in use keeps its point and is not given out, and each number that is not told
+-- to be given out keeps its point
 pub record IsTaken (before after : VertexState) (point v : ℕ) : Type 0 where
   pub here : slice_index after.points v ≡ point
   pub uses : (w : ℕ) → slice_index after.uses w ≡ slice_index before.uses w + same v w
@@ -53,6 +53,7 @@ pub record IsTaken (before after : VertexState) (point v : ℕ) : Type 0 where
   pub stay : (w : ℕ) → 0 < slice_index before.uses w → slice_index after.points w ≡ slice_index before.points w
   pub told : (w : ℕ) → times after.given w ≡ 0 → slice_index after.points w ≡ slice_index before.points w
   pub grows : (w : ℕ) → times after.given w ≡ 0 → times before.given w ≡ 0
+  pub used : (w : ℕ) → 0 < slice_index before.uses w → times after.given w ≡ times before.given w
   pub few : length after.given ≤ length before.given + 1
   pub end : after.end ≡ before.end
   pub most : after.most ≡ before.most
@@ -65,6 +66,7 @@ pub record AreTaken (before after : VertexState) (places x : Indices) : Type 0 w
   pub stay : (w : ℕ) → 0 < slice_index before.uses w → slice_index after.points w ≡ slice_index before.points w
   pub told : (w : ℕ) → times after.given w ≡ 0 → slice_index after.points w ≡ slice_index before.points w
   pub grows : (w : ℕ) → times after.given w ≡ 0 → times before.given w ≡ 0
+  pub used : (w : ℕ) → 0 < slice_index before.uses w → times after.given w ≡ times before.given w
   pub few : length after.given ≤ length before.given + 3
   pub end : after.end ≡ before.end
   pub most : after.most ≡ before.most

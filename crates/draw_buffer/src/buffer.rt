@@ -120,8 +120,8 @@ impl DrawBuffer {
     /// Takes triangles out and puts others in.
     ///
     /// A triangle that comes has the place of one that goes; what gaps are left the last ones close. A grid point
-    /// keeps its number while a triangle has it at a corner, those that come counted before those that go. A written
-    /// place may be past the end.
+    /// keeps its number while a triangle has it at a corner, those that come counted before those that go: so no number
+    /// that a corner had is given out (`apart`). A written place may be past the end.
     /// Cost (not proved): a few steps for each triangle that goes, and a step a level for each that comes; takes no
     /// memory.
     pub fn patch(&mut self, gone: &[Tri], come: &[Tri])
@@ -141,6 +141,7 @@ impl DrawBuffer {
         ensures kept { IsKept self.old self.new }
         ensures few { length self.new.written ≤ max (length gone.now) (length come.now) }
         ensures given { length self.new.given ≤ 3 * length come.now }
+        ensures apart { (v : ℕ) → 0 < uses_in self.old.corners v → times self.new.given v ≡ 0 }
     {
         self.exchange.begin();
         admit_all(&mut self.exchange, come);

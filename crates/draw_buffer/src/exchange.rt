@@ -168,6 +168,7 @@ impl Exchange {
     pub fn begin(&mut self)
         ensures value { self.new ≡ record self.old { written = []; given = [] } }
         ensures few { length self.old.triangles ≤ self.old.most }
+        ensures used { (v : ℕ) → uses_in self.old.corners v ≤ slice_index self.old.uses v }
     {
         self.written.clear();
         self.vertices.begin();

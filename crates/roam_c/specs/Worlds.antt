@@ -6,8 +6,8 @@ use Rattle.mesh_defs.specs.declared.point.Point.{Point}
 use Rattle.world_loop.specs.World.{WorldState}
 use Rattle.roam_embed.specs.declared.answer.Answer.{Answer}
 use Rattle.roam_embed.specs.declared.answer.Answer.TheVariants.{Done, NoMemory}
-use Rattle.roam_embed.specs.Worlds.{IsWorldAnswer, IsWorldOpened, IsLoadAnswer, IsPageLoaded}
-use Rattle.roam_embed.specs.Worlds.{IsUnloadAnswer, IsPageUnloaded}
+use Rattle.world_embed.specs.Worlds.{IsWorldAnswer, IsWorldOpened, IsLoadAnswer, IsPageLoaded}
+use Rattle.world_embed.specs.Worlds.{IsUnloadAnswer, IsPageUnloaded}
 use Rattle.roam_c.specs.declared.kept.Kept.{Kept}
 use Rattle.roam_c.specs.declared.kept.Kept.TheVariants.{Page, World}
 

@@ -1,13 +1,13 @@
 //! What a renderer draws of a world's mesh.
 
 ghost use Rattle.std.specs.Prelude.{◌≡◌};
-ghost use Rattle.roam_embed.specs.WorldDraws.{AreDrawsTold};
+ghost use Rattle.world_embed.specs.WorldDraws.{AreDrawsTold};
 ghost use Rattle.roam_c.specs.declared.kept.Kept.{Kept};
 ghost use Rattle.roam_c.specs.Handle.{OnKept, OnOther};
 
 use crate::handle::{Handle, on};
-use roam_embed::{Draw, tell_world_draws};
 use std::alloc::Global;
+use world_embed::{Draw, tell_world_draws};
 
 /// Writes the draws of the mesh, three indices for each triangle, and how many there are of both.
 #[unsafe(no_mangle)]

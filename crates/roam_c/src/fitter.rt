@@ -8,13 +8,14 @@ ghost use Rattle.roam_embed.specs.Fitter.{IsMeshRestored, IsFitterDeviationTold}
 ghost use Rattle.roam_embed.specs.Listed.{AreIndicesOf, AreNumbersTold};
 ghost use Rattle.roam_embed.specs.Border.{border_of};
 ghost use Rattle.roam_embed.specs.FitWith.{IsFitWithTold};
+ghost use Rattle.roam_embed.specs.Tins.{IsTinTold};
 ghost use Rattle.roam_c.specs.declared.kept.Kept.{Kept};
 ghost use Rattle.roam_c.specs.Handle.{IsNumberOfSome, OnKept, OnOther};
 
 use crate::handle::{Handle, close, fill, on};
 use roam_embed::{
     Deviation, Fitted, fit_points, open_fitter, refine_points, restore_mesh, tell_border,
-    tell_fit_with, tell_fitter_deviation, tell_fitter_indices, tell_fitter_leaves,
+    tell_fit_with, tell_fitter_deviation, tell_fitter_indices, tell_fitter_leaves, tell_tin,
 };
 use std::alloc::Global;
 
@@ -183,4 +184,21 @@ pub extern "C" fn roam_fit_with(
         out.old out.new told.old told.new answer) }
 {
     tell_fit_with(alloc, heights, thousandths, tolerances, required, out, told).number()
+}
+
+/// Writes three indices of heights for each triangle of a mesh of triangles of any shape within an error, and tells of it. It
+/// needs no handle.
+#[unsafe(no_mangle)]
+pub extern "C" fn roam_tin(
+    alloc: Global,
+    heights: &[u16],
+    thousandths: u32,
+    effort: u32,
+    out: &mut [u32],
+    told: &mut Fitted,
+) -> i32
+    ensures { IsNumberOfSome result (λ answer. IsTinTold heights.now thousandths out.old out.new
+        told.old told.new answer) }
+{
+    tell_tin(alloc, heights, thousandths, effort, out, told).number()
 }

@@ -1,13 +1,13 @@
 //! Heights of pages and of worlds, which change.
 
 ghost use Rattle.std.specs.Prelude.{◌≡◌, ◌≢◌, ⊤, Some};
-ghost use Rattle.roam_embed.specs.Edits.{IsPageHeightPut, IsPageRaised, IsWorldHeightPut, IsWorldRaised};
+ghost use Rattle.world_embed.specs.Edits.{IsPageHeightPut, IsPageRaised, IsWorldHeightPut, IsWorldRaised};
 ghost use Rattle.roam_c.specs.declared.kept.Kept.{Kept};
 ghost use Rattle.roam_c.specs.Handle.{OnKept, OnOther};
 
 use crate::handle::{Handle, on};
-use roam_embed::{raise_page, raise_world, set_page_height, set_world_height};
 use std::alloc::Global;
+use world_embed::{raise_page, raise_world, set_page_height, set_world_height};
 
 /// Sets the height of the point (x, y) of a page's grid.
 #[unsafe(no_mangle)]

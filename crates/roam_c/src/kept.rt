@@ -4,8 +4,9 @@ ghost use Rattle.std.specs.Prelude.{◌≡◌, ◌≢◌, MatchOption};
 ghost use Rattle.mesh_defs.specs.HeightField.{HeightField};
 
 use frame_loop::Engine;
-use roam_embed::{Fitter, Mosaic, Page, World};
+use roam_embed::{Fitter, Mosaic};
 use std::mem::replace;
+use world_embed::{Page, World};
 
 /// What a handle owns.
 #[derive(Drop)]

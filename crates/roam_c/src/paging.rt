@@ -4,13 +4,14 @@ ghost use Rattle.std.specs.Prelude.{◌≡◌, ◌≢◌, Some};
 ghost use Rattle.mesh_defs.specs.HeightField.{HeightField};
 ghost use Rattle.roam_c.specs.declared.kept.Kept.{Kept};
 ghost use Rattle.roam_c.specs.Handle.{OnKept, OnOther};
-ghost use Rattle.roam_embed.specs.Worlds.{IsUnloadAnswer, IsPageUnloaded};
+ghost use Rattle.world_embed.specs.Worlds.{IsUnloadAnswer, IsPageUnloaded};
 ghost use Rattle.roam_c.specs.Worlds.{IsKeptLoaded, IsPagePut, IsPageHanded};
 
 use crate::handle::{Handle, on, put, take};
 use crate::kept::{Kept, keep, take_page};
-use roam_embed::{Answer, World, load_page, unload_page};
+use roam_embed::Answer;
 use std::alloc::Global;
+use world_embed::{World, load_page, unload_page};
 
 /// Puts the page of a handle into the square in this column and row of its resolution. The handle is empty then; after a
 /// refusal all is as before.

@@ -5,19 +5,20 @@ ghost use Rattle.mesh_defs.specs.HeightField.{HeightField};
 ghost use Rattle.world_loop.specs.World.{WorldState, mesh_seen};
 ghost use Rattle.roam_embed.specs.Listed.{AreNumbersTold};
 ghost use Rattle.roam_embed.specs.Grid.{IsGridAnswer, IsGridOf};
-ghost use Rattle.roam_embed.specs.Worlds.{IsWorldCameraMoved, AreWorldPlanesPut, IsWorldThresholdPut};
-ghost use Rattle.roam_embed.specs.Worlds.{IsWorldBudgetPut, IsWorldFrameMade};
+ghost use Rattle.world_embed.specs.Worlds.{IsWorldCameraMoved, AreWorldPlanesPut, IsWorldThresholdPut};
+ghost use Rattle.world_embed.specs.Worlds.{IsWorldBudgetPut, IsWorldFrameMade};
 ghost use Rattle.roam_c.specs.declared.kept.Kept.{Kept};
 ghost use Rattle.roam_c.specs.Handle.{IsNumberOfSome, OnKept, OnOther};
 ghost use Rattle.roam_c.specs.Worlds.{IsKeptOpened, IsWorldMade};
 
 use crate::handle::{Handle, close, fill, on, put, take};
 use crate::kept::{Kept, keep, take_page};
-use roam_embed::{
-    Answer, Page, PlaneNumbers, WorldFrame, make_page, make_world_frame, move_world_camera,
-    open_world, put_world_budget, put_world_planes, put_world_threshold, tell_world_leaves,
-};
+use roam_embed::{Answer, PlaneNumbers};
 use std::alloc::Global;
+use world_embed::{
+    Page, WorldFrame, make_page, make_world_frame, move_world_camera, open_world, put_world_budget,
+    put_world_planes, put_world_threshold, tell_world_leaves,
+};
 
 /// Makes a page of these heights, and lets go of what the handle had. After a refusal the handle is as before.
 #[unsafe(no_mangle)]

@@ -59,7 +59,7 @@ off-side-false false rest off = refl
 
 -- ends of a side
 
-test-end : (m x : ℕ) → (eqb x 0 || eqb x m) ≡ true → (x ≡ 0) ⊎ (x ≡ m)
+pub test-end : (m x : ℕ) → (eqb x 0 || eqb x m) ≡ true → (x ≡ 0) ⊎ (x ≡ m)
 test-end m x is = ⊎_elim
     (λ low. inl (eqb-true x 0 low))
     (λ high. inr (eqb-true x m high))

@@ -9,6 +9,7 @@ use Rattle.view_priority.specs.Camera.{IsCamera}
 use Rattle.roam_embed.specs.declared.answer.Answer.{Answer}
 use Rattle.roam_embed.specs.declared.answer.Answer.TheVariants.{Done, NoRoom}
 use Rattle.roam_embed.specs.Answer.{number_of}
+use Rattle.roam_embed.proofs.RoomLemmas.{certificate-short}
 use Rattle.roam_embed.specs.Certificates.{unplaned_at, IsCertificateAt, IsCertificateText, IsCertificateTold}
 
 -- who stands at the place without planes sees what is seen from there without planes
@@ -45,20 +46,22 @@ told-done state place before after text count_before count camera is fits writte
   others = (λ _. camera, λ _. inl refl);
   no_room = λ same. (let h : 0 ≡ 11 = ap size same in absurd (omega arith));
   written = λ _. (text, is, fits, counted, written);
+  room = λ _ same. (let h : 0 ≡ 11 = ap size same in absurd (omega arith));
   unwritten = λ not. absurd (not refl);
   uncounted = λ not. absurd (not refl);
 }
 
 -- and one that has none is not
 pub told-no_room : (state : State) (place : CameraAt) (before after text : List ℕ) (count_before count : ℕ) →
-    IsCamera place → IsCertificateText state place text
+    state.grid.n ≤ 14 → IsCamera place → IsCertificateText state place text
     → length before < length text → after ≡ before → count ≡ count_before →
     IsCertificateTold state place before after count_before count NoRoom
-told-no_room state place before after text count_before count camera is short unwritten uncounted = record {
+told-no_room state place before after text count_before count small camera is short unwritten uncounted = record {
   bad_camera = (λ same. (let h : 11 ≡ 5 = ap size same in absurd (omega arith)), λ none. absurd (none camera));
   others = (λ _. camera, λ _. inr (inl refl));
   no_room = λ _. (text, is, short);
   written = λ same. (let h : 11 ≡ 0 = ap size same in absurd (omega arith));
+  room = λ more _. (let most = certificate-short state place text small camera is in absurd (omega arith));
   unwritten = λ _. unwritten;
   uncounted = λ _. uncounted;
 }

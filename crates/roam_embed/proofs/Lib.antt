@@ -3,6 +3,5 @@ pub mod BorderLemmas
 pub mod CertificateLemmas
 pub mod DrawnLemmas
 pub mod MosaicLemmas
-pub mod EditLemmas
-pub mod PagingLemmas
-pub mod WorldLemmas
+pub mod RoomLemmas
+pub mod SizeLemmas

@@ -15,7 +15,5 @@ pub mod Border
 pub mod Listed
 pub mod Fitter
 pub mod FitWith
+pub mod Tins
 pub mod Mosaics
-pub mod Worlds
-pub mod WorldDraws
-pub mod Edits

@@ -50,6 +50,7 @@ fn tell_certificate_at(
 ) -> Answer
     ensures { IsCertificateTold engine.now.state place out.old out.new count.old count.new result }
 {
+    let _n = engine.grid().n();
     match text_at(alloc, engine, place) {
         Ok(text) => {
             if put_text(&text, out, count) {

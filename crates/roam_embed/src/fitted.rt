@@ -55,7 +55,12 @@ pub fn tell_fit_with(
 }
 
 /// Writes the indices of a fitter's mesh, and tells of it.
-fn tell_fitted(alloc: Global, fitter: &Fitter, out: &mut [u32], told: &mut Fitted) -> Answer
+pub(crate) fn tell_fitted(
+    alloc: Global,
+    fitter: &Fitter,
+    out: &mut [u32],
+    told: &mut Fitted,
+) -> Answer
     ensures others { (result ≡ Answer.Done) ⊎ ((result ≡ Answer.NoRoom) ⊎ (result ≡ Answer.NoMemory)) }
     ensures no_room { result ≡ Answer.NoRoom → length out.old < 3 * length fitter.now.leaves }
     ensures written { result ≡ Answer.Done → out.new

@@ -23,7 +23,7 @@ pub const GREATEST_TOLERANCE: u32 = GREATEST_ERROR;
 /// The tolerance is in thousandths of a unit of height. No mesh within it has fewer triangles; where these are more
 /// than the budget, it is the mesh of the budget that is off by the least. There has to be room for any mesh of the
 /// budget.
-/// Cost (not proved): that of `Fit::make` and `Fit::frame`. Takes less than 14 bytes for each grid point, and 16 more
+/// Cost (not proved): that of `Fit::make` and `Fit::frame`. Takes about 22 bytes for each grid point, and 16 more
 /// for each triangle of a budget below that of all finest triangles, and gives them back.
 pub fn tell_fit(
     alloc: Global,

@@ -12,7 +12,6 @@ mod border;
 mod bytes;
 mod certificate;
 mod changed;
-mod draws;
 mod fitted;
 mod fitter;
 mod fitting;
@@ -24,16 +23,14 @@ mod make;
 mod mesh;
 mod mosaic;
 mod notes;
-mod page;
 mod renewal;
 mod shapes;
+mod tins;
 mod view;
-mod world;
 
 pub use answer::Answer;
 pub use certificate::tell_certificate;
 pub use changed::tell_changes;
-pub use draws::tell_world_draws;
 pub use fitted::tell_fit_with;
 pub use fitter::{
     Fitter, fit_points, open_fitter, refine_points, restore_mesh, tell_border,
@@ -42,24 +39,16 @@ pub use fitter::{
 pub use fitting::{GREATEST_TOLERANCE, tell_fit};
 pub use frame_loop::MOST_FRAMES;
 pub use frames::{make_frame, tell_standing};
-pub use ground::{
-    GREATEST_CHANGE, put_height, raise_area, raise_page, raise_world, set_page_height,
-    set_world_height,
-};
-pub use laws::{compact_laws, limit_laws};
-pub use looking::put_planes;
-pub use make::open_engine;
-pub use mesh::{tell_indices, tell_leaves};
+pub use ground::{GREATEST_CHANGE, put_height, raise_area};
+pub use laws::{compact_laws, limit_laws, room_laws};
+pub use looking::{are_planes, made_planes, put_planes};
+pub use make::{level_of_count, open_engine};
+pub use mesh::{put_addresses, tell_indices, tell_leaves};
 pub use mosaic::{Mosaic, next_tile, open_mosaic, put_tile, tell_required};
-pub use notes::{Deviation, Fitted, Frame, PlaneNumbers, Required, Standing, Tile, WorldFrame};
-pub use page::{Page, make_page};
+pub use notes::{Deviation, Fitted, Frame, PlaneNumbers, Required, Standing, Tile};
 pub use renewal::renew_engine;
 pub use shapes::{tell_compact, tell_deviation, tell_positions, tell_strip};
+pub use tins::tell_tin;
 pub use view::{
     LONGEST_WAY, MOST_PLANES, add_plane, clear_planes, move_camera, put_budget, put_threshold,
 };
-pub use world::{
-    load_page, make_world_frame, move_world_camera, open_world, put_world_budget, put_world_planes,
-    put_world_threshold, tell_world_leaves, unload_page,
-};
-pub use world_loop::{Draw, World};

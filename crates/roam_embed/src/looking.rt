@@ -28,7 +28,7 @@ pub fn put_planes(engine: &mut Engine, planes: &[PlaneNumbers]) -> Answer
 }
 
 /// Whether all are planes.
-pub(crate) fn are_planes(planes: &[PlaneNumbers]) -> bool
+pub fn are_planes(planes: &[PlaneNumbers]) -> bool
     ensures all { result ≡ true → All (λ p. IsPlane (plane_of p)) planes.now }
     ensures some { result ≡ false → All (λ p. IsPlane (plane_of p)) planes.now → ⊥ }
 {
@@ -49,7 +49,7 @@ fn plane(p: &PlaneNumbers) -> Option<Plane>
 }
 
 /// These planes.
-pub(crate) fn made_planes(planes: &[PlaneNumbers]) -> Planes
+pub fn made_planes(planes: &[PlaneNumbers]) -> Planes
     requires valid { All (λ p. IsPlane (plane_of p)) planes.now }
     requires few { length planes.now ≤ MOST_PLANES }
     ensures { result ≡ planes_of planes.now }

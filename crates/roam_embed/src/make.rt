@@ -48,7 +48,7 @@ pub fn open_engine(
 }
 
 /// The level of the grid that has so many points, if there is one.
-pub(crate) fn level_of_count(points: usize) -> Option<u32>
+pub fn level_of_count(points: usize) -> Option<u32>
     ensures level { IfSome result (IsPointCount points) }
     ensures none { IsNone result → HasGrid points → ⊥ }
 {

@@ -43,7 +43,7 @@ pub(crate) fn put_indices(n: u32, leaves: &[Tri], out: &mut [u32], triangles: &m
 }
 
 /// Writes the addresses of these triangles, and how many they are.
-pub(crate) fn put_addresses(leaves: &[Tri], out: &mut [u32], triangles: &mut usize) -> Answer
+pub fn put_addresses(leaves: &[Tri], out: &mut [u32], triangles: &mut usize) -> Answer
     ensures { AreNumbersTold leaves.now out.old out.new triangles.old triangles.new result }
 {
     if out.len() < leaves.len() {

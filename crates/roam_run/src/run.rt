@@ -175,8 +175,8 @@ pub fn roam<F: Shelf, M: MeshSink, R: Sink>(
 /// Carries out the words of a command line by `roam`, and answers how that ended; what the run leaves beside is
 /// dropped.
 ///
-/// For a program, which keeps no engine. Its clauses are those of `roam` on the status, on what stands after it and
-/// on its causes; what the meshes are, `roam` says. So a program is proved over these lines, and not over all the
+/// For a program, which keeps no engine. Its clauses are those of `roam` on the meshes and the certificate, on the
+/// status, on what stands after it and on its causes. So a program is proved over these lines, and not over all the
 /// words of that contract.
 pub fn status_of<F: Shelf, M: MeshSink, R: Sink>(
     alloc: Global,
@@ -190,6 +190,12 @@ pub fn status_of<F: Shelf, M: MeshSink, R: Sink>(
     requires mesh_faults { M.faults meshes.old < 2 ^ 64 - 1 }
     requires report_faults { R.faults report.old < 2 ^ 64 - 1 }
     requires opens { F.opens shelf.old ≤ 2 ^ 63 }
+    ensures best { KeepsBestMeshes (moment F.Shelf M.MeshSink R.Sink shelf.old meshes.old report.old)
+        (moment F.Shelf M.MeshSink R.Sink shelf.new meshes.new report.new)
+        (map string_bytes words.now) result }
+    ensures certified { CertifiesMesh (moment F.Shelf M.MeshSink R.Sink shelf.old meshes.old report.old)
+        (moment F.Shelf M.MeshSink R.Sink shelf.new meshes.new report.new)
+        (map string_bytes words.now) result }
     ensures ends { (left : Option EngineEnd) ×
         EndsByStatus (moment F.Shelf M.MeshSink R.Sink shelf.old meshes.old report.old)
         (moment F.Shelf M.MeshSink R.Sink shelf.new meshes.new report.new)

@@ -5,7 +5,7 @@ ghost use Rattle.std.specs.Prelude.{string_bytes};
 ghost use Rattle.run_words.specs.Words.{command_of};
 ghost use Rattle.run_laws.specs.Outcome.{EngineEnd};
 ghost use Rattle.run_laws.specs.Moment.{moment};
-ghost use Rattle.run_laws.specs.Statement.{EndsByStatus};
+ghost use Rattle.run_laws.specs.Statement.{KeepsBestMeshes, CertifiesMesh, EndsByStatus};
 ghost use Rattle.run_laws.specs.declared.status.Status.{Status as Ending};
 
 use roam_edge::{MeshSink, Shelf, Sink};
@@ -36,6 +36,10 @@ pub trait Program {
         requires report_faults { S.faults report.old < 2 ^ 64 - 1 }
         requires opens { F.opens shelf.old ≤ 2 ^ 63 }
         ensures ran { Self.ran self.now (map string_bytes words.now) result }
+        ensures best { KeepsBestMeshes (moment F.Shelf M.MeshSink S.Sink shelf.old meshes.old report.old)
+            (moment F.Shelf M.MeshSink S.Sink shelf.new meshes.new report.new) (map string_bytes words.now) result }
+        ensures certified { CertifiesMesh (moment F.Shelf M.MeshSink S.Sink shelf.old meshes.old report.old)
+            (moment F.Shelf M.MeshSink S.Sink shelf.new meshes.new report.new) (map string_bytes words.now) result }
         ensures ends { (left : Option EngineEnd) ×
             EndsByStatus (moment F.Shelf M.MeshSink S.Sink shelf.old meshes.old report.old)
             (moment F.Shelf M.MeshSink S.Sink shelf.new meshes.new report.new)

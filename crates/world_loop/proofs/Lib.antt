@@ -5,3 +5,5 @@ pub mod FollowLemmas
 pub mod ListLemmas
 pub mod PagingLemmas
 pub mod TurnLemmas
+pub mod WholeLemmas
+pub mod ThresholdLemmas

@@ -1,9 +1,11 @@
 -- A world between two calls: what is loaded of a terrain, a view of it, and the mesh that follows the view.
 -- All of it is this project's own.
--- Words: WorldState, world_of, loaded_of, sight_of, IsSeenSame, priority_in, is_split, mesh_seen, next_pace, next_way, IsWorld,
--- IsWorn, IsFrameDone, IsStill, IsKept.
-use Rattle.std.specs.Prelude.{◌≡◌, ◌⊎◌, ℕ, ◌*◌, ◌^◌, ◌≤◌, min, nat_eq, cond, Bool, List, length, Option, Some}
+-- Words: WorldState, world_of, loaded_of, sight_of, IsSeenSame, loaded_above, AreAllLoaded, priority_in, is_split, mesh_seen,
+-- next_pace, next_way, IsWorld, IsWorn, IsFrameDone, IsStill, IsKept.
+use Rattle.std.specs.Prelude.{◌≡◌, ◌⊎◌, ℕ, ◌*◌, ◌^◌, ◌≤◌, min, nat_eq, cond, Bool, IsTrue, List, length}
+use Rattle.std.specs.Prelude.{Option, Some}
 use Rattle.mesh_defs.specs.declared.counters.TheConstants.{CHANGES_AT_FRAME, LONGEST_WAY}
+use Rattle.mesh_defs.specs.declared.point.Point.{Point}
 use Rattle.mesh_defs.specs.BoundingBox.{CameraAt}
 use Rattle.mesh_defs.specs.ClosedSet.{leaves_of, among}
 use Rattle.mesh_defs.specs.View.{View}
@@ -11,6 +13,8 @@ use Rattle.mesh_laws.specs.Slots.{split_set}
 use Rattle.wedgie_tree.specs.declared.wedges.TheConstants.{GREATEST_SPACING}
 use Rattle.triangle_pool.specs.declared.pool.TheConstants.{MOST_LEAVES}
 use Rattle.roam_mesh.specs.Mesh.{MeshState, pool_members}
+use Rattle.mosaic_laws.specs.Tile.{IsTile}
+use Rattle.page_laws.specs.Pages.{Pages, cuts_to}
 use Rattle.page_store.specs.Store.{Store}
 use Rattle.page_priority.specs.Loaded.{LoadedState, loaded_priority, loaded_readings, loaded_from}
 use Rattle.page_priority.specs.Scene.{loaded_in}
@@ -55,6 +59,14 @@ sight_of pace s = record {
 -- the triangle has the same priority in both from every place
 abbrev pub IsSeenSame : LoadedState → LoadedState → ℕ → Type 0
 IsSeenSame before after a = (to : CameraAt) → loaded_priority (loaded_from to after) a ≡ loaded_priority (loaded_from to before) a
+
+-- the same with this threshold in force
+abbrev pub loaded_above : ℕ → LoadedState → LoadedState
+loaded_above threshold s = record s { view = record s.view { threshold = threshold } }
+
+-- all pages of the finest resolution are loaded
+abbrev pub AreAllLoaded : Pages → Type 0
+AreAllLoaded w = (t : Point) → IsTile (2 ^ cuts_to w 0) (2 ^ cuts_to w 0) t → IsTrue (w.loaded 0 t)
 
 -- what is loaded, as it is viewed
 abbrev pub loaded_of : WorldState → LoadedState

@@ -1,32 +1,66 @@
 //! What a frame and other calls rest on, as laws.
 
-ghost use Rattle.std.specs.Prelude.{◌≡◌, ℕ, ◌+◌, ◌≤◌, Bool, false, List, Option, None};
+ghost use Rattle.std.specs.Prelude.{◌≡◌, ℕ, ◌+◌, ◌≤◌, Bool, false, List, Contains, Option, None};
+ghost use Rattle.bintree_addr.specs.declared.blocked.Blocked.{Blocked};
 ghost use Rattle.mesh_defs.specs.declared.point.Point.{Point};
 ghost use Rattle.mesh_defs.specs.State.{Area, is_in_area};
 ghost use Rattle.mesh_defs.specs.Triangle.{corners_of, IsAddress};
+ghost use Rattle.mesh_defs.specs.ClosedSet.{IsClosed, leaves_of};
 ghost use Rattle.mesh_defs.specs.View.{View, ViewPlane};
+ghost use Rattle.mesh_defs.specs.Priority.{priority_of};
+ghost use Rattle.mesh_laws.specs.Frame.{IsFrame};
+ghost use Rattle.mesh_laws.specs.Least.{IsLeastMesh};
 ghost use Rattle.bintree_laws.specs.Areas.{overlaps};
 ghost use Rattle.roam_mesh.specs.Mesh.{MeshState, OnlyEntriesStamped};
-ghost use Rattle.page_laws.specs.Pages.{IsPyramid, page_area};
+ghost use Rattle.page_laws.specs.Pages.{IsPyramid, IsLoadedPoint, page_area};
+ghost use Rattle.page_laws.specs.Loaded.{AreLoadedHeights, IsHalfOff};
 ghost use Rattle.page_store.specs.Store.{Store, pages_of, height_in};
 ghost use Rattle.page_store.specs.Change.{AreOthersSame, AreHeightsSame};
-ghost use Rattle.page_priority.specs.Loaded.{LoadedState, loaded_within};
+ghost use Rattle.page_priority.specs.Loaded.{LoadedState, loaded_priority, loaded_within};
 ghost use Rattle.page_priority.specs.Scene.{loaded_in};
 ghost use Rattle.view_mesh.specs.Expiry.{IsExpired};
 ghost use Rattle.view_mesh.specs.Sight.{IsSound};
 ghost use Rattle.world_loop.specs.declared.note.WorldNote.{WorldNote};
 ghost use Rattle.world_loop.specs.Turn.{is_turned};
 ghost use Rattle.world_loop.specs.World.{WorldState, loaded_of, sight_of, IsSeenSame, IsKept};
+ghost use Rattle.world_loop.specs.World.{loaded_above, AreAllLoaded};
 
-use page_laws::{area_laws, height_laws};
+use mesh_laws::least_laws;
+use page_laws::{area_laws, height_laws, surface_laws};
 use page_priority::loaded_laws;
 use view_mesh::sight_laws;
+use view_priority::priority_laws;
+use wedgie_tree::wedge_laws;
 
 /// What is loaded can be followed: priorities fall, and readings bracket them.
 pub fn world_laws()
     ensures sound { (pace : ℕ) (s : LoadedState) → IsPyramid s.pages → IsSound (sight_of pace s) }
 {
     loaded_laws();
+}
+
+/// What a mesh over what is loaded is to the threshold, to the surface, and to an engine.
+///
+/// `least` a frame of worst 0 is the least mesh whose ratios over what is loaded are all at most the threshold: each mesh
+/// of which that holds refines it. `surface` at each loaded point each mesh has a triangle that the surface is off by at
+/// most half its thickness. `whole` where all pages of the finest resolution are loaded, the priorities are those of a
+/// height field with these heights, so a frame makes the mesh that one of an engine would.
+pub fn loaded_mesh_laws()
+    ensures least { (s : LoadedState) (budget : ℕ) (has : ℕ → Bool) (blocked : Option Blocked) → IsPyramid s.pages →
+        IsFrame s.pages.large budget (loaded_priority s) has 0 blocked →
+        IsLeastMesh s.pages.large s.view.threshold (loaded_priority (loaded_above 0 s)) (leaves_of s.pages.large has) }
+    ensures surface { (s : Store) (heights : List ℕ) (has : ℕ → Bool) (r : Point) → IsPyramid (pages_of s) →
+        AreLoadedHeights (pages_of s) (height_in s) heights → IsClosed s.large has → IsLoadedPoint (pages_of s) r →
+        ((a : ℕ) × Contains (leaves_of s.large has) a × IsHalfOff (pages_of s) (height_in s) heights a r) }
+    ensures whole { (s : LoadedState) (heights : List ℕ) (a : ℕ) → IsPyramid s.pages → AreAllLoaded s.pages →
+        AreLoadedHeights s.pages s.height heights → IsAddress s.pages.large a →
+        loaded_priority s a ≡ priority_of s.pages.large heights s.view a }
+{
+    least_laws();
+    loaded_laws();
+    surface_laws();
+    wedge_laws();
+    priority_laws();
 }
 
 /// What stays where a call changes what is loaded or seen.

@@ -20,7 +20,7 @@ mod world;
 
 pub use cull_marks::Planes;
 pub use draws::{Draw, draw_laws};
-pub use laws::world_laws;
+pub use laws::{loaded_mesh_laws, world_laws};
 pub use mesh_defs::{NoMemory, Point};
 pub use note::{WorldNote, Worn};
 pub use page_store::{LoadFault, PageStore, PageTriangle, PageWedges, UnloadFault};

@@ -393,7 +393,7 @@ impl Engine {
     /// The certificate that no mesh of the budget in force is better from a place, without planes: that of
     /// `roam certify make`.
     pub fn certificate(&mut self, x: i64, y: i64, z: i64) -> Result<String, Error> {
-        let (mut out, mut length) = (vec![0; 48 + 30 * self.state().budget as usize], 0);
+        let (mut out, mut length) = (vec![0; 48 + 33 * self.state().budget as usize], 0);
         told(unsafe { c::roam_certificate(&mut self.handle, x, y, z, out.as_mut_ptr(), out.len(), &mut length) })?;
         out.truncate(length);
         Ok(String::from_utf8(out).expect("a certificate is ASCII"))

@@ -174,7 +174,7 @@ def stage(label: str, quiet: bool) -> Iterator[Optional[Progress]]:
 @QUIET
 @click.version_option(__version__)
 def mesh(**words: Any) -> None:
-    """Meshes of few triangles of the heights of IN, with a proved error.
+    """Meshes of few triangles of the heights of IN, with an error that is told.
 
     IN is what GDAL reads (GeoTIFF, .hgt, .vrt, .zip, a URL), PGM or .npy. OUT is a file (.glb .ply .stl .obj .vtk .vtu .off
     .npz), or a folder, which gets 3D Tiles.
@@ -429,7 +429,7 @@ def told(report: dict[str, Any]) -> str:
         return "{out}: {tiles} tiles to zoom {zoom}, {triangles} triangles, {bytes} bytes, {seconds} s".format(**report)
     if report.get("kind") == "3dtiles":
         return ("{out}: {tiles} tiles in {levels} levels, {triangles} triangles in the finest, {bytes} bytes, {seconds} s\n"
-                "greatest error {error:.6g} m in the finest level, {root_error:.6g} m in the coarsest, over all points of the "
+                "error at most {error:.6g} m in the finest level, {root_error:.6g} m in the coarsest, over all points of the "
                 "file").format(**report)
     return "\n".join(_lines(report))
 
@@ -441,7 +441,7 @@ def _lines(report: dict[str, Any]) -> Iterator[str]:
     yield "{out}: {triangles} triangles, {vertices} vertices, {seconds} s".format(**report)
     taken = "all points" if report["every"] == 1 else f"the {columns} x {rows} points taken, one of {report['every']} each way"
     rounding = f"{report['rounding']:.2g} m for rounding to {report['unit']:g} m"
-    yield f"greatest error {report['error']:.6g} m at {taken}, of which {rounding}"
+    yield f"error at most {report['error']:.6g} m at {taken}, of which {rounding}"
     if "error_at_all_points" in report:
         yield f"greatest error {report['error_at_all_points']:.6g} m at all points of the file, measured"
     elif report["every"] > 1:

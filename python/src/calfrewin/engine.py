@@ -390,13 +390,13 @@ class Engine(Viewed, Edited):
     def certificate(self, x: float, y: float, z: float) -> str:
         """A proof, as text, that no mesh of the budget in force is better from a place in world units, without planes.
 
-        It is that of `roam certify make`, which `roam certify check` checks.
+        It is that of `roam certify make`; up to 2,049 points a side `roam certify check` checks it.
 
         >>> Engine([[0] * 3] * 3, 2).certificate(0, 0, 0).splitlines()[0]
         'camera 0 0 0'
         """
         place = [_coordinate(name, value) for name, value in zip("xyz", (x, y, z))]
-        text, length = ctypes.create_string_buffer(48 + 30 * self.state().budget), c_size_t()
+        text, length = ctypes.create_string_buffer(48 + 33 * self.state().budget), c_size_t()
         self._call("certificate", *place, text, len(text), byref(length))
         return text.raw[:length.value].decode("ascii")
 

@@ -1,4 +1,5 @@
-use Rattle.std.proofs.Common.{rules, sym, subst}
+use Rattle.std.proofs.Common.{◌≤◌, rules, sym, ap, subst, arith}
+use Rattle.mesh_defs.specs.HeightField.{HeightField}
 use Rattle.mesh_defs.specs.BoundingBox.{CameraAt}
 use Rattle.view_priority.specs.Camera.{IsCamera}
 use Rattle.roam_embed.specs.Certificates.{IsCertificateText}
@@ -25,6 +26,7 @@ returns-in-Ok c =
     let shown : IsCertificateText state place c.deref.result.now =
     subst (IsCertificateText state place) (sym c.deref.ensures.value) c.in-Ok.ensures in
     let no = c.if-put_text.false in
+    let small : state.grid.n ≤ 14 = omega (arith, ap (λ (g : HeightField). g.n) c.grid.ensures, c.n.ensures.value, c.n.ensures.high) in
     told-no_room state place c.args.out.now c.put_text.new.out c.deref.result.now c.args.count.now
-    c.put_text.new.count camera shown
+    c.put_text.new.count small camera shown
     (c.put_text.ensures.no_room no) (c.put_text.ensures.unwritten no) (c.put_text.ensures.uncounted no)

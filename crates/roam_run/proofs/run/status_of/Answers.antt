@@ -2,6 +2,12 @@ use Rattle.std.proofs.Common.{◌∙◌, option_map}
 use Rattle.run_engine.specs.EngineSeen.{engine_seen}
 use Rattle.roam_run.proofs.run.status_of.Goals as goal
 
+pub returns-clause-best : goal.returns-clause-best
+returns-clause-best g c = rw c.into_status.ensures c.roam.ensures.best
+
+pub returns-clause-certified : goal.returns-clause-certified
+returns-clause-certified g c = rw c.into_status.ensures c.roam.ensures.certified
+
 pub returns-clause-ends : goal.returns-clause-ends
 returns-clause-ends g c = (option_map engine_seen c.roam.result.engine, rw c.into_status.ensures c.roam.ensures.ends)
 

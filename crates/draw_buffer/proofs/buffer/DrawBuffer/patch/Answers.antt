@@ -3,7 +3,7 @@ use Rattle.std.proofs.lemmas.List.{length-map}
 use Rattle.draw_buffer.specs.Times.{times}
 use Rattle.draw_buffer.specs.Exchange.{ExchangeState}
 use Rattle.draw_buffer.specs.Buffer.{BufferState}
-use Rattle.draw_buffer.proofs.TimesLemmas.{length-le-times}
+use Rattle.draw_buffer.proofs.TimesLemmas.{length-le-times, times-none}
 use Rattle.draw_buffer.proofs.ToldLemmas.{told-trans}
 use Rattle.draw_buffer.proofs.buffer.DrawBuffer.patch.Goals as goal
 
@@ -60,3 +60,14 @@ returns-clause-kept c =
           ap (λ ps. get_or ps v 0) points ∙ c.admit_all.ensures.given.points_stay v (ap (λ gs. times gs v) (sym given)
           ∙ none) ∙ ap (λ ps. get_or ps v 0) before;
     })
+
+-- what is in use is not given out, and at first nothing was
+pub returns-clause-apart : goal.returns-clause-apart
+returns-clause-apart c = rw (← c.self.view_is) (λ v some.
+    let used = c.begin.ensures.used v in
+    let begun = ap (λ (e : ExchangeState). get_or e.uses v 0) c.begin.ensures.value in
+    let none = ap (λ (e : ExchangeState). times e.given v) c.begin.ensures.value in
+    let empty = times-none v in
+    let admitted = c.admit_all.ensures.given.used v (omega arith) in
+    let given = ap (λ gs. times gs v) (c.settle_all.ensures.given ∙ c.leave_all.ensures.given) in
+    omega (arith, admitted.1))

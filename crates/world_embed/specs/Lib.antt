@@ -1,0 +1,3 @@
+pub mod Worlds
+pub mod WorldDraws
+pub mod Edits
