@@ -192,13 +192,13 @@ def test_what_is_skipped_is_told_and_does_not_lack_without_the_gate(top: Path) -
     assert (status, lines[-2:]) == (0, ["1 skipped", "0 passed, 0 failed"])
 
 
-def test_names_are_made_anew_and_not_where_a_check_fails(top: Path) -> None:
+def test_names_are_made_anew_and_not_where_a_check_is_skipped(top: Path) -> None:
     change(top / "checks/tools.sh", "ok tools_works", "ok another")
     change(top / "checks/test_fake.py", "def test_one", "def test_two")
     assert drive(top, "--names", "program", "tools", "tables")[0] == 0
     assert drive(top, "--gate", "program")[0] == 0
     before = (top / "checks/names.txt").read_text(encoding="utf-8")
-    change(top / "checks/tools.sh", "ok another", "wrong a_third off")
+    change(top / "checks/tools.sh", "ok another", "has a_third no_such_tool")
     assert drive(top, "--names", "program", "tools")[0] == 1
     assert (top / "checks/names.txt").read_text(encoding="utf-8") == before
 
