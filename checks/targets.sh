@@ -33,10 +33,10 @@ target_answers() {
       "$system/lib/$library" >said 2>&1; then
       wrong "targets_${name}_$program" "not built: $(head -n 5 said | tr '\n' '/')"
     elif [ "$program" = same ]; then
-      said=$("$@" "$system/same.exe" 1 60 2>/dev/null | tr -d '\r' | diff expected - | head -n 3 | tr '\n' '/')
+      said=$(limited "$@" "$system/same.exe" 1 60 2>/dev/null | tr -d '\r' | diff expected - | head -n 3 | tr '\n' '/')
       decide "targets_${name}_answers_as_natively" ${said:+"$said"}
     else
-      said=$("$@" "$system/$program.exe" 1 "${of_calls[$program]}" 2>/dev/null | tr -d '\r' | tail -n 1)
+      said=$(limited "$@" "$system/$program.exe" 1 "${of_calls[$program]}" 2>/dev/null | tr -d '\r' | tail -n 1)
       if [[ $said == *'roam.h says'* ]]; then ok "targets_${name}_$program"; else wrong "targets_${name}_$program" "'$said'"; fi
     fi
   done
