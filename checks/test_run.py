@@ -2,6 +2,7 @@
 from __future__ import annotations
 
 import importlib.machinery
+import importlib.util
 import os
 import shutil
 import subprocess
@@ -15,7 +16,10 @@ from conftest import CHECKS
 from place import table
 
 OWN = ("run", "lines.sh", "lines.py", "tables.sh", "python.sh")  # of this folder, the rest are small
-ALL = importlib.machinery.SourceFileLoader("driver", str(CHECKS / "run")).load_module().PARTS
+LOADER = importlib.machinery.SourceFileLoader("driver", str(CHECKS / "run"))
+DRIVER = importlib.util.module_from_spec(importlib.util.spec_from_loader("driver", LOADER))  # type: ignore[arg-type]
+LOADER.exec_module(DRIVER)
+ALL = DRIVER.PARTS
 PARTS = [part for part in ALL if part not in ("tables", "python")]  # those of the shell
 AT_ALL = "tables_has_run_what_names_txt_has: test_fake.py::"
 FAKE = """import pytest
