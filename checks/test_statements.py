@@ -195,15 +195,18 @@ def astray(text: str, labels: dict[str, set[str]]) -> tuple[int, list[str]]:
     """How many clauses a page cites, and those that their function does not have; a law or a function may stand there too."""
     count, wrong, defined = 0, [], definitions()
     for label, here, first in cited(text):
-        if label in defined | {"requires", "ensures"}:
+        of = set().union(*(labels.get(name, set()) for name in here + first))
+        if label in defined | NO_CLAUSES and label not in of:
             continue
         count += 1
-        of = set().union(*(labels.get(name, set()) for name in here + first))
         is_function = label in labels and (label.endswith("_laws") or any(name.endswith(f".{label}") for name in here))
         if label not in of and not is_function:
             wrong.append(f"`{label}` is no clause of {', '.join(here + first)}")
     return count, wrong
 
+
+# What stands in brackets and is no clause: of the language, and words of a command line.
+NO_CLAUSES = {"requires", "ensures", "info", "try", "mesh", "strip", "least", "measure", "fit", "certify", "keep"}
 
 # What the pages name that is none of the crates: of the toolchain, of formats, of C and of a shell.
 BESIDE = {"arrayvec", "itoa", "thiserror", "ensures", "requires", "trusted", "Send", "malloc", "P2", "P5", "PATH", "div", "rt"}
