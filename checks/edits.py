@@ -2,24 +2,25 @@
 """Tries wrong bodies that the check must refuse, each by the proof of the function that it changes.
 
 usage: checks/edits.py [--new] [--jobs N] [CRATE[/EDIT]..]   these, or those of these crates, or all
-       checks/edits.py [--new] [--jobs N] --since REV        those of the crates that differ from a commit
-       checks/edits.py --check                               tries none: where the edits and state.txt differ
+       checks/edits.py [--new] [--jobs N] --since REV        of the crates that differ from a commit
+       checks/edits.py --check     tries none: where the edits and state.txt differ
 
 --new tries only those that were not tried on the sources as they stand.
 
-The edits stand in checks/edits/CRATE/, in the form of those in crates/CRATE/must-fail/, which `rt ci` tries: there the
-first of a crate costs the whole proof once more. Here one takes 20 to 60 s, of the crates at the top up to 150, and the
-libraries below the crate have to be built (`rt ci CRATE`). What each came to, on which sources and when, stands in
-checks/edits/state.txt; wrong_bodies.txt beside it names the edits, here and there, that no contract may let pass.
+The edits stand in checks/edits/CRATE/, in the form of those in crates/CRATE/must-fail/, which
+`rt ci` tries: there the first of a crate costs the whole proof once more. Here one takes 20 to 60 s
+of a processor, of the crates at the top up to 150, and the libraries below the crate have to be
+built (`rt ci CRATE`). What each came to, on which sources and when, stands in state.txt there;
+wrong_bodies.txt beside it names the edits, here and there, that no contract may let pass.
 
     refused   the proof of the function fails, for another reason than a name that is missing
-    proved    the crate is proved with it: a contract says too little, or the edit changes no meaning
+    proved    the crate is proved with it: a contract says too little, or the edit changes nothing
     bad       it does not apply, is no Rattle, or takes a name away that a proof cites
     limit     the check ran into a limit and gave no verdict
     untried   not yet
 
-The sources are told by git's checksum of the crate's src/, specs/ and proofs/ with the edit; those of the crates below
-are not in it. The status is 0 where each is refused.
+The sources are told by git's checksum of the crate's src/, specs/ and proofs/ with the edit; those
+of the crates below are not in it. The status is 0 where each is refused.
 """
 from __future__ import annotations
 
@@ -42,7 +43,9 @@ STATES, BODIES = EDITS / "state.txt", EDITS / "wrong_bodies.txt"
 SOURCES = ("src", "specs", "proofs")
 FUNCTION = re.compile(r'( *)(?:pub(?:\([a-z]+\))? )?(?:const |unsafe |extern "C" )*fn (\w+)')
 IMPLEMENTED = re.compile(r"impl(?:<.*?>)? (?:.* for )?&?(\w+)")
-MISSING_NAME = re.compile(r"(note: )?(\./)?proofs/.*(has no field|is not in scope|has no `|was not admitted)")
+MISSING_NAME = re.compile(
+    r"(note: )?(\./)?proofs/.*(has no field|is not in scope|has no `|was not admitted)"
+)
 
 
 class State(NamedTuple):
@@ -67,8 +70,8 @@ def load(name: str, path: Path) -> ModuleType:
 
 def git(*words: str, index: Optional[str] = None) -> str:
     where = dict(os.environ, **({"GIT_INDEX_FILE": index} if index else {}))
-    ran = subprocess.run(["git", *words], cwd=TOP, env=where, check=True, capture_output=True, text=True)
-    return ran.stdout
+    how: dict[str, Any] = {"check": True, "capture_output": True, "text": True}
+    return str(subprocess.run(["git", *words], cwd=TOP, env=where, **how).stdout)
 
 
 def sources_of(name: str) -> str:
@@ -96,7 +99,7 @@ def states() -> dict[str, State]:
 
 
 def write_states(found: dict[str, State]) -> None:
-    head = "# What the last try of each edit came to, on which sources and when; edits.py writes it.\n"
+    head = "# What the last try of each edit came to, on which sources and when, by edits.py.\n"
     rows = (f"{name} {' '.join(state)}\n" for name, state in sorted(found.items()))
     STATES.write_text(head + "".join(rows), encoding="utf-8")
 
@@ -110,22 +113,22 @@ def function_at(lines: list[str], at: int) -> Optional[str]:
         found = FUNCTION.match(lines[start])
         if found:
             end = next((i for i in range(start, len(lines)) if lines[i] == found[1] + "}"), start)
-            owners = (IMPLEMENTED.match(line) for line in reversed(lines[:start])) if found[1] else iter(())
-            owner = next((it[1] for it in owners if it), "")
+            above = reversed(lines[:start]) if found[1] else iter(())
+            owner = next((it[1] for it in map(IMPLEMENTED.match, above) if it), "")
             return None if end < at else f"{owner}::{found[2]}" if owner else found[2]
     return None
 
 
 def scopes(edit: Path, folder: Path) -> Iterator[list[str]]:
-    """Flags of the checks that may refuse an edit: of the functions that it changes, then of the whole crate."""
+    """Flags of the checks that may refuse an edit: of the functions that it changes, then of all."""
     path, only = "", []
     for line in edit.read_text(encoding="utf-8").splitlines():
         if line.startswith("file: "):
             path = line[len("file: "):].strip()
-        elif line.startswith("old: ") and path.startswith("src/") and (folder / path).is_file():
+        elif line.startswith("old: ") and path[:4] == "src/" and (folder / path).is_file():
             text = (folder / path).read_text(encoding="utf-8")
             at = text.partition(line[len("old: "):])[0].count("\n")
-            module = path[len("src/"):-len(".rt")].removesuffix("lib").removesuffix("main").replace("/", "::")
+            module = re.sub(r"(\b(lib|main))?\.rt$", "", path[len("src/"):]).replace("/", "::")
             only.append("::".join(filter(None, (module, function_at(text.split("\n"), at)))))
     if only and all(only):
         yield [word for it in dict.fromkeys(only) for word in ("--only", it)]
@@ -174,7 +177,7 @@ def try_all(names: list[str], jobs: int) -> int:
     """Tries these edits, and writes what each came to."""
     driver: Any = load("launcher", TOP / "tools/launcher.py").driver_once()
     if driver is None:
-        print("checks/edits.py: rt is not the script that tools/launcher.py knows", file=sys.stderr)
+        print("checks/edits.py: rt is not what tools/launcher.py knows", file=sys.stderr)
         return 2
     driver.rtlib.guarded()
     known: dict[str, Any] = {}
@@ -196,10 +199,11 @@ def try_all(names: list[str], jobs: int) -> int:
 
 
 def differences() -> int:
-    """Says where edits and lines differ, and what is not refused; how many were not tried on these sources."""
+    """Says where edits and lines differ, what is not refused, and how many wait for a try."""
     found, every = states(), edits()
     fine = ("refused", UNTRIED.state)
-    named = re.findall(r": ((?:crates|checks)/\S+\.edit)$", BODIES.read_text(encoding="utf-8"), re.M)
+    bodies = BODIES.read_text(encoding="utf-8")
+    named = re.findall(r": ((?:crates|checks)/\S+\.edit)$", bodies, re.M)
     wrong = [f"{it} has no line: checks/edits.py {it} writes it" for it in every if it not in found]
     wrong += [f"{it} is {state.state}" for it, state in found.items() if state.state not in fine]
     wrong += [f"{it} of state.txt is no edit" for it in found if it not in every]
@@ -209,13 +213,13 @@ def differences() -> int:
     old = [it for it in every if it in found and found[it].sources != sources_of(it)]
     untried = sum(found[it] == UNTRIED for it in old)
     if old:
-        said = f"{untried} of {len(every)} edits are untried, {len(old) - untried} were tried on other sources"
-        print(f"checks/edits: {said}", file=sys.stderr)
+        others = f"{len(old) - untried} were tried on other sources"
+        print(f"checks/edits: {untried} of {len(every)} are untried, {others}", file=sys.stderr)
     return 1 if wrong else 0
 
 
 def chosen(names: set[str], since: Optional[str]) -> list[str]:
-    """The edits of these names or crates, and of the crates that differ from a commit; all, if neither is given."""
+    """The edits of these names or crates, and of the crates that differ from a commit; else all."""
     every = edits()
     if since:
         differ = git("diff", "--name-only", since, "--", "crates", "checks/edits").splitlines()
