@@ -120,7 +120,7 @@ def function_at(lines: list[str], at: int) -> Optional[str]:
 
 
 def scopes(edit: Path, folder: Path) -> Iterator[list[str]]:
-    """Flags of the checks that may refuse an edit: of the functions that it changes, then of all."""
+    """Flags of the checks that may refuse an edit: of the functions that it changes, then none."""
     path, only = "", []
     for line in edit.read_text(encoding="utf-8").splitlines():
         if line.startswith("file: "):
