@@ -1,11 +1,12 @@
 #!/usr/bin/env python3
-"""Tells what a command costs in units: its processor seconds over those of `rt selftest` on this machine in this hour.
+"""Tells what a command costs in units: its processor seconds over those of `rt selftest`.
 
 usage: bench/unit.py [--] COMMAND [WORD ..]
 
-`rt selftest` runs before the command and behind it, and the unit is the mean of the two; where they differ by more than a
-quarter, what it tells is rough, and it says so. The seconds are those of the command and of all processes that it waited
-for, user and system. The last line of standard error has the units, and the status is the command's.
+`rt selftest` runs before the command and behind it, on this machine in this hour, and the unit is
+the mean of the two; where they differ by more than a quarter, what it tells is rough, and it says
+so. The seconds are those of the command and of all processes that it waited for, user and system.
+The last line of standard error has the units, and the status is the command's.
 """
 from __future__ import annotations
 
@@ -44,8 +45,9 @@ def main(words: list[str]) -> int:
     behind = unit()
     one = (before + behind) / 2
     rough = "; these two differ, so it is rough" if abs(before - behind) > one / 4 else ""
-    said = f"{took / one:.1f} units: {took:.1f} s of processor time, {clock:.0f} s by the clock, status {status}"
-    print(f"unit: {said}; rt selftest {before:.1f} s before and {behind:.1f} s behind it{rough}", file=sys.stderr)
+    cost = f"{took / one:.1f} units: {took:.1f} s of processor time, {clock:.0f} s by the clock"
+    units = f"rt selftest {before:.1f} s before and {behind:.1f} s behind it{rough}"
+    print(f"unit: {cost}, status {status}; {units}", file=sys.stderr)
     return status if status >= 0 else 128 - status
 
 

@@ -2,23 +2,25 @@
 """Tries wrong bodies that the check must refuse, each by the proof of the function that it changes.
 
 usage: checks/edits.py [--new] [--jobs N] [CRATE[/EDIT]..]   these, or those of these crates, or all
-       checks/edits.py [--new] [--jobs N] --since REV        those of the crates that differ from a commit
-       checks/edits.py --check                               tries none: where the edits and state.txt differ
+       checks/edits.py [--new] [--jobs N] --since REV        of the crates that differ from a commit
+       checks/edits.py --check     tries none: where the edits and state.txt differ
 
 --new tries only those that were not tried on the sources as they stand.
 
-The edits stand in checks/edits/CRATE/, in the form of those in crates/CRATE/must-fail/, which `rt ci` tries: there the
-first of a crate costs the whole proof once more. Here one takes 20 to 60 s, of the crates at the top up to 150, and the
-libraries below the crate have to be built (`rt ci CRATE`). What each came to, on which sources and when, stands in
-checks/edits/state.txt; wrong_bodies.txt beside it names the edits, here and there, that no contract may let pass.
+The edits stand in checks/edits/CRATE/, in the form of those in crates/CRATE/must-fail/, which
+`rt ci` tries: there the first of a crate costs the whole proof once more. Here one takes 20 to 60 s
+of a processor, of the crates at the top up to 150, and the libraries below the crate have to be
+built (`rt ci CRATE`). What each came to, on which sources and when, stands in state.txt there;
+wrong_bodies.txt beside it names the edits, here and there, that no contract may let pass.
 
     refused   the proof of the function fails, for another reason than a name that is missing
-    proved    the crate is proved with it: a contract says too little, or the edit changes no meaning
+    proved    the crate is proved with it: a contract says too little, or the edit changes nothing
     bad       it does not apply, is no Rattle, or takes a name away that a proof cites
     limit     the check ran into a limit and gave no verdict
+    untried   not yet
 
-The sources are told by git's checksum of the crate's src/, specs/ and proofs/ with the edit; those of the crates below
-are not in it. The status is 0 where each is refused.
+The sources are told by git's checksum of the crate's src/, specs/ and proofs/ with the edit; those
+of the crates below are not in it. The status is 0 where each is refused.
 """
 from __future__ import annotations
 
@@ -41,7 +43,9 @@ STATES, BODIES = EDITS / "state.txt", EDITS / "wrong_bodies.txt"
 SOURCES = ("src", "specs", "proofs")
 FUNCTION = re.compile(r'( *)(?:pub(?:\([a-z]+\))? )?(?:const |unsafe |extern "C" )*fn (\w+)')
 IMPLEMENTED = re.compile(r"impl(?:<.*?>)? (?:.* for )?&?(\w+)")
-MISSING_NAME = re.compile(r"(note: )?(\./)?proofs/.*(has no field|is not in scope|has no `|was not admitted)")
+MISSING_NAME = re.compile(
+    r"(note: )?(\./)?proofs/.*(has no field|is not in scope|has no `|was not admitted)"
+)
 
 
 class State(NamedTuple):
@@ -50,6 +54,9 @@ class State(NamedTuple):
     state: str
     sources: str
     date: str
+
+
+UNTRIED = State("untried", "-", "-")
 
 
 def load(name: str, path: Path) -> ModuleType:
@@ -63,14 +70,15 @@ def load(name: str, path: Path) -> ModuleType:
 
 def git(*words: str, index: Optional[str] = None) -> str:
     where = dict(os.environ, **({"GIT_INDEX_FILE": index} if index else {}))
-    return subprocess.run(["git", *words], cwd=TOP, env=where, check=True, capture_output=True, text=True).stdout
+    how: dict[str, Any] = {"check": True, "capture_output": True, "text": True}
+    return str(subprocess.run(["git", *words], cwd=TOP, env=where, **how).stdout)
 
 
 def sources_of(name: str) -> str:
     """Git's checksum of an edit and of its crate's sources, as they stand."""
     crate = crate_of(name)
     with tempfile.TemporaryDirectory() as room:
-        parts = [f"crates/{crate}/{part}" for part in SOURCES if (TOP / "crates" / crate / part).is_dir()]
+        parts = [f"crates/{crate}/{it}" for it in SOURCES if (TOP / "crates" / crate / it).is_dir()]
         git("add", "--force", "--", *parts, f"checks/edits/{name}.edit", index=f"{room}/index")
         return git("write-tree", index=f"{room}/index")[:12]
 
@@ -86,11 +94,12 @@ def crate_of(name: str) -> str:
 def states() -> dict[str, State]:
     """What the last try of each edit came to."""
     lines = STATES.read_text(encoding="utf-8").splitlines() if STATES.exists() else []
-    return {name: State(*rest) for name, *rest in (line.split() for line in lines if line and line[0] != "#")}
+    rows = (line.split() for line in lines if line and line[0] != "#")
+    return {name: State(*rest) for name, *rest in rows}
 
 
 def write_states(found: dict[str, State]) -> None:
-    head = "# What the last try of each edit came to, on which sources and when; checks/edits.py writes it and says more.\n"
+    head = "# What the last try of each edit came to, on which sources and when, by edits.py.\n"
     rows = (f"{name} {' '.join(state)}\n" for name, state in sorted(found.items()))
     STATES.write_text(head + "".join(rows), encoding="utf-8")
 
@@ -104,22 +113,22 @@ def function_at(lines: list[str], at: int) -> Optional[str]:
         found = FUNCTION.match(lines[start])
         if found:
             end = next((i for i in range(start, len(lines)) if lines[i] == found[1] + "}"), start)
-            owners = (IMPLEMENTED.match(line) for line in reversed(lines[:start])) if found[1] else iter(())
-            owner = next((it[1] for it in owners if it), "")
+            above = reversed(lines[:start]) if found[1] else iter(())
+            owner = next((it[1] for it in map(IMPLEMENTED.match, above) if it), "")
             return None if end < at else f"{owner}::{found[2]}" if owner else found[2]
     return None
 
 
 def scopes(edit: Path, folder: Path) -> Iterator[list[str]]:
-    """Flags of the checks that may refuse an edit: of the functions that it changes, then of the whole crate."""
+    """Flags of the checks that may refuse an edit: of the functions that it changes, then none."""
     path, only = "", []
     for line in edit.read_text(encoding="utf-8").splitlines():
         if line.startswith("file: "):
             path = line[len("file: "):].strip()
-        elif line.startswith("old: ") and path.startswith("src/") and (folder / path).is_file():
+        elif line.startswith("old: ") and path[:4] == "src/" and (folder / path).is_file():
             text = (folder / path).read_text(encoding="utf-8")
             at = text.partition(line[len("old: "):])[0].count("\n")
-            module = path[len("src/"):-len(".rt")].removesuffix("lib").removesuffix("main").replace("/", "::")
+            module = re.sub(r"(\b(lib|main))?\.rt$", "", path[len("src/"):]).replace("/", "::")
             only.append("::".join(filter(None, (module, function_at(text.split("\n"), at)))))
     if only and all(only):
         yield [word for it in dict.fromkeys(only) for word in ("--only", it)]
@@ -138,11 +147,12 @@ def judged(driver: Any, ran: Any, texts: dict[str, str]) -> str:
         return "limit"
     if ran.returncode != 1 or driver.rtlib.STALE.search(ran.stdout):
         return ""
-    told = [it for it in lines if re.match(r"(note: )?\S+:\d+:\d+:", it) and (": error" in it or it.startswith("note: "))]
-    reached = lines[-1].startswith(("only=", "logic=not-proved"))
-    if not reached or any(driver.unread(it, texts) for it in lines) or told and all(map(MISSING_NAME.match, told)):
-        return "bad"
-    return "refused"
+    placed = [it for it in lines if re.match(r"(note: )?\S+:\d+:\d+:", it)]
+    told = [it for it in placed if ": error" in it or it.startswith("note: ")]
+    is_read = not any(driver.unread(it, texts) for it in lines)
+    only_names = bool(told) and all(map(MISSING_NAME.match, told))
+    is_judged = lines[-1].startswith(("only=", "logic=not-proved"))
+    return "refused" if is_judged and is_read and not only_names else "bad"
 
 
 def tried(driver: Any, crate: Any, edit: Path) -> str:
@@ -157,8 +167,9 @@ def tried(driver: Any, crate: Any, edit: Path) -> str:
         state, said = judged(driver, ran, texts), ran.stdout
         if state in ("refused", "bad"):
             break
-    errors = [line for line in said.splitlines() if ": error" in line or line.startswith("rattle:")]
-    print(f"{crate.name}/{edit.stem}: {state or 'NOT TRIED'}{': ' + errors[0][:160] if errors else ''}", flush=True)
+    errors = [it for it in said.splitlines() if ": error" in it or it.startswith("rattle:")]
+    why = f": {errors[0][:160]}" if errors else ""
+    print(f"{crate.name}/{edit.stem}: {state or 'NOT TRIED'}{why}", flush=True)
     return state
 
 
@@ -166,7 +177,7 @@ def try_all(names: list[str], jobs: int) -> int:
     """Tries these edits, and writes what each came to."""
     driver: Any = load("launcher", TOP / "tools/launcher.py").driver_once()
     if driver is None:
-        print("checks/edits.py: rt is not the script that tools/launcher.py knows", file=sys.stderr)
+        print("checks/edits.py: rt is not what tools/launcher.py knows", file=sys.stderr)
         return 2
     driver.rtlib.guarded()
     known: dict[str, Any] = {}
@@ -180,31 +191,49 @@ def try_all(names: list[str], jobs: int) -> int:
         for name, state in zip(names, pool.map(one, names)):
             failed += state != "refused"
             if state:
-                found = {**states(), name: State(state, sources_of(name), datetime.date.today().isoformat())}
-                write_states({it: found[it] for it in found if it in every})
+                today = datetime.date.today().isoformat()
+                found = {**states(), name: State(state, sources_of(name), today)}
+                write_states({it: found.get(it, UNTRIED) for it in every})
     print(f"{len(names) - failed} refused, {failed} not")
     return 1 if failed else 0
 
 
 def differences() -> int:
-    """Says which edits have no state, which states no edit, and which are not refused; how many were tried on other sources."""
+    """Says where edits and lines differ, what is not refused, and how many wait for a try."""
     found, every = states(), edits()
-    wrong = [f"{it} has no line in state.txt: checks/edits.py {it} tries it" for it in every if it not in found]
+    fine = ("refused", UNTRIED.state)
+    bodies = BODIES.read_text(encoding="utf-8")
+    named = re.findall(r": ((?:crates|checks)/\S+\.edit)$", bodies, re.M)
+    wrong = [f"{it} has no line: checks/edits.py {it} writes it" for it in every if it not in found]
+    wrong += [f"{it} is {state.state}" for it, state in found.items() if state.state not in fine]
     wrong += [f"{it} of state.txt is no edit" for it in found if it not in every]
-    wrong += [f"{it} is {found[it].state}, and not refused" for it in every if it in found and found[it].state != "refused"]
-    named = re.findall(r": ((?:crates|checks)/\S+\.edit)$", BODIES.read_text(encoding="utf-8"), re.M)
     wrong += [f"{it} of wrong_bodies.txt is no edit" for it in named if not (TOP / it).is_file()]
     wrong += [] if named else ["wrong_bodies.txt names no edit"]
-    old = [it for it in every if it in found and found[it].sources != sources_of(it)]
     print(*wrong, sep="\n", end="\n" if wrong else "")
+    old = [it for it in every if it in found and found[it].sources != sources_of(it)]
+    untried = sum(found[it] == UNTRIED for it in old)
     if old:
-        print(f"{len(old)} of {len(every)} edits were tried on other sources than these, as {old[0]}", file=sys.stderr)
+        others = f"{len(old) - untried} were tried on other sources"
+        print(f"checks/edits: {untried} of {len(every)} are untried, {others}", file=sys.stderr)
     return 1 if wrong else 0
 
 
+def chosen(names: set[str], since: Optional[str]) -> list[str]:
+    """The edits of these names or crates, and of the crates that differ from a commit; else all."""
+    every = edits()
+    if since:
+        differ = git("diff", "--name-only", since, "--", "crates", "checks/edits").splitlines()
+        parts = [it.split("/") for it in differ]
+        names = names | {it[2] for it in parts if it[0] == "checks"}
+        names |= {it[1] for it in parts if it[0] == "crates" and it[2] in SOURCES}
+    return [it for it in every if {it, crate_of(it)} & names or not names and not since]
+
+
 def main() -> int:
-    parser = argparse.ArgumentParser(description=__doc__, formatter_class=argparse.RawDescriptionHelpFormatter)
-    parser.add_argument("chosen", nargs="*", metavar="CRATE[/EDIT]")
+    parser = argparse.ArgumentParser(
+        description=__doc__, formatter_class=argparse.RawDescriptionHelpFormatter
+    )
+    parser.add_argument("names", nargs="*", metavar="CRATE[/EDIT]")
     parser.add_argument("--since", metavar="REV")
     parser.add_argument("--jobs", type=int, default=1)
     parser.add_argument("--check", action="store_true")
@@ -212,16 +241,13 @@ def main() -> int:
     words = parser.parse_args()
     if words.check:
         return differences()
-    every, asked = edits(), set(words.chosen)
-    for it in sorted(asked - {*every, *map(crate_of, every)}):
+    every, found = edits(), states()
+    for it in sorted({*words.names} - {*every, *map(crate_of, every)}):
         parser.error(f"{it} is nothing in checks/edits")
-    if words.since:
-        changed = [it.split("/") for it in git("diff", "--name-only", words.since, "--", "crates", "checks/edits").splitlines()]
-        asked |= {it[2] if it[0] == "checks" else it[1] for it in changed if it[0] == "checks" or it[2] in SOURCES}
-    chosen = [it for it in every if not (words.chosen or words.since) or {it, crate_of(it)} & asked]
-    found = states()
-    old = {it for it in chosen if words.new and it in found and found[it].sources == sources_of(it)}
-    return try_all([it for it in chosen if it not in old], words.jobs)
+    names = chosen({*words.names}, words.since)
+    if words.new:
+        names = [it for it in names if it not in found or found[it].sources != sources_of(it)]
+    return try_all(names, words.jobs)
 
 
 if __name__ == "__main__":

@@ -11,6 +11,6 @@ clean() {
 cd -- "$top" || exit 1
 clean the_package_has_sound_types python mypy --cache-dir="$room/mypy"
 clean the_package_and_its_tests_are_laid_out python flake8 src tests
-clean the_tools_have_sound_types . mypy --strict --cache-dir="$room/mypy" tools/*.py lib/*.py checks/run
-clean the_tools_and_the_tables_are_laid_out . flake8 --max-line-length 130 tools lib lib/build checks/setup checks/run checks/conftest.py checks/test_*.py \
-  checks/place.py checks/same.py checks/alike.py checks/random_runs.py checks/lines.py checks/fitters.py checks/cracks.py checks/mosaics.py checks/worlds.py
+clean the_tools_have_sound_types . mypy --strict --cache-dir="$room/mypy" tools/*.py lib/*.py checks/run checks/edits.py bench/unit.py
+clean the_tools_and_the_tables_are_laid_out . flake8 --max-line-length 130 tools lib lib/build bench/unit.py checks/setup checks/run checks/conftest.py checks/test_*.py \
+  checks/edits.py checks/place.py checks/same.py checks/alike.py checks/random_runs.py checks/lines.py checks/fitters.py checks/cracks.py checks/mosaics.py checks/worlds.py
