@@ -16,6 +16,7 @@ from typing import Any, Optional
 
 import launcher
 import pytest
+import seconds
 
 from conftest import TOP
 
@@ -555,6 +556,21 @@ def test_launcher_counts_a_part_that_further_processors_do_not_shorten(wide: Rep
     assert (plan.jobs("left", 8, 0), plan.jobs("left", 3, 1), plan.jobs("left", 2, 5), plan.jobs("right", 8, 0)) == (4, 2, 1, 1)
 
 
+# --- bench/seconds.txt by a first run. ---
+
+def test_seconds_are_made_of_what_a_first_run_has_said() -> None:
+    lines = ["# head", "rt_ci 1000", "low 10", "wide 100 4 50", "high 30"]
+    said = ("roam: low is proved, in 20 s; 3 left\nroam: wide is proved, in 90 s by 4 jobs; 2 left\n"
+            "roam: fresh is proved, in 1 s; 1 left\nroam: other is proved, in 7 s; 0 left\n")
+    assert seconds.anew(lines, said) == ["# head", "rt_ci 2000", "low 20", "wide 200 4 100", "high 60", "other 7"]
+
+
+def test_seconds_are_made_of_what_the_gate_has_said() -> None:
+    said = ("gate: checks/setup has ended with status 0, 0 min 9 s after the beginning; 1 processor minutes so far\n"
+            "gate: rt ci has ended with status 0, 90 min 1 s after the beginning; 201 processor minutes so far\n")
+    assert seconds.anew(["rt_ci 1000", "low 10"], said) == ["rt_ci 12000", "low 10"]
+
+
 # --- A first look, without proof. ---
 
 # A toolchain that compiles by what is in the place of its own folder, and keeps no program.
@@ -753,7 +769,8 @@ def test_code(chain: Repository, words: list[str], kept: list[str]) -> None:
     head = head.replace("import os,", "import os, subprocess,")
     (chain.bin / "rt").write_text(head + KEPT + tail[tail.index("if __name__"):])
     ended = subprocess.run([sys.executable, str(chain.top / "tools/launcher.py"), "rt", *words], cwd=chain.caller,
-                           env={**chain.environment(None, None), "TOOLS": str(tools)}, capture_output=True, text=True, check=False)
+                           env={**chain.environment(None, None), "TOOLS": str(tools)}, capture_output=True, text=True,
+                           check=False)
     assert (ended.returncode, ended.stdout) == (0, "compiled -c module.bc\na file\n"), ended.stderr
     assert [(it.name, it.read_text()) for it in (chain.caller / "out").iterdir()] == [(it, "code") for it in kept]
 
