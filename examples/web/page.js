@@ -104,7 +104,7 @@ function beginFlight() {
   flight = {
     engine: new Engine(numbers, Math.min(BUDGET, 2 * (side - 1) ** 2), { spacing }),
     side, spacing, numbers, wide: (width - 1) * spacing, deep: (height - 1) * spacing, bottom: (side - height) * spacing,
-    frame: 0, places: [], indices: new Uint32Array(3 * BUDGET),
+    frame: 0, places: [], sum: 2166136261, indices: new Uint32Array(3 * BUDGET),
   };
   drawing.setPositions(positions, spanOf(positions));
 }
@@ -152,15 +152,13 @@ function fly() {
   });
 }
 
-/** For whoever tries this page: so many frames of a flight at once, with the camera's places and a sum of all indices. */
+/** For whoever tries this page: flies so many frames on at once; the camera's places so far and a sum of all indices. */
 globalThis.flown = (frames) => {
-  beginFlight();
-  let sum = 2166136261;
+  if (!flight) beginFlight();
   for (let k = 0; k < frames; k++) {
-    for (const it of flightFrame()) sum = Math.imul(sum ^ it, 16777619) >>> 0;
+    for (const it of flightFrame()) flight.sum = Math.imul(flight.sum ^ it, 16777619) >>> 0;
   }
-  const { places, spacing } = flight;
-  endFlight();
+  const { sum, places, spacing } = flight;
   return { sum, spacing, budget: BUDGET, places };
 };
 
