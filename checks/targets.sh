@@ -1,7 +1,7 @@
 # shellcheck shell=bash disable=SC2154
 # The library for other systems, of what the proof of roam_c has left: for Linux on ARM by qemu, for Windows by Wine, both with the
 # calls of checks/library against the words of roam.h and the checksums of the native library; for macOS what is linked.
-# ROAM_ARCHIVE names another archive, with roam_c.bc beside it. Sourced by checks/run.
+# ROAM_ARCHIVE names another archive, with roam_c.bc beside it. Sourced by lines.sh.
 
 archive=${ROAM_ARCHIVE:-$top/crates/roam_c/out/libroam_c.a}
 mkdir -p -- "$room/targets" && cd -- "$room/targets" || exit 1
@@ -16,7 +16,7 @@ declare -A of_calls=([calls]=3000 [tiles]=300 [worlds]=60)
 # target_is_made SYSTEM FILES..: the library of a system, and these files of it.
 target_is_made() {
   local name=${1//-/_} file why=()
-  if ! "$top/lib/build" --target "$1" "$PWD/$1" "$archive" >said 2>&1; then
+  if ! limited "$top/lib/build" --target "$1" "$PWD/$1" "$archive" >said 2>&1; then
     wrong "targets_${name}_is_made" "$(tail -n 5 said | tr '\n' '/')"
     return 1
   fi
@@ -33,10 +33,10 @@ target_answers() {
       "$system/lib/$library" >said 2>&1; then
       wrong "targets_${name}_$program" "not built: $(head -n 5 said | tr '\n' '/')"
     elif [ "$program" = same ]; then
-      said=$("$@" "$system/same.exe" 1 60 2>/dev/null | tr -d '\r' | diff expected - | head -n 3 | tr '\n' '/')
+      said=$(limited "$@" "$system/same.exe" 1 60 2>/dev/null | tr -d '\r' | diff expected - | head -n 3 | tr '\n' '/')
       decide "targets_${name}_answers_as_natively" ${said:+"$said"}
     else
-      said=$("$@" "$system/$program.exe" 1 "${of_calls[$program]}" 2>/dev/null | tr -d '\r' | tail -n 1)
+      said=$(limited "$@" "$system/$program.exe" 1 "${of_calls[$program]}" 2>/dev/null | tr -d '\r' | tail -n 1)
       if [[ $said == *'roam.h says'* ]]; then ok "targets_${name}_$program"; else wrong "targets_${name}_$program" "'$said'"; fi
     fi
   done
