@@ -753,7 +753,8 @@ def test_code(chain: Repository, words: list[str], kept: list[str]) -> None:
     head = head.replace("import os,", "import os, subprocess,")
     (chain.bin / "rt").write_text(head + KEPT + tail[tail.index("if __name__"):])
     ended = subprocess.run([sys.executable, str(chain.top / "tools/launcher.py"), "rt", *words], cwd=chain.caller,
-                           env={**chain.environment(None, None), "TOOLS": str(tools)}, capture_output=True, text=True, check=False)
+                           env={**chain.environment(None, None), "TOOLS": str(tools)},
+                           capture_output=True, text=True, check=False)
     assert (ended.returncode, ended.stdout) == (0, "compiled -c module.bc\na file\n"), ended.stderr
     assert [(it.name, it.read_text()) for it in (chain.caller / "out").iterdir()] == [(it, "code") for it in kept]
 

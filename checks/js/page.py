@@ -21,7 +21,7 @@ TOP = pathlib.Path(__file__).resolve().parents[2]
 sys.path[:0] = [str(TOP / "checks"), str(TOP / "python/src")]
 import viewer  # noqa: E402
 
-FRAMES, AT_ONCE = 300, 20
+FRAMES, AT_ONCE = 300, 50
 BACKGROUND = (221, 230, 238)
 
 
@@ -99,7 +99,7 @@ def check_others(browser: viewer.Browser, address: str) -> None:
     """The page of docs/JAVASCRIPT.md, and those of examples/javascript."""
     for name, path, seen, text in (
             ("page_of_the_docs", "first.html", "document.title", "4 triangles"),
-            ("page_fits_in_a_worker", "examples/javascript/worker.html", "document.getElementById('told').textContent", "off by at most"),
+            ("page_fits_in_a_worker", "examples/javascript/worker.html", "document.getElementById('told').textContent", "off by"),
             ("page_flies_in_three_js", "examples/javascript/three.html", "document.title", " triangles")):
         browser.call("Page.navigate", url=address + path)
         browser.wait(f"String({seen}).includes({json.dumps(text)})", 60)
