@@ -1,7 +1,7 @@
 # shellcheck shell=bash disable=SC2154
 # The library for other systems, of what the proof of roam_c has left: for Linux on ARM by qemu, for Windows by Wine, both with the
 # calls of checks/library against the words of roam.h and the checksums of the native library; for macOS what is linked.
-# ROAM_ARCHIVE names another archive, with roam_c.bc beside it. Sourced by checks/run.
+# ROAM_ARCHIVE names another archive, with roam_c.bc beside it. Sourced by lines.sh.
 
 archive=${ROAM_ARCHIVE:-$top/crates/roam_c/out/libroam_c.a}
 mkdir -p -- "$room/targets" && cd -- "$room/targets" || exit 1
@@ -16,7 +16,7 @@ declare -A of_calls=([calls]=3000 [tiles]=300 [worlds]=60)
 # target_is_made SYSTEM FILES..: the library of a system, and these files of it.
 target_is_made() {
   local name=${1//-/_} file why=()
-  if ! "$top/lib/build" --target "$1" "$PWD/$1" "$archive" >said 2>&1; then
+  if ! limited "$top/lib/build" --target "$1" "$PWD/$1" "$archive" >said 2>&1; then
     wrong "targets_${name}_is_made" "$(tail -n 5 said | tr '\n' '/')"
     return 1
   fi

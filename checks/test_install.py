@@ -63,6 +63,9 @@ def test_a_prefix_is_installed_anew_while_it_is_used(prefix: Path, archive: Path
     ("a_library_wants_few_words", ["a", "b", "c"], 2, "usage: lib/build"),
     ("a_library_wants_its_archive", ["out", "none.a"], 125, "lib/build: there is no none.a"),
     ("a_library_wants_a_compiler", ["out", "ARCHIVE"], 1, "lib/build: "),
+    ("a_library_wants_a_system_that_it_knows", ["--target", "amiga", "out"], 2, "usage: lib/build"),
+    ("a_system_has_no_package_of_debian", ["--deb", "--target", "aarch64-linux", "out"], 2, "usage: lib/build"),
+    ("a_module_wants_the_code_beside_its_archive", ["--wasm", "out", "none.a"], 1, "lib/build: there is no roam_c.bc, which"),
 )
 def test_build_refuses(archive: Path, tmp_path: Path, words: list[str], status: int, said: str) -> None:
     ended = subprocess.run([sys.executable, str(TOP / "lib/build"), *(it.replace("ARCHIVE", str(archive)) for it in words)],

@@ -119,9 +119,11 @@ def make_module(code: Path, room: Path) -> Path:
     are BigInt in JavaScript."""
     optimizer, triple, words = tool("wasm-opt"), "wasm64-unknown-unknown", [f"-m{it}" for it in WASM]
     text = text_of(code, room)
-    objects = [compiled(text, triple, room / "roam.o", *words), room / "heap.o"]
-    run(clang(), f"--target={triple}", *PLAIN, "-O3", *words, "-std=c99", "-ffreestanding", "-Wall", "-Wextra", "-c",
-        LIB / "wasm/heap.c", "-o", objects[1])
+    objects = [compiled(text, triple, room / "roam.o", *words)]
+    for name in ("heap", "wide"):
+        objects.append(room / f"{name}.o")
+        run(clang(), f"--target={triple}", *PLAIN, "-O3", *words, "-std=c99", "-ffreestanding", "-Wall", "-Wextra",
+            "-Wno-incompatible-library-redeclaration", "-c", LIB / f"wasm/{name}.c", "-o", objects[-1])
     linked, module = room / "linked.wasm", room / "calfrewin.wasm"
     run(beside("wasm-ld", room), "-mwasm64", "--no-entry", "--stack-first", "-z", f"stack-size={STACK}", "--gc-sections",
         "--strip-all", *(f"--export={it}" for it in CALL.findall(text)), *objects, "-o", linked)

@@ -21,11 +21,18 @@ TOP = pathlib.Path(__file__).resolve().parents[2]
 sys.path[:0] = [str(TOP / "checks"), str(TOP / "python/src")]
 import viewer  # noqa: E402
 
-FRAMES = 300
+FRAMES, AT_ONCE = 300, 50
 BACKGROUND = (221, 230, 238)
 
 
 class Files(http.server.SimpleHTTPRequestHandler):
+    def do_GET(self) -> None:
+        if self.path == "/favicon.ico":  # which browsers ask for
+            self.send_response(204)
+            self.end_headers()
+        else:
+            super().do_GET()
+
     def log_message(self, *_words: object) -> None:
         pass
 
@@ -88,6 +95,18 @@ def same_flight(told: dict[str, object], heights: list[int], side: int) -> list[
     return [] if total == told["sum"] else [f"{total} natively, {told['sum']} in the page"]
 
 
+def check_others(browser: viewer.Browser, address: str) -> None:
+    """The page of docs/JAVASCRIPT.md, and those of examples/javascript."""
+    for name, path, seen, text in (
+            ("page_of_the_docs", "first.html", "document.title", "4 triangles"),
+            ("page_fits_in_a_worker", "examples/javascript/worker.html", "document.getElementById('told').textContent", "off by"),
+            ("page_flies_in_three_js", "examples/javascript/three.html", "document.title", " triangles")):
+        browser.call("Page.navigate", url=address + path)
+        browser.wait(f"String({seen}).includes({json.dumps(text)})", 60)
+        found = str(browser.value(seen))
+        viewer.decide(name, [] if text in found else [found])
+
+
 def check(top: pathlib.Path, chromium: str, pictures: pathlib.Path, same: list[str]) -> None:
     server = served(top)
     pgm = (top / "examples/jacksboro/grid.pgm").read_bytes()
@@ -96,7 +115,8 @@ def check(top: pathlib.Path, chromium: str, pictures: pathlib.Path, same: list[s
     with tempfile.TemporaryDirectory() as profile:
         browser = viewer.Browser(chromium, profile)
         try:
-            browser.call("Page.navigate", url=f"http://127.0.0.1:{server.server_address[1]}/examples/web/")
+            address = f"http://127.0.0.1:{server.server_address[1]}/"
+            browser.call("Page.navigate", url=address + "examples/web/")
             told = told_of(browser, "triangles, off")
             viewer.decide("page_fits_the_example", [] if "21,988 triangles, off by at most 20.00" in told else [told])
             part = drawn(browser, pictures / "example.png")
@@ -118,14 +138,16 @@ def check(top: pathlib.Path, chromium: str, pictures: pathlib.Path, same: list[s
             path = top / "examples/jacksboro/grid.pgm"
             drop(browser, path)
             told_of(browser, "grid.pgm: 257")
-            flight = browser.call("Runtime.evaluate", expression=f"flown({FRAMES})", returnByValue=True, timeout=110000)["result"]
-            told_flight = flight.get("value") or {"sum": flight, "budget": 2, "spacing": 1, "places": []}
-            viewer.decide("page_flies_as_the_native_engine", same_flight(told_flight, heights, side))
+            flight = None
+            for _ in range(FRAMES // AT_ONCE):  # an answer of the browser is awaited for two minutes
+                flight = browser.value(f"flown({AT_ONCE})")
+            viewer.decide("page_flies_as_the_native_engine", same_flight(flight, heights, side) if flight else ["no flight"])
             part = drawn(browser, pictures / "flight.png")
             viewer.decide("page_draws_the_flight", [] if part > 0.2 else [f"{part:.2f} of the picture is drawn"])
             lines = browser.call("Runtime.evaluate", awaitPromise=True, returnByValue=True, expression=(
                 f"import('/checks/js/same.js').then((it) => it.linesOf(1, {len(same)}))"))["result"].get("value")
             viewer.decide("page_answers_as_natively", [] if lines == same else [f"{lines}"[:200]])
+            check_others(browser, address)
             viewer.decide("page_reports_no_fault", browser.wrong)
         finally:
             browser.close()

@@ -104,7 +104,7 @@ function beginFlight() {
   flight = {
     engine: new Engine(numbers, Math.min(BUDGET, 2 * (side - 1) ** 2), { spacing }),
     side, spacing, numbers, wide: (width - 1) * spacing, deep: (height - 1) * spacing, bottom: (side - height) * spacing,
-    frame: 0, places: [], indices: new Uint32Array(3 * BUDGET),
+    frame: 0, places: [], sum: 2166136261, indices: new Uint32Array(3 * BUDGET),
   };
   drawing.setPositions(positions, spanOf(positions));
 }
@@ -124,7 +124,8 @@ function placeOf({ frame, wide, deep, bottom, side, spacing, numbers }) {
   return { place, direction: [-Math.sin(turned) - 0.5 * Math.cos(turned), Math.cos(turned) - 0.5 * Math.sin(turned), -0.35] };
 }
 
-function flightFrame() {
+/** The next frame's mesh: its indices, how many triangles they are, and how long that took. */
+function step() {
   const { place, direction } = placeOf(flight);
   const aspect = innerWidth / innerHeight;
   const across = (Math.atan(Math.tan((DEGREES * Math.PI) / 360) * aspect) * 360) / Math.PI;
@@ -132,35 +133,42 @@ function flightFrame() {
   const from = performance.now();
   const { triangles } = flight.engine.camera(...place).look(planes).frame();
   const indices = flight.engine.indices(flight.indices);
-  const time = performance.now() - from;
+  Object.assign(flight, { direction, frame: flight.frame + 1 });
   flight.places.push({ place, planes });
+  return { indices, triangles, time: performance.now() - from };
+}
+
+function drawFrame({ indices, triangles, time }) {
+  const { place } = flight.places.at(-1);
+  const { direction, frame, wide, deep } = flight;
   drawing.setIndices(indices, of("wire").checked);
-  const far = Math.max(flight.wide, flight.deep) * 2;
-  drawing.draw(viewMatrix(place, place.map((it, k) => it + direction[k] * 1000), DEGREES, aspect, far / 5000, far, 1), 1, of("wire").checked);
-  flight.frame++;
-  if (flight.frame % 10 === 1) {
-    told(`Frame ${flight.frame}\n${triangles.toLocaleString("en")} triangles of at most ${BUDGET.toLocaleString("en")}\n${time.toFixed(1)} ms`);
+  const far = Math.max(wide, deep) * 2;
+  const ahead = place.map((it, k) => it + direction[k] * 1000);
+  drawing.draw(viewMatrix(place, ahead, DEGREES, innerWidth / innerHeight, far / 5000, far, 1), 1, of("wire").checked);
+  if (frame % 10 === 1) {
+    told(`Frame ${frame}\n${triangles.toLocaleString("en")} triangles of at most ${BUDGET.toLocaleString("en")}\n${time.toFixed(1)} ms`);
   }
-  return indices;
 }
 
 function fly() {
   if (!flight) return;
   attempt(() => {
-    flightFrame();
+    drawFrame(step());
+    flight.places.length = 0; // which nobody asks for here
     requestAnimationFrame(fly);
   });
 }
 
-/** For whoever tries this page: so many frames of a flight at once, with the camera's places and a sum of all indices. */
+/** For whoever tries this page: flies on, and draws the last frame; the camera's places so far and a sum of all indices. */
 globalThis.flown = (frames) => {
-  beginFlight();
-  let sum = 2166136261;
+  if (!flight) beginFlight();
+  let last;
   for (let k = 0; k < frames; k++) {
-    for (const it of flightFrame()) sum = Math.imul(sum ^ it, 16777619) >>> 0;
+    last = step();
+    for (const it of last.indices) flight.sum = Math.imul(flight.sum ^ it, 16777619) >>> 0;
   }
-  const { places, spacing } = flight;
-  endFlight();
+  drawFrame(last);
+  const { sum, places, spacing } = flight;
   return { sum, spacing, budget: BUDGET, places };
 };
 
