@@ -265,6 +265,12 @@ public:
                     "fit_with");
     }
 
+    /// A mesh of triangles of any shape within an error (roam_tin): `places` as many as for `fit_with` always suffice.
+    static result tin(const uint16_t *heights, size_t count, uint32_t thousandths, uint32_t effort, uint32_t *out, size_t places,
+                      roam_fit_note &found) {
+        return told(roam_tin(some(heights), size(heights, count), thousandths, effort, some(out), size(out, places), &found), "tin");
+    }
+
 #ifndef ROAM_ANSWERS
     template <class Heights> explicit fitter(const Heights &heights) { open(heights); }
     /// One tolerance for all points; answers how many triangles the mesh has.

@@ -151,6 +151,7 @@ namespace Roam {
         [DllImport(Library)] public static extern int roam_fitter_deviation(ref Handle h, out Deviation deviation);
         [DllImport(Library)] public static extern int roam_fitter_restore(ref Handle h, uint[] leaves, UIntPtr count);
         [DllImport(Library)] public static extern int roam_fit_with(ushort[] heights, UIntPtr count, uint thousandths, uint[] tolerances, UIntPtr toleranceCount, uint[] required, UIntPtr requiredCount, [Out] uint[] to, UIntPtr places, out Found found);
+        [DllImport(Library)] public static extern int roam_tin(ushort[] heights, UIntPtr count, uint thousandths, uint effort, [Out] uint[] to, UIntPtr places, out Found found);
         [DllImport(Library)] public static extern int roam_mosaic_open(ref Handle h, uint columns, uint rows, uint side);
         [DllImport(Library)] public static extern int roam_mosaic_close(ref Handle h);
         [DllImport(Library)] public static extern int roam_mosaic_next(ref Handle h, out TileNote tile);
@@ -291,6 +292,14 @@ namespace Roam {
             Calls.Must(Calls.roam_fit_with(Calls.There(heights, "heights"), (UIntPtr)heights.Length, thousandths,
                                    Calls.There(tolerances, "tolerances"), (UIntPtr)tolerances.Length, Calls.There(required, "required"),
                                    (UIntPtr)required.Length, Calls.There(to, "to"), (UIntPtr)to.Length, out found));
+            return found;
+        }
+
+        /// A mesh of triangles of any shape within an error, with an effort of 1 to 9; as much room as for FitWith always suffices.
+        public static Found Tin(ushort[] heights, uint thousandths, uint effort, uint[] to) {
+            Found found;
+            Calls.Must(Calls.roam_tin(Calls.There(heights, "heights"), (UIntPtr)heights.Length, thousandths, effort,
+                                      Calls.There(to, "to"), (UIntPtr)to.Length, out found));
             return found;
         }
     }

@@ -79,6 +79,9 @@ mod c {
             heights: *const u16, count: usize, thousandths: u32, tolerances: *const u32, tolerance_count: usize,
             required: *const u32, required_count: usize, out: *mut u32, places: usize, told: *mut super::FitNote,
         ) -> i32;
+        pub fn roam_tin(
+            heights: *const u16, count: usize, thousandths: u32, effort: u32, out: *mut u32, places: usize, told: *mut super::FitNote,
+        ) -> i32;
         pub fn roam_mosaic_open(m: *mut Handle, columns: u32, rows: u32, side: u32) -> i32;
         pub fn roam_mosaic_close(m: *mut Handle) -> i32;
         pub fn roam_mosaic_next(m: *mut Handle, out: *mut TileNote) -> i32;
@@ -540,6 +543,18 @@ pub fn fit_with(heights: &[u16], tolerance: Tolerance, required: &[u32]) -> Resu
             heights.as_ptr(), heights.len(), thousandths, own.as_ptr(), own.len(), required.as_ptr(), required.len(),
             out.as_mut_ptr(), out.len(), &mut note,
         )
+    })?;
+    out.truncate(3 * note.triangles as usize);
+    Ok((out, note))
+}
+
+/// A mesh of triangles of any shape within an error, in thousandths of a unit of height, with an effort of 1 to 9: three places
+/// in the heights for each triangle, and what it is. It never has more triangles than [`fit_with`].
+pub fn tin(heights: &[u16], thousandths: u32, effort: u32) -> Result<(Vec<u32>, FitNote), Error> {
+    let (mut out, mut note) = (vec![0; 6 * heights.len()], FitNote::default());
+    // SAFETY: slices and vector are valid for their lengths.
+    told(unsafe {
+        c::roam_tin(heights.as_ptr(), heights.len(), thousandths, effort, out.as_mut_ptr(), out.len(), &mut note)
     })?;
     out.truncate(3 * note.triangles as usize);
     Ok((out, note))

@@ -11,12 +11,12 @@ of any size. Importing this package imports numpy alone.
 """
 from ._version import __version__
 from .engine import SIDES, Changes, Engine, Fit, Note, State, Worn, changes
-from .fitter import ANY, Fitter, Mosaic, Required, fit_with
+from .fitter import ANY, Fitter, Mosaic, Required, fit_tin, fit_with
 from .mesh import Mesh, fit, surface, view
 from .pager import Pager
 from .planes import frustum, pixel_threshold
 from .world import BadPage, Page, Square, World, WorldNote
 
 __all__ = ["ANY", "SIDES", "BadPage", "Changes", "Engine", "Fit", "Fitter", "Mesh", "Mosaic", "Note", "Page", "Pager",
-           "Required", "Square", "State", "World", "WorldNote", "Worn", "__version__", "changes", "fit", "fit_with", "frustum",
-           "pixel_threshold", "surface", "view"]
+           "Required", "Square", "State", "World", "WorldNote", "Worn", "__version__", "changes", "fit", "fit_tin", "fit_with",
+           "frustum", "pixel_threshold", "surface", "view"]

@@ -94,6 +94,7 @@ CALLS = {
     "fitter_deviation": [_HANDLE, POINTER(DeviationNote)],
     "fitter_restore": [_HANDLE, _ARRAY, c_size_t],
     "fit_with": [_ARRAY, c_size_t, *_WITHIN, _ARRAY, c_size_t, POINTER(FitNote)],
+    "tin": [_ARRAY, c_size_t, c_uint32, c_uint32, _ARRAY, c_size_t, POINTER(FitNote)],
     "mosaic_open": [_HANDLE, c_uint32, c_uint32, c_uint32],
     "mosaic_close": [_HANDLE],
     "mosaic_next": [_HANDLE, POINTER(TileNote)],

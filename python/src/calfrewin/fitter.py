@@ -175,6 +175,37 @@ def fit_with(heights: npt.ArrayLike, tolerance: Tolerance = 0, required: npt.Arr
     return Fit(out[:3 * note.triangles].reshape(-1, 3), note.vertices, Fraction(note.off, note.over))
 
 
+def fit_tin(heights: npt.ArrayLike, tolerance: float, effort: Whole = 3) -> Fit:
+    """A mesh of few triangles of any shape of a square grid, each grid point within a tolerance of it.
+
+    It tiles the square without cracks, its vertices are grid points with their heights, and it never has more triangles
+    than `fit_with`: that is proved of each answer. Nothing is proved of how few they are; mostly a third to a fifth.
+
+    Args:
+        heights: 3 x 3, 5 x 5, .. numbers of 16 bits, the northern row first, as for `Fitter`.
+        tolerance: in units of height, to thousandths.
+        effort: 1 to 9: up to 3 so many rounds; above that searches beyond the tolerance and back, which take some ten
+            times as long at 9. The same arguments give the same mesh.
+
+    Raises:
+        TypeError, ValueError: they name the argument, its value and its range.
+
+    >>> fit_tin([[0, 0, 0], [0, 9, 0], [0, 0, 0]], 9)
+    Fit(triangles=array([[6, 8, 0],
+           [2, 0, 8]], dtype=uint32), vertices=4, deviation=Fraction(9, 1))
+    """
+    grid = whole_heights(heights)
+    one, hard = thousandths_of(tolerance), whole("effort", effort, 1, 9)
+    most = len(fit_with(grid, tolerance).triangles)
+    out, note = np.empty(3 * most, np.uint32), c.FitNote()
+    answer = calls["tin"](grid.ctypes.data, grid.size, one, hard, out.ctypes.data, out.size, byref(note))
+    if answer == NO_MEMORY:
+        raise MemoryError("out of memory")
+    if answer:
+        raise ValueError(f"roam_tin refused its arguments with answer {answer}")
+    return Fit(out[:3 * note.triangles].reshape(-1, 3), note.vertices, Fraction(note.off, note.over))
+
+
 class Required(NamedTuple):
     """What a tile's mesh has to have."""
     places: Numbers  #: its centre, and the border points that its neighbours have: places in its heights
