@@ -19,8 +19,7 @@ use Rattle.mesh_laws.proofs.VertexLemmas.{vertex-known}
 use Rattle.certificate_laws.proofs.DistinctLemmas.{distinct-ascending}
 use Rattle.mesh_arrays.specs.Indices.{point_at}
 use Rattle.obj_write.specs.VertexMarks.{grid_place, place_point, is_vertex}
-use Rattle.obj_write.proofs.NumberLemmas.{vertices-placed}
-use Rattle.obj_write.proofs.PlaceLemmas.{place-again}
+use Rattle.roam_embed.proofs.PlacedLemmas.{vertices-placed, place-again}
 use Rattle.roam_embed.proofs.BorderLemmas.{test-end, row-below}
 use Rattle.roam_embed.specs.Border.{is_on_side, is_corner, is_border_vertex, border_of}
 
