@@ -16,6 +16,7 @@ from typing import Any, Optional
 
 import launcher
 import pytest
+import seconds
 
 from conftest import TOP
 
@@ -553,6 +554,21 @@ def test_launcher_counts_a_part_that_further_processors_do_not_shorten(wide: Rep
     plan = plan_of(wide, "left 100 4 55\n")
     assert [round(plan.seconds("left", jobs)) for jobs in (1, 2, 4)] == [100, 70, 55]
     assert (plan.jobs("left", 8, 0), plan.jobs("left", 3, 1), plan.jobs("left", 2, 5), plan.jobs("right", 8, 0)) == (4, 2, 1, 1)
+
+
+# --- bench/seconds.txt by a first run. ---
+
+def test_seconds_are_made_of_what_a_first_run_has_said() -> None:
+    lines = ["# head", "rt_ci 1000", "low 10", "wide 100 4 50", "high 30"]
+    said = ("roam: low is proved, in 20 s; 3 left\nroam: wide is proved, in 90 s by 4 jobs; 2 left\n"
+            "roam: fresh is proved, in 1 s; 1 left\nroam: other is proved, in 7 s; 0 left\n")
+    assert seconds.anew(lines, said) == ["# head", "rt_ci 2000", "low 20", "wide 200 4 100", "high 60", "other 7"]
+
+
+def test_seconds_are_made_of_what_the_gate_has_said() -> None:
+    said = ("gate: checks/setup has ended with status 0, 0 min 9 s after the beginning; 1 processor minutes so far\n"
+            "gate: rt ci has ended with status 0, 90 min 1 s after the beginning; 201 processor minutes so far\n")
+    assert seconds.anew(["rt_ci 1000", "low 10"], said) == ["rt_ci 12000", "low 10"]
 
 
 # --- A first look, without proof. ---

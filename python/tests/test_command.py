@@ -44,7 +44,8 @@ def names():
 def test_a_file_and_what_is_said_of_it(run):
     it = run("a.tif", "a.glb", "--error", "2")
     assert it.exit_code == 0
-    first, error, bent, covers, origin = it.stdout.splitlines()
+    first, error, bent, covers, origin, look = it.stdout.splitlines()
+    assert look == "to look at it: Blender, or a viewer of glTF"
     told = json.loads(open("a.glb.json").read())
     triangles, vertices = re.fullmatch(r"a\.glb: (\d+) triangles, (\d+) vertices, [\d.]+ s", first).groups()
     found = read_glb(open("a.glb", "rb").read())

@@ -16,6 +16,7 @@ from . import __version__
 from .export import GLOBE, KINDS
 from .formats import ENCODINGS
 from .heights import MOST_POINTS
+from .look import how_to_look
 
 Progress = Callable[..., None]
 # Options that have no meaning for the other kind of OUT.
@@ -430,7 +431,7 @@ def told(report: dict[str, Any]) -> str:
     if report.get("kind") == "3dtiles":
         return ("{out}: {tiles} tiles in {levels} levels, {triangles} triangles in the finest, {bytes} bytes, {seconds} s\n"
                 "error at most {error:.6g} m in the finest level, {root_error:.6g} m in the coarsest, over all points of the "
-                "file").format(**report)
+                "file\n").format(**report) + how_to_look(report["out"])
     return "\n".join(_lines(report))
 
 
@@ -455,3 +456,4 @@ def _lines(report: dict[str, Any]) -> Iterator[str]:
         warning = "warning: " if share > MUCH_FILLED else ""
         yield f"{warning}{report['filled']} points, {100 * share:.2g} %, had no height and were filled"
     yield f"origin {' '.join(f'{number:.10g}' for number in report['origin'])}; {name_of(report['crs'])}"
+    yield how_to_look(report["out"])
