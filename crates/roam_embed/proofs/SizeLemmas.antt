@@ -9,7 +9,7 @@ use Rattle.std.proofs.lemmas.Bool.{or_cases, or_left, or_right, and_parts, cases
 use Rattle.std.proofs.lemmas.List.FromFn.{length-range_with_len}
 use Rattle.mesh_defs.specs.declared.point.Point.{Point}
 use Rattle.mesh_defs.specs.HeightField.{side_of}
-use Rattle.mesh_defs.specs.ClosedSet.{IsClosed, IsSubset, among, leaves_of}
+use Rattle.mesh_defs.specs.ClosedSet.{IsClosed, among, leaves_of}
 use Rattle.mesh_defs.specs.MeshText.{vertices_of}
 use Rattle.mesh_defs.proofs.ListLemmas.{IsIn, IsIn-among, among-in, IsIn-append-left, IsIn-append-right}
 use Rattle.mesh_laws.specs.Vertex.{is_mesh_vertex, centre_of, IsSquareCorner, IsCentre}
