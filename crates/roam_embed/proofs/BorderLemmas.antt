@@ -1,17 +1,15 @@
 -- Filters of a range that skip what does not pass, and which places lie on the border.
 use Rattle.std.proofs.Common.{◌≡◌, ℕ, suc, zero, ◌+◌, ◌-◌, ◌*◌, ◌/◌, ◌%◌, ◌^◌, ◌<◌, ◌≤◌, ◌⊎◌, inl, inr, Bool, true, false, ◌&&◌}
-use Rattle.std.proofs.Common.{◌||◌, not, IsTrue, eqb, cond, List, [], ◌∷◌, ◌++◌, map, filter, length, refl, sym, ◌∙◌, ap}
-use Rattle.std.proofs.Common.{arith, ⊎_elim, eq-eqb, append-nil}
+use Rattle.std.proofs.Common.{◌||◌, IsTrue, eqb, cond, List, [], ◌∷◌, ◌++◌, map, filter, length, refl, sym, ◌∙◌, ap}
+use Rattle.std.proofs.Common.{arith, ⊎_elim, append-nil}
 use Rattle.std.specs.List.{range_with_len}
-use Rattle.std.proofs.lemmas.Bool.{or_cases, or_left, or_right, and_parts, and_from, eqb-true, cases_Bool, cases_lt}
+use Rattle.std.proofs.lemmas.Bool.{or_cases, eqb-true, cases_lt}
 use Rattle.std.proofs.lemmas.Nat.{div-mul-add, mod-mul-add}
 use Rattle.std.proofs.lemmas.List.FromFn.{filter_of_map_range_with_len_more, length-range_with_len}
 use Rattle.std.proofs.Math.Nat.{mul-le-mul_left}
-use Rattle.mesh_defs.specs.declared.point.Point.{Point}
 use Rattle.mesh_defs.specs.HeightField.{side_of}
-use Rattle.mesh_laws.specs.Vertex.{IsSquareCorner}
 use Rattle.mesh_arrays.specs.Indices.{point_at}
-use Rattle.roam_embed.specs.Border.{is_on_side, is_corner}
+use Rattle.roam_embed.specs.Border.{is_on_side}
 
 -- filters of a range
 

@@ -5,3 +5,4 @@ pub mod DrawnLemmas
 pub mod MosaicLemmas
 pub mod RoomLemmas
 pub mod SizeLemmas
+pub mod PlacedLemmas

@@ -1,6 +1,6 @@
 -- How long the text of a certificate is at most: 43 bytes for the camera, 16 for a leaf and 17 for a reason.
 use Rattle.std.proofs.Common.{◌≡◌, ℕ, zero, suc, ◌+◌, ◌*◌, ◌^◌, ◌<◌, ◌≤◌, All, List, [], ◌∷◌, ◌++◌, length, ℤ, pos, negsuc}
-use Rattle.std.proofs.Common.{unsigned_abs, arith, sym, subst, length-append, pow_mono}
+use Rattle.std.proofs.Common.{unsigned_abs, codes, arith, sym, subst, length-append, pow_mono}
 use Rattle.std.specs.List.{flat_map}
 use Rattle.std.specs.Fmt.{decimal, signed_decimal}
 use Rattle.std.proofs.lemmas.Fmt.{length-decimal-le, length_signed_le}
@@ -11,11 +11,12 @@ use Rattle.mesh_defs.specs.Triangle.{level_of, IsAddress, IsSplittable}
 use Rattle.bintree_laws.proofs.LevelLemmas.{lt-pow-level}
 use Rattle.view_priority.specs.Camera.{IsCamera}
 use Rattle.certificate_laws.specs.declared.reason.Reason.{Reason}
+use Rattle.certificate_laws.specs.declared.reason.Kind.{Kind}
 use Rattle.certificate_laws.specs.declared.reason.Kind.TheVariants.{Want, Parent, Mate}
 use Rattle.certificate_laws.specs.Certificate.{AreReasons, named_in}
-use Rattle.cert_text.specs.declared.cert_line.CertLine.TheVariants.{CameraLine}
+use Rattle.cert_text.specs.Lines.{ended}
 use Rattle.cert_text.specs.Certificate.{Certificate}
-use Rattle.cert_text.specs.CertText.{number_text, address_text, kind_text, ended_line, leaf_text, reason_text, cert_text}
+use Rattle.cert_text.specs.CertText.{number_text, kind_text, leaf_text, reason_text, cert_text}
 use Rattle.roam_embed.specs.Certificates.{IsCertificateAt, IsCertificateText}
 
 -- texts of so many bytes at most, one after another
@@ -34,22 +35,36 @@ signed-short (pos n) small =
 signed-short (negsuc n) small =
     let short = length-decimal-le 10 (suc n) (omega arith) (omega arith) (omega arith) in omega arith
 
-camera-short : (place : CameraAt) → IsCamera place → length (ended_line (CameraLine place)) ≤ 43
+-- the camera's line
+abbrev camera_text : CameraAt → List ℕ
+camera_text place = ended (codes "camera" ++ number_text place.x ++ number_text place.y ++ number_text place.z)
+
+line-length : (a b c : List ℕ) → length (ended (codes "camera" ++ (32 ∷ a) ++ (32 ∷ b) ++ (32 ∷ c)))
+    ≡ 10 + length a + length b + length c
+line-length a b c = omega (
+  arith,
+  length-append (a ++ (32 ∷ b) ++ (32 ∷ c)) (10 ∷ []),
+  length-append (a ++ (32 ∷ b)) (32 ∷ c),
+  length-append a (32 ∷ b),
+)
+
+camera-short : (place : CameraAt) → IsCamera place → length (camera_text place) ≤ 43
 camera-short place camera =
     let x = signed-short place.x camera.x_small in
     let y = signed-short place.y camera.y_small in
     let z = signed-short place.z camera.z_small in
-    omega (
-      arith,
-      length-append (number_text place.x) (number_text place.y ++ number_text place.z),
-      length-append (number_text place.y) (number_text place.z),
-      length-append (number_text place.x ++ number_text place.y ++ number_text place.z) (10 ∷ []),
-    )
+    omega (arith, line-length (signed_decimal place.x) (signed_decimal place.y) (signed_decimal place.z))
+
+kind-short : (kind : Kind) → length (kind_text kind) ≤ 6
+kind-short Want = omega arith
+kind-short Parent = omega arith
+kind-short Mate = omega arith
 
 module _ (n : ℕ) (small : n ≤ 14) where
   leaf-short : (a : ℕ) → IsAddress n a → length (leaf_text a) ≤ 16
   leaf-short a address =
-      let most : 2 ^ (2 * n + 2) ≤ 2 ^ 30 = pow_mono (omega arith) in
+      let fits : 2 * n + 2 ≤ 30 = omega arith in
+      let most : 2 ^ (2 * n + 2) ≤ 2 ^ 30 = pow_mono fits in
       let high = address.high in
       let short = length-decimal-le 10 a (omega arith) (omega arith) (omega arith) in
       omega (arith, length-append (decimal a) (10 ∷ []))
@@ -59,14 +74,15 @@ module _ (n : ℕ) (small : n ≤ 14) where
   reason-short r split =
       let coarse = split.coarse in
       let low = lt-pow-level r.triangle split.low in
-      let most : 2 ^ level_of r.triangle ≤ 2 ^ 27 = pow_mono (omega arith) in
+      let fits : level_of r.triangle ≤ 27 = omega arith in
+      let most : 2 ^ level_of r.triangle ≤ 2 ^ 27 = pow_mono fits in
       let short = length-decimal-le 9 r.triangle (omega arith) (omega arith) (omega arith) in
-      word r short
-    where
-      word : (r : Reason) → length (decimal r.triangle) ≤ 9 → length (reason_text r) ≤ 17
-      word (record { kind = Want; triangle = a }) short = omega (arith, length-append (decimal a) (10 ∷ []))
-      word (record { kind = Parent; triangle = a }) short = omega (arith, length-append (decimal a) (10 ∷ []))
-      word (record { kind = Mate; triangle = a }) short = omega (arith, length-append (decimal a) (10 ∷ []))
+      let word = kind-short r.kind in
+      omega (
+        arith,
+        length-append (kind_text r.kind ++ (32 ∷ decimal r.triangle)) (10 ∷ []),
+        length-append (kind_text r.kind) (32 ∷ decimal r.triangle),
+      )
 
   reasons-split : (priority : ℕ → ℕ) (worst : ℕ) (before reasons : List Reason) →
       AreReasons n priority worst before reasons → All (λ (r : Reason). IsSplittable n r.triangle) reasons
@@ -91,7 +107,7 @@ certificate-short state place text small camera (cert, is, same) =
     let few = is.few in
     let whole : length (cert_text cert) ≤ 48 + 33 * state.budget = omega (
       arith,
-      length-append (ended_line (CameraLine cert.camera)) (flat_map leaf_text cert.leaves ++ flat_map reason_text cert.reasons),
-      length-append (flat_map leaf_text cert.leaves) (flat_map reason_text cert.reasons),
+      length-append (camera_text cert.camera ++ flat_map leaf_text cert.leaves) (flat_map reason_text cert.reasons),
+      length-append (camera_text cert.camera) (flat_map leaf_text cert.leaves),
     ) in
     subst (λ t. length t ≤ 48 + 33 * state.budget) (sym same) whole

@@ -2,14 +2,14 @@
 use Rattle.std.proofs.Common.{◌≡◌, ℕ, zero, suc, ◌+◌, ◌-◌, ◌*◌, ◌/◌, ◌%◌, ◌^◌, ◌<◌, ◌≤◌, ◌⊎◌, inl, inr, Bool, true, false}
 use Rattle.std.proofs.Common.{◌&&◌, ◌||◌, not, IsTrue, nat_eq, cond, List, [], ◌∷◌, ◌++◌, map, filter, length, count_by}
 use Rattle.std.proofs.Common.{refl, sym, ◌∙◌, ap, subst, arith, ⊎_elim, eqb, eq-eqb, pow_pos}
-use Rattle.std.proofs.Common.{length-append, length-map}
+use Rattle.std.proofs.Common.{length-append, mod-lt}
+use Rattle.std.proofs.lemmas.List.{length-map}
 use Rattle.std.specs.List.{range_with_len}
 use Rattle.std.proofs.lemmas.Bool.{or_cases, or_left, or_right, and_parts, cases_Bool, cases_lt, false≢true}
-use Rattle.std.proofs.lemmas.Nat.{mod-lt}
 use Rattle.std.proofs.lemmas.List.FromFn.{length-range_with_len}
 use Rattle.mesh_defs.specs.declared.point.Point.{Point}
 use Rattle.mesh_defs.specs.HeightField.{side_of}
-use Rattle.mesh_defs.specs.ClosedSet.{IsClosed, IsSubset, among, leaves_of}
+use Rattle.mesh_defs.specs.ClosedSet.{IsClosed, among, leaves_of}
 use Rattle.mesh_defs.specs.MeshText.{vertices_of}
 use Rattle.mesh_defs.proofs.ListLemmas.{IsIn, IsIn-among, among-in, IsIn-append-left, IsIn-append-right}
 use Rattle.mesh_laws.specs.Vertex.{is_mesh_vertex, centre_of, IsSquareCorner, IsCentre}
@@ -19,8 +19,7 @@ use Rattle.mesh_laws.proofs.VertexLemmas.{vertex-known}
 use Rattle.certificate_laws.proofs.DistinctLemmas.{distinct-ascending}
 use Rattle.mesh_arrays.specs.Indices.{point_at}
 use Rattle.obj_write.specs.VertexMarks.{grid_place, place_point, is_vertex}
-use Rattle.obj_write.proofs.NumberLemmas.{vertices-placed}
-use Rattle.obj_write.proofs.PlaceLemmas.{place-again}
+use Rattle.roam_embed.proofs.PlacedLemmas.{vertices-placed, place-again}
 use Rattle.roam_embed.proofs.BorderLemmas.{test-end, row-below}
 use Rattle.roam_embed.specs.Border.{is_on_side, is_corner, is_border_vertex, border_of}
 
@@ -41,6 +40,7 @@ length-filter-map f p (x ∷ xs) =
     (cases_Bool (p (f x)))
 
 in-map : (f : ℕ → ℕ) (a : ℕ) (xs : List ℕ) → IsIn a xs → IsIn (f a) (map f xs)
+in-map f a [] i = absurd i
 in-map f a (x ∷ xs) (inl e) = inl (ap f e)
 in-map f a (x ∷ xs) (inr i) = inr (in-map f a xs i)
 
@@ -56,7 +56,7 @@ passing-few p count ys held = length-distinct (filter p (range_with_len 0 count)
 
 -- the places of the square's corners
 square_places : ℕ → List ℕ
-square_places n = 0 ∷ (2 ^ n ∷ (2 ^ n * side_of n ∷ (2 ^ n * side_of n + 2 ^ n ∷ [])))
+square_places n = 0 ∷ ((2 ^ n) ∷ ((2 ^ n * side_of n) ∷ ((2 ^ n * side_of n + 2 ^ n) ∷ [])))
 
 corner-place : (n : ℕ) (p : Point) → IsSquareCorner (2 ^ n) p → IsIn (grid_place n p) (square_places n)
 unfolding square_places
@@ -203,7 +203,7 @@ module _ (n : ℕ) (some : 1 ≤ n) where
         let x : Bool = eqb column 0 || eqb column (2 ^ n) in
         let y : Bool = eqb (2 ^ n - row) 0 || eqb (2 ^ n - row) (2 ^ n) in
         let most = on-row in
-        let short : column < side_of n = mod-lt k (side_of n) (omega arith) in
+        let short : column < side_of n = mod-lt k (omega arith) in
         let positive : 0 < 2 ^ n = pow_pos n in
         ⊎_elim
         (λ (sides : x ≡ true).
@@ -230,6 +230,7 @@ module _ (n : ℕ) (some : 1 ≤ n) where
       let on = and_parts (is_on_side (2 ^ n) (point_at n k))
       (not (is_corner (2 ^ n) (point_at n k)) && is_mesh_vertex n leaves (point_at n k)) passes in
       let rest = and_parts (not (is_corner (2 ^ n) (point_at n k))) (is_mesh_vertex n leaves (point_at n k)) on.1 in
-      border-place k (range-high 0 size k (IsIn-among k (range_with_len 0 size) listed)) on.0 rest.0) in
+      let high = range-high 0 size k (IsIn-among k (range_with_len 0 size) listed) in
+      border-place k (omega arith) on.0 rest.0) in
       let count = side_places-count in
       omega arith

@@ -2,7 +2,7 @@
 
 use crate::numbers::{Num, num, whole};
 
-/// A rectangle of heights, and how far a network may be from them. Row 0 is the last one in the file.
+/// A rectangle of heights, and how far a network may be from them. Rows are counted from the last one in the file.
 #[derive(Clone, Copy, Drop)]
 pub struct Ground<'a> {
     /// The heights, in file order: rows from the top, each from left to right.

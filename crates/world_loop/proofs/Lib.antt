@@ -7,3 +7,4 @@ pub mod PagingLemmas
 pub mod TurnLemmas
 pub mod WholeLemmas
 pub mod ThresholdLemmas
+pub mod FieldLemmas

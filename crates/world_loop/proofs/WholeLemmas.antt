@@ -19,7 +19,7 @@ use Rattle.page_laws.specs.Loaded.{AreLoadedHeights}
 use Rattle.page_laws.proofs.LoadedLemmas.{under-known, wedge-heights}
 use Rattle.page_laws.proofs.OpenLemmas.{mate-parts, mate-from}
 use Rattle.page_laws.proofs.PyramidLemmas.{known-page, known-splittable, parent-known, square-tile}
-use Rattle.page_wedges.proofs.OwnLemmas.{WedgeLaws, field_wedge, own-field}
+use Rattle.world_loop.proofs.FieldLemmas.{WedgeLaws, field_wedge, own-field}
 use Rattle.page_priority.specs.Loaded.{LoadedState, is_open, loaded_priority}
 use Rattle.world_loop.specs.World.{AreAllLoaded}
 

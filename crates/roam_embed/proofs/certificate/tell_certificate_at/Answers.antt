@@ -26,7 +26,7 @@ returns-in-Ok c =
     let shown : IsCertificateText state place c.deref.result.now =
     subst (IsCertificateText state place) (sym c.deref.ensures.value) c.in-Ok.ensures in
     let no = c.if-put_text.false in
-    let small : state.grid.n ≤ 14 = omega (arith, ap (λ (g : HeightField). g.n) c.grid.ensures, c.n.ensures.value, c.n.ensures.high) in
+    let small : state.grid.n ≤ 14 = omega (arith, ap (λ (g : HeightField). g.n) c.grid.ensures, c.n-n.ensures.value, c.n-n.ensures.high) in
     told-no_room state place c.args.out.now c.put_text.new.out c.deref.result.now c.args.count.now
     c.put_text.new.count small camera shown
     (c.put_text.ensures.no_room no) (c.put_text.ensures.unwritten no) (c.put_text.ensures.uncounted no)
