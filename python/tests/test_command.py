@@ -75,12 +75,16 @@ def test_points_left_out_are_told_and_measured(run):
 
 
 def test_what_was_filled_is_told_and_much_of_it_is_warned_of(run):
-    for holes, text in ((10, "100 points, 0.67 %, had no height and were filled"),
-                        (40, "warning: 1600 points, 11 %, had no height and were filled")):
+    for holes, fill, text in (
+            (10, "smooth", "100 points, 0.67 %, had no height and were filled"),
+            (40, "100", "warning: 1600 points, 11 %, had no height and were filled"),
+            (40, None, "1600 points, 11 %, have no height and get no triangles: --fill METRES or --fill smooth gives them some")):
         heights = hills(100, 150)
         heights[:holes, :holes] = -9999
         write_tif("b.tif", heights, nodata=-9999)
-        assert text in run("b.tif", "b.glb", "--error", "2", "--overwrite").stdout.splitlines()
+        words = ("--fill", fill) if fill else ()
+        said = run("b.tif", "b.glb", "--error", "2", "--overwrite", *words).stdout.splitlines()
+        assert text in said and ("covers 100 % of the file's 150 x 100 points" in said) == bool(fill)
 
 
 def test_parts_of_a_file(run):
@@ -164,7 +168,10 @@ USAGE, DATA = 2, 1
     (("a.tif", "a.glb", "--error", "1", "--camera", "1,2,3"), USAGE, "--camera is for --triangles"),
     (("a.tif", "a.glb", "--triangles", "9", "--camera", "1,2,3", "--crs", "globe"), USAGE, "not for --crs globe or --mask"),
     (("a.tif", "a.glb", "--error", "1", "--measure", "--crs", "globe"), USAGE, "--measure is for a map"),
-    (("a.tif", "tiles/", "--error", "1", "--mask", "a.tif", "--size", "9"), USAGE, "--mask and --size: for one file, and OUT"),
+    (("a.tif", "tiles/", "--error", "1", "--origin", "1,2,3", "--size", "9"), USAGE, "--origin and --size: for one file"),
+    (("a.tif", "tiles/", "--format", "quantized-mesh", "--mask", "a.tif"), USAGE, "--mask is for 3D Tiles"),
+    (("a.tif", "a.glb", "--error", "1", "--fill", "deep"), USAGE, "'deep' has to be METRES or smooth"),
+    (("a.tif", "a.glb", "--error", "1", "--fill", "nan"), USAGE, "--fill is nan, and has to be a finite height, or smooth"),
     (("a.tif", "tiles/", "--error", "1", "--exaggerate", "2"), USAGE, "--exaggerate: for one file, and OUT is a folder of tiles"),
     (("a.tif", "tiles/", "--triangles", "9", "--format", "quantized-mesh"), USAGE,
      "--triangles: for 3D Tiles, and not for quantized"),
@@ -174,7 +181,7 @@ USAGE, DATA = 2, 1
      "--workers and --dask: for tiles, and for a .glb of more than 2049"),
     (("a.tif", "a.glb", "--error", "1", "--zoom", "0"), USAGE, "--zoom: for a folder of tiles, and OUT is one file"),
     (("a.tif", "there/", "--error", "1"), DATA, "there/tileset.json is there already: --overwrite replaces it"),
-    (("a.tif", "a.ply", "--error", "1", "--texture", "a.tif"), USAGE, "--texture, --uv and --quantize are for .glb alone"),
+    (("a.tif", "a.ply", "--error", "1", "--texture", "a.tif"), USAGE, "--texture, --uv and --quantize are for .glb only"),
     (("a.tif", "a.glb", "--error", "1", "--uv", "--base", "1"), USAGE, "--base and --size make a solid"),
     (("a.tif", "a.stl", "--error", "1", "--crs", "globe", "--size", "1"), USAGE, "--base and --size make a print of a map"),
     (("a.tif", "a.glb", "--error", "1", "--texture", "b.png"), USAGE, "'b.png' does not exist"),

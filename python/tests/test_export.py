@@ -10,7 +10,7 @@ import calfrewin
 from calfrewin import export, files
 from calfrewin.normals import ground_normals, normals_of
 from calfrewin.solid import solid
-from made import hills
+from made import hills, write_tif
 from readers import is_closed, read_glb, up_of
 
 PLACE = {"transform": (30, 0, 500000, 0, -30, 5000000), "crs": "EPSG:32632"}
@@ -76,8 +76,71 @@ def test_a_quantized_glb_loses_nothing(tmp_path):
     it = read_glb((tmp_path / "a.glb").read_bytes())
     assert np.abs(up_of(it["points"]) + told["origin"] - mesh.vertices).max() < 1e-6
     assert (tmp_path / "a.glb").stat().st_size < 0.7 * 24 * len(mesh.height) + 6 * len(mesh.triangles) + 3000
-    with pytest.raises(ValueError, match="rows from north to south"):
-        mesh.at((30, 0, 0, 0, 30, 0)).save(str(tmp_path / "b.glb"), quantize=True)
+    assert "quantized" not in told
+
+
+@pytest.mark.parametrize("transform, crs", [
+    ((30, 0, 5e5, 0, -30, 5e6), None), ((30, 0, 5e5, 0, 30, 5e6), None), ((20, 5, 5e5, 5, -20, 5e6), None),
+    ((1 / 3600, 0, 7, 0, -1 / 3600, 45), "EPSG:32632"),
+])
+def test_any_mesh_is_quantized_and_what_it_loses_is_told(tmp_path, transform, crs):
+    mesh = calfrewin.fit(hills(40, 70), error=2, transform=transform, crs="EPSG:4326" if crs else "EPSG:32632")
+    told = mesh.save(str(tmp_path / "a.glb"), quantize=True)
+    plain = mesh.save(str(tmp_path / "b.glb"))
+    one, two = (read_glb((tmp_path / name).read_bytes()) for name in ("a.glb", "b.glb"))
+    assert told["crs"] == plain["crs"] == (crs or "EPSG:32632") and np.array_equal(one["triangles"], two["triangles"])
+    assert np.abs(one["points"] - two["points"]).max() < 0.05
+    lost = told.get("quantized", 0.0)
+    assert told["error"] == pytest.approx(mesh.error + lost) and 0 <= lost < 0.5
+
+
+def test_degrees_are_written_in_metres(tmp_path):
+    mesh = calfrewin.fit(hills(40, 70), error=2, transform=(1 / 3600, 0, 7, 0, -1 / 3600, 45), crs="EPSG:4326")
+    told = mesh.save(str(tmp_path / "a.glb"))
+    assert told["crs"] == "EPSG:32632" and 1000 < np.ptp(read_glb((tmp_path / "a.glb").read_bytes())["points"][:, 0]) < 2500
+    assert mesh.save(str(tmp_path / "a.ply"), crs="EPSG:4326")["crs"] == "EPSG:4326"
+
+
+def test_what_is_written_beside_a_mesh_has_no_infinity(tmp_path):
+    with pytest.raises(ValueError, match="not JSON compliant"):
+        files.json_of({"origin": [float("inf")]})
+
+
+def test_the_floor_of_a_print_is_at_0_and_parts_that_meet_at_a_point_are_closed(mesh, tmp_path):
+    import meshio
+    told = mesh.save(tmp_path / "a.stl", size=100)
+    assert meshio.read(tmp_path / "a.stl").points[:, 2].min() == 0
+    scale = told["millimetres_to_a_metre"]
+    assert told["origin"][2] == pytest.approx(mesh.height.min() - 2 / scale)
+    heights = hills(9, 9)
+    heights[:4, 5:], heights[5:, :4] = np.nan, np.nan
+    apart = calfrewin.fit(heights, error=0.5)
+    apart.save(tmp_path / "b.stl", size=100)
+    said = subprocess.run(["admesh", str(tmp_path / "b.stl")], stdout=subprocess.PIPE, text=True, check=True).stdout
+    assert re.search(r"Total disconnected facets +: +0 +0", said) and apart.is_clipped
+
+
+def test_a_picture_is_laid_where_it_belongs(tmp_path):
+    import rasterio
+    mesh = calfrewin.fit(hills(40, 60), error=2, **PLACE)  # x from 500000 to 501770, y from 4998830 to 5000000
+    red = np.zeros((3, 100, 100), np.uint8)
+    red[0, :, 50:] = 255  # in the eastern half, of 0 to 3000 m
+    write_tif(tmp_path / "a.tif", red, cell=30, x=499500, y=5000500)
+    mesh.save(tmp_path / "a.glb", texture=tmp_path / "a.tif")
+    data = (tmp_path / "a.glb").read_bytes()
+    it = read_glb(data)["head"]
+    view = it["bufferViews"][it["images"][0]["bufferView"]]
+    begin = data.index(b"\x89PNG")
+    with rasterio.MemoryFile(data[begin:begin + view["byteLength"]]) as file, file.open() as picture:
+        found = picture.read(1)
+    # The middle of the file is at x = 501000, 1000 of 1770 m from the first point.
+    assert found.shape == (39, 59) and (found[:, :32] == 0).all() and (found[:, 35:] == 255).all()
+    write_tif(tmp_path / "b.tif", red, x=900000)
+    with pytest.raises(ValueError, match="lies elsewhere than the heights"):
+        mesh.save(tmp_path / "b.glb", texture=tmp_path / "b.tif")
+    write_tif(tmp_path / "c.tif", red.astype(np.float32))
+    with pytest.raises(ValueError, match="whose bands are float32, and have to be bytes"):
+        mesh.save(tmp_path / "b.glb", texture=tmp_path / "c.tif")
 
 
 def test_a_texture_is_in_the_glb(mesh, tmp_path):

@@ -7,7 +7,7 @@ import pytest
 from hypothesis import given, strategies as st
 
 import calfrewin
-from made import hills
+from made import hills, write_tif
 from readers import has_no_cracks, heights_from_vertices, heights_of
 
 SHAPES = st.tuples(st.integers(2, 40), st.integers(2, 40))
@@ -69,7 +69,7 @@ def test_any_dtype_and_order_is_taken(dtype, order, seed):
 def test_the_rounding_is_in_the_error(relief, base, dtype, seed):
     heights = (base + relief * np.random.default_rng(seed).random((17, 23))).astype(dtype)
     if np.ptp(heights) > 65_534:
-        with pytest.raises(ValueError, match="more than 65534 steps of 1.*give a unit of"):
+        with pytest.raises(ValueError, match="more than 65535 steps of 1.*give a unit of"):
             calfrewin.fit(heights, error=1)
         mesh = calfrewin.fit(heights, error=relief / 10, unit=relief / 1000)
     else:
@@ -100,15 +100,121 @@ def test_holes_of_any_kind_are_filled_alike(shape, seed, share):
     holes = rng.random(shape) < share
     holes[rng.integers(shape[0]), rng.integers(shape[1])] = False
     with_nan = np.where(holes, np.nan, whole)
-    meshes = [calfrewin.fit(np.where(holes, -32768, whole), error=5, nodata=-32768),
-              calfrewin.fit(np.ma.array(whole, mask=holes), error=5)]
+    meshes = [calfrewin.fit(np.where(holes, -32768, whole), error=5, nodata=-32768, fill="smooth"),
+              calfrewin.fit(np.ma.array(whole, mask=holes), error=5, fill="smooth")]
     assert len({(mesh.filled, mesh.unit, len(mesh.triangles)) for mesh in meshes}) == 1 and meshes[0].unit == 1
-    for mesh in (*meshes, calfrewin.fit(with_nan, error=5)):
-        assert mesh.filled == holes.sum()
+    for mesh in (*meshes, calfrewin.fit(with_nan, error=5, fill="smooth")):
+        assert mesh.filled == holes.sum() and mesh.holes == 0
         found = heights_of(mesh)[0]
         assert np.abs(found - whole)[~holes].max() <= mesh.error + 1e-9
         # What is filled lies between the least and the greatest height.
         assert whole[~holes].min() - 5 <= found.min() and found.max() <= whole[~holes].max() + 5
+
+
+@given(SHAPES, SEEDS, st.sampled_from(["some", "half", "islands", "one"]), st.sampled_from([0.5, 5, 60]), st.booleans())
+def test_what_has_no_height_has_no_triangles(shape, seed, kind, error, is_budget):
+    rng = np.random.default_rng(seed)
+    heights = hills(*shape, seed)
+    holes = {"some": rng.random(shape) < 0.03, "half": np.add.outer(np.arange(shape[0]), np.arange(shape[1])) < sum(shape) / 2,
+             "islands": rng.random(shape) < 0.9, "one": np.zeros(shape, bool)}[kind]
+    holes[rng.integers(shape[0]), rng.integers(shape[1])] = True
+    if holes.all():
+        return
+    try:
+        mesh = calfrewin.fit(np.where(holes, np.nan, heights), **{"triangles": 60} if is_budget else {"error": error})
+    except ValueError as why:
+        assert is_budget and "has to be at least" in str(why)
+        return
+    found, times = heights_of(mesh)
+    assert mesh.holes == holes.sum() and mesh.filled == 0 and (is_budget or mesh.error <= error)
+    # Each point with a height is met, and near enough; no cell is covered twice; triangles have a point with a height.
+    assert np.abs(found - heights)[~holes].max() <= mesh.error + 1e-9 and times.max(initial=0) <= 1
+    assert np.allclose(mesh.surface(), found, rtol=0, atol=1e-9, equal_nan=True)
+    for corners in mesh.triangles:
+        row, column = mesh.row[corners], mesh.column[corners]
+        i, j = np.mgrid[int(row.min()):int(row.max()) + 1, int(column.min()):int(column.max()) + 1]
+        area = (column[1] - column[0]) * (row[2] - row[0]) - (column[2] - column[0]) * (row[1] - row[0])
+        u = ((j - column[0]) * (row[2] - row[0]) - (i - row[0]) * (column[2] - column[0])) / area
+        v = ((column[1] - column[0]) * (i - row[0]) - (row[1] - row[0]) * (j - column[0])) / area
+        is_in = (u >= -1e-9) & (v >= -1e-9) & (u + v <= 1 + 1e-9)
+        # What was cut at the last row or column may have been a part of a larger one.
+        is_at_end = row.max() == shape[0] - 1 or column.max() == shape[1] - 1
+        assert is_at_end or not holes[i[is_in], j[is_in]].all()
+    assert mesh.is_clipped or (times == 1).all()
+
+
+def test_single_points_without_a_height_are_counted_and_met():
+    heights = hills(33, 50)
+    heights[5, 7] = heights[20, 20] = heights[0, 0] = np.nan
+    heights[10:14, 30:36] = np.nan
+    mesh = calfrewin.fit(heights, error=2)
+    assert (mesh.holes, mesh.alone) == (27, 3)
+    assert np.isnan(mesh.surface()[10:14, 30:36]).any() and np.isfinite(mesh.surface()[5, 7])
+
+
+def test_an_error_for_each_point():
+    heights = hills(60, 90)
+    error = np.full(heights.shape, 20.0)
+    error[20:40, 30:50], error[:, 80:] = 0.5, np.inf
+    mesh = calfrewin.fit(heights, error=error)
+    off = np.abs(heights_of(mesh)[0] - heights)
+    assert (off <= error + 1e-9).all() and off.max() == pytest.approx(mesh.error, abs=0.01) and off[20:40, 30:50].max() > 0.3
+    coarse, fine = calfrewin.fit(heights, error=20.0), calfrewin.fit(heights, error=0.5)
+    assert len(coarse.triangles) / 2 < len(mesh.triangles) < len(fine.triangles) / 2
+    with pytest.raises(ValueError, match=r"error has the shape \(3,\), and the heights have \(60, 90\)"):
+        calfrewin.fit(heights, error=[1.0, 2, 3])
+    error[3, 3] = -1
+    with pytest.raises(ValueError, match="error has -1.0 among its numbers"):
+        calfrewin.fit(heights, error=error)
+    with pytest.raises(ValueError, match="error is 0, and has to be at least 0.00"):
+        calfrewin.fit(heights, error=np.zeros(heights.shape))
+
+
+@pytest.mark.parametrize("shape", [(2050, 12), (9, 2100)])
+def test_an_array_of_any_size_is_joined_of_tiles(shape):
+    heights, holes = np.full(shape, 100, np.int16), np.zeros(shape, bool)
+    rows, columns = min(shape[0], 40), min(shape[1], 40)
+    heights[-rows:, -columns:] = np.rint(hills(rows, columns))
+    mesh = calfrewin.fit(heights, error=3, crs="EPSG:32632", cell=10)
+    found, times = heights_of(mesh)
+    assert np.abs(found - heights).max() <= mesh.error <= 3 and (times == 1).all() and has_no_cracks(mesh)
+    assert mesh.crs == "EPSG:32632" and mesh.shape == shape and not mesh.is_clipped
+    assert len(calfrewin.fit(heights, triangles=150).triangles) <= 150
+    holes[-rows + 1:-2, 1:-2] = True
+    cut = [calfrewin.fit(np.ma.array(heights, mask=holes), error=3),
+           calfrewin.fit(np.where(holes, -9999, heights), error=3, nodata=-9999),
+           calfrewin.fit(np.where(holes, np.nan, heights), error=3)]
+    for mesh in cut:
+        found, times = heights_of(mesh)
+        assert mesh.holes == holes.sum() and mesh.is_clipped and mesh.cells() < times.size and cut[0] == cut[1]
+        assert np.abs(found - heights)[~holes].max() <= mesh.error <= 3
+    assert calfrewin.fit(np.where(holes, np.nan, heights), error=3, fill="smooth").filled == holes.sum()
+
+
+def test_the_program_and_the_package_join_alike(tmp_path):
+    heights = hills(20, 2100)
+    path = write_tif(tmp_path / "a.tif", heights, cell=10)
+    mesh, own = calfrewin.fit_file(path, error=3), calfrewin.fit(heights, error=3)
+    assert np.array_equal(mesh.triangles, own.triangles) and np.array_equal(mesh.height, own.height) and "32N" in mesh.crs
+
+
+def test_a_mesh_is_equal_to_one_like_it_and_its_pickle_is_small():
+    import pickle
+    heights = np.zeros((1025, 1025), np.int16)
+    heights[500:520, 300:400] = 40
+    mesh = calfrewin.fit(heights, error=1)
+    copy = pickle.loads(pickle.dumps(mesh))
+    assert (mesh == mesh) is True and mesh == copy and hash(mesh) == hash(copy) and not mesh != copy
+    assert mesh != calfrewin.fit(heights, error=100) and mesh != 1
+    assert len(pickle.dumps(mesh)) < 120 * len(mesh.triangles)
+    assert np.array_equal(copy.surface(), mesh.surface()) and np.array_equal(copy.rises, mesh.rises)
+
+
+def test_an_edge_that_may_be_none_is_warned_of():
+    heights = np.full((40, 50), -9999.0)
+    heights[5:30, 5:30] = 100
+    with pytest.warns(UserWarning, match="100 % of the edge has the height -9999, .*nodata=-9999"):
+        calfrewin.fit(heights, error=5)
 
 
 def test_holes_get_the_height_that_is_said():
@@ -122,7 +228,7 @@ def test_holes_get_the_height_that_is_said():
 def test_a_hole_in_a_plain_is_filled_level(dtype):
     heights = np.full((50, 70), 7, dtype)
     heights[10:33, 5:60] = -99
-    mesh = calfrewin.fit(heights, error=0, nodata=-99)
+    mesh = calfrewin.fit(heights, error=0, nodata=-99, fill="smooth")
     assert (mesh.surface() == 7).all() and len(mesh.triangles) < 6
 
 
@@ -131,7 +237,7 @@ def test_a_fill_is_smooth_over_a_great_hole():
     plane = 2 * x + 3 * y
     heights = plane.copy()
     heights[50:250, 50:250] = np.nan
-    found = calfrewin.fit(heights, error=1).surface()
+    found = calfrewin.fit(heights, error=1, fill="smooth").surface()
     assert np.abs(found - plane).max() < 150 and np.abs(np.diff(found, axis=0)).max() < 20
 
 
@@ -150,7 +256,12 @@ def test_a_fill_is_smooth_over_a_great_hole():
     (hills(33, 33), {"error": 1, "transform": (1, 2, 0, 2, 4, 0)}, ValueError, "puts all points on one line"),
     (hills(33, 33), {"error": 1, "globe": True}, ValueError, "globe: the heights have no coordinate system"),
     (hills(33, 33), {"error": 1, "globe": True, "crs": "EPSG:1"}, ValueError, "crs is 'EPSG:1', and PROJ knows no such"),
-    (np.zeros((2050, 3)), {"error": 1}, ValueError, r"shape \(2050, 3\), .*2 to 2049 of each.*heights\[::2, ::2\]"),
+    (np.zeros((2050, 3)), {"error": 1, "globe": True, "crs": "EPSG:32632"}, ValueError,
+     r"shape \(2050, 3\), .*2 to 2049 of each.*heights\[::2, ::2\]"),
+    (np.zeros((2050, 3)), {"error": np.ones((2050, 3))}, ValueError, "error is an array, which is for 2049 points a side"),
+    (hills(33, 33), {"error": 1, "fill": "flat"}, ValueError, "fill is 'flat', and has to be a height or 'smooth'"),
+    (hills(33, 33), {"error": 1, "fill": math.nan}, ValueError, "fill is nan, and has to be a height or 'smooth'"),
+    (hills(33, 33), {"error": "1"}, TypeError, "error is '1', and has to be a number, or an array of numbers"),
     (np.zeros((1, 9)), {"error": 1}, ValueError, r"shape \(1, 9\)"),
     (np.zeros(9), {"error": 1}, ValueError, r"shape \(9,\)"),
     (np.zeros((3, 3, 3)), {"error": 1}, ValueError, r"shape \(3, 3, 3\)"),
@@ -215,6 +326,32 @@ def test_xarray_brings_its_place():
         calfrewin.fit(xarray.concat([array, array], "band"), error=1)
 
 
+@pytest.mark.parametrize("names, said", [
+    (("lat", "lon"), {}), (("latitude", "longitude"), {}), (("Y", "X"), {}), (("northing", "easting"), {}), (("row", "x"), {}),
+    (("a", "b"), {"a": {"axis": "Y"}, "b": {"standard_name": "projection_x_coordinate"}}), (("a", "x"), {}), (("y", "b"), {}),
+])
+def test_dimensions_are_told_by_their_names(names, said):
+    xarray = pytest.importorskip("xarray")
+    heights = hills(20, 30)
+    heights[3, 25] = 2000  # a summit
+    coords = {names[0]: (names[0], 44 + 0.1 * np.arange(20), said.get(names[0], {})),
+              names[1]: (names[1], 7 + 0.01 * np.arange(30), said.get(names[1], {}))}
+    array = xarray.DataArray(heights, dims=names, coords=coords)
+    for given_ in (array, array.T, array.transpose(*names[::-1]).expand_dims("time")):
+        mesh = calfrewin.fit(given_, error=1)
+        assert mesh.vertices[mesh.height.argmax()].tolist() == pytest.approx([7.25, 44.3, 2000]) and mesh.shape == (20, 30)
+
+
+def test_an_array_that_does_not_tell_its_rows_is_told_of():
+    xarray = pytest.importorskip("xarray")
+    heights = hills(20, 30)
+    with pytest.raises(ValueError, match="both lie one way"):
+        calfrewin.fit(xarray.DataArray(heights, dims=("lon", "x")), error=1)
+    with pytest.raises(TypeError, match=r"a Dataset of ground, sea, .*: heights\['ground'\]"):
+        calfrewin.fit(xarray.Dataset({"ground": (("y", "x"), heights), "sea": (("y", "x"), heights)}), error=1)
+    assert calfrewin.fit(xarray.DataArray(heights, dims=("a", "b")), error=1).shape == (20, 30)
+
+
 @given(SHAPES, SEEDS, st.integers(10, 500))
 def test_a_view_of_any_shape_is_off_by_what_it_tells(shape, seed, triangles):
     heights = hills(*shape, seed)
@@ -238,6 +375,13 @@ def test_a_view_is_fine_where_the_camera_is():
 def test_a_mesh_for_the_globe_has_no_surface_over_the_map():
     with pytest.raises(ValueError, match="it was made for the globe"):
         calfrewin.fit(hills(9, 9), error=3, cell=30, crs="EPSG:32632", globe=True).surface()
+
+
+def test_all_steps_of_16_bits_are_taken():
+    heights = np.array([[0, 65_535], [32_768, 1]], np.uint16)
+    assert calfrewin.fit(heights, error=0).unit == 1 and calfrewin.fit(heights, error=0, unit=1).height.max() == 65_535
+    with pytest.raises(ValueError, match="more than 65535 steps of 1.*a unit of 1.01 or more"):
+        calfrewin.fit(np.array([[0.5, 65_536], [1, 2]]), error=1)
 
 
 @pytest.mark.parametrize("options, kind, text", [

@@ -1,5 +1,6 @@
 """What is read, where it lies, and how far its points are from the mesh."""
 import gzip
+import json
 import subprocess
 import zipfile
 
@@ -8,7 +9,9 @@ import pytest
 
 import calfrewin
 from calfrewin import raster as r
-from calfrewin.systems import metres_crs, sideways, transformer, with_heights
+from calfrewin import tiles
+from calfrewin.quantized import terrain
+from calfrewin.systems import metres_crs, refuse_unplaced, sideways, transformer, with_heights
 from made import hills, write_pgm, write_tif
 from readers import heights_of
 
@@ -187,6 +190,121 @@ def test_units_scales_and_holes(tmp_path):
     assert opened(tmp_path / "b.tif", nodata=200).nodata == 200
 
 
+def written(path, bands, mask=None, colorinterp=None, colormap=None, **profile):
+    """A GeoTIFF of bands that are said to be something, in a folder of its own."""
+    import rasterio
+    with rasterio.Env(GDAL_TIFF_INTERNAL_MASK=True), rasterio.open(
+            path, "w", driver="GTiff", width=bands[0].shape[1], height=bands[0].shape[0], count=len(bands), dtype=bands[0].dtype,
+            crs="EPSG:32632", transform=rasterio.Affine(30, 0, 5e5, 0, -30, 5e6), **profile) as file:
+        if colorinterp:
+            file.colorinterp = [rasterio.enums.ColorInterp[name] for name in colorinterp]
+        file.write(np.stack(bands))
+        if mask is not None:
+            file.write_mask(mask)
+        if colormap:
+            file.write_colormap(1, colormap)
+    return path
+
+
+def test_a_mask_and_an_alpha_band_say_where_heights_are(tmp_path):
+    heights = hills(30, 40)
+    mask = np.full(heights.shape, 255, np.uint8)
+    mask[:10, :10] = 0
+    for raster in (opened(written(tmp_path / "a.tif", [heights], mask)),
+                   opened(written(tmp_path / "b.tif", [heights, mask.astype(np.float32)], colorinterp=["gray", "alpha"])),
+                   opened(written(tmp_path / "c.tif", [mask] * 3 + [mask], colorinterp=["red", "green", "blue", "alpha"]),
+                          encoding="terrarium")):
+        assert np.array_equal(np.isnan(all_of(raster)), mask == 0) and raster.suspect() is None
+        assert r.fit_raster(raster.part((0, 0, 20, 30)), error=500).mesh.holes == 100
+
+
+@pytest.mark.parametrize("nodata", [None, -3.40282306074e38])
+def test_the_least_float_stands_for_no_height(tmp_path, nodata):
+    heights = hills(30, 40)
+    heights[:10, :10], heights[20, 20] = np.float32(-3.4028235e38), np.float32(-3.40282306074e38)
+    assert np.isnan(all_of(opened(written(tmp_path / "a.tif", [heights], nodata=nodata)))).sum() == 101
+
+
+@pytest.mark.parametrize("number", [-9999, -32768, 0])
+def test_an_edge_of_one_number_is_warned_of(tmp_path, number):
+    heights = np.pad(np.rint(hills(30, 40)).astype(np.int16), 5, constant_values=number)
+    raster = opened(write_tif(tmp_path / "a.tif", heights))
+    assert f"100 % of the edge has the height {number}, " in raster.suspect()
+    with pytest.warns(UserWarning, match="of the edge has the height"):
+        calfrewin.fit_file(tmp_path / "a.tif", error=5)
+    assert opened(tmp_path / "a.tif", nodata=number).suspect() is None
+    for plain in (hills(30, 40), np.zeros((30, 40), np.float32)):
+        assert opened(write_tif(tmp_path / "b.tif", plain)).suspect() is None
+
+
+def test_what_is_no_height_is_refused(tmp_path):
+    heights, colours = hills(30, 40), np.zeros((30, 40), np.uint8)
+    for number in (np.inf, -np.inf, 1e30):
+        heights[3, 4] = number
+        path = written(tmp_path / "a.tif", [heights])
+        with pytest.raises(r.Unreadable, match="at column 4, row 3, and heights have to be finite.*--nodata"):
+            all_of(opened(path))
+        assert np.isnan(all_of(opened(path, nodata=float(heights[3, 4])))).sum() == 1
+    path = written(tmp_path / "b.tif", [colours] * 3)
+    with pytest.raises(r.Unreadable, match="three bands of bytes, as a photograph has .*--encoding terrain-rgb or terrarium"):
+        opened(path)
+    assert all_of(opened(path, band=2)).max() == 0
+    with pytest.raises(r.Unreadable, match="has a palette"):
+        opened(written(tmp_path / "c.tif", [colours], colorinterp=["palette"], colormap={0: (1, 2, 3)}))
+    with pytest.raises(ValueError, match="a corner of the heights is at 99.5 degrees of latitude, and there are 90"):
+        opened(write_tif(tmp_path / "d.tif", hills(9, 9), crs="EPSG:4326", cell=1, x=0, y=100))
+    with pytest.raises(ValueError, match="degrees of longitude, more than once around"):
+        opened(write_tif(tmp_path / "e.tif", hills(9, 80), crs="EPSG:4326", cell=5, x=0, y=60))
+
+
+def test_all_of_16_bits_with_a_scale(tmp_path):
+    numbers = np.arange(1200, dtype=np.uint16).reshape(30, 40)
+    numbers[0, 0] = 65_535
+    path = written(tmp_path / "a.tif", [numbers])
+    assert r.fit_raster(opened(path), error=1).mesh.unit == 1
+    assert np.allclose(all_of(opened(path, scale=0.01, offset=-100)), numbers * 0.01 - 100, atol=1e-4)
+
+
+def test_a_grid_of_a_site_is_metres_without_a_system(tmp_path):
+    raster = opened(write_tif(tmp_path / "a.tif", hills(9, 9), crs='LOCAL_CS["site",UNIT["foot",0.3048]]', x=1000, y=2000))
+    assert raster.crs is None and raster.transform[0] == pytest.approx(30 * 0.3048)
+
+
+def test_the_world_and_180_degrees(tmp_path):
+    world = opened(write_tif(tmp_path / "a.tif", hills(18, 36), crs="EPSG:4326", cell=10, x=-180, y=90))
+    with pytest.raises(ValueError, match="crs is EPSG:32631, and has no place, or no single one, for x = .*--bounds"):
+        refuse_unplaced(world.crs, "EPSG:32631", world.transform, world.shape)
+    mesh = r.fit_raster(world, error=20).mesh
+    with pytest.raises(ValueError, match=r"has no place for \d+ of \d+ vertices, as for x = .*--bounds"):
+        mesh.save(tmp_path / "a.glb")
+    assert not (tmp_path / "a.glb").exists()
+    with pytest.raises(ValueError, match="is beyond a pole"):
+        tiles.plan_of(world, str(tmp_path / "t"), error=10.0, tile=9)
+    fiji = opened(write_tif(tmp_path / "b.tif", hills(30, 40), crs="EPSG:4326", cell=1 / 60, x=179.8, y=-17))
+    crs = metres_crs(fiji.crs, fiji.transform, fiji.shape)
+    refuse_unplaced(fiji.crs, crs, fiji.transform, fiji.shape)
+    assert crs in ("EPSG:32760", "EPSG:32701")
+    tiles.build(tiles.plan_of(fiji, str(tmp_path / "f"), error=10.0, tile=33))
+    west, _, east, *_ = json.loads((tmp_path / "f/tileset.json").read_text())["root"]["boundingVolume"]["region"]
+    assert np.degrees([west, east]) == pytest.approx([179.8, 180.466 - 360], abs=0.02)
+    told = terrain(fiji, str(tmp_path / "q"), zoom=5)
+    assert told["zoom"] == 5 and sorted(it.name for it in (tmp_path / "q/5").iterdir()) == ["0", "63"]
+    *_, last = json.loads((tmp_path / "q/layer.json").read_text())["available"]
+    assert [(it["startX"], it["endX"]) for it in last] == [(63, 63), (0, 0)]
+
+
+def test_a_smooth_fill_is_the_same_by_any_windows(tmp_path):
+    heights = hills(90, 120)
+    heights[20:70, 30:110] = np.nan
+    raster = opened(write_tif(tmp_path / "a.tif", heights)).filled("smooth")
+    whole = all_of(raster)
+    assert np.isfinite(whole).all() and np.array_equal(whole[~np.isnan(heights)], heights[~np.isnan(heights)])
+    assert np.array_equal(raster.heights(25, 40, 30, 50), whole[25:55, 40:90])
+    assert np.nanmin(heights) - 1 <= whole.min() and whole.max() <= np.nanmax(heights) + 1
+    assert all_of(raster.filled(7)).max(where=np.isnan(heights), initial=0) == 7 and not opened(
+        write_tif(tmp_path / "b.tif", np.rint(hills(9, 9)).astype(np.int16))).filled(0.5).is_whole
+
+
 def test_bounds_are_a_window(tmp_path):
     raster = opened(write_tif(tmp_path / "a.tif", hills(50, 60)))  # points from 500015 and 4999985 on
     assert raster.window_of((500015, 4998515, 501785, 4999985)) == (0, 0, 50, 60)
@@ -246,7 +364,7 @@ def test_rioxarray_brings_place_system_and_nodata(tmp_path):
     path = write_tif(tmp_path / "a.tif", heights, nodata=-9999)
     mesh = calfrewin.fit(rioxarray.open_rasterio(path), error=1)
     own = r.fit_raster(opened(path), error=1).mesh
-    assert np.allclose(mesh.vertices, own.vertices) and "32N" in mesh.crs and mesh.filled == own.filled == 6
+    assert np.allclose(mesh.vertices, own.vertices) and "32N" in mesh.crs and mesh.holes == own.holes == 6
 
 
 def off_on_the_globe(raster, mesh, heights, folder, rng, rays):

@@ -31,7 +31,7 @@ import re
 import struct
 import time
 from fractions import Fraction
-from typing import Any, Callable, Iterator, NamedTuple, Optional
+from typing import Any, Callable, Iterator, NamedTuple, Optional, Union
 
 import numpy as np
 import numpy.typing as npt
@@ -67,7 +67,7 @@ class Said(NamedTuple):
     levels: int  #: above the finest
     error: float  #: in metres
     unit: float  #: of heights, in metres
-    fill: Optional[float]  #: the height where there is none; None: what has none counts for nothing
+    fill: Union[float, str, None]  #: the height where there is none; None: what has none counts for nothing
     crs: Optional[str]
     form: Optional[tuple[float, float, float]]  #: of the earth's curvature, one for all tiles; None: each tells its own
     left_out: float  #: what that form leaves out of a tile, in metres
@@ -116,6 +116,7 @@ def certify(folder: str, raster: Optional[Raster] = None, *, client: Any = None,
     said = Said(os.path.abspath(folder), own["run"], told["steps"], told["levels"], told["error"], told["unit"], told["fill"],
                 told["crs"], None if own["form"] is None else (own["form"][0], own["form"][1], own["form"][2]), own["left_out"],
                 np.array(tree["root"]["transform"], float).reshape(4, 4).T)
+    raster = raster.filled(told["fill"])
     if list(raster.shape) != told["points"]:
         raise ValueError(f"{folder} is of {told['points'][1]} x {told['points'][0]} points, and the raster has "
                          f"{raster.shape[1]} x {raster.shape[0]}")
@@ -231,7 +232,7 @@ def _filled(said: Said, raster: Raster, top: int, left: int, down: int, across: 
     is_there = ~np.isnan(wide)
     found = fillnodata(np.where(is_there, wide, LOW), mask=is_there.astype(np.uint8), max_search_distance=REACH)
     found = found[over:over + down, before:before + across]
-    return np.where(found < LOW / 10, np.float32(said.fill or 0.0), found)
+    return np.where(found < LOW / 10, np.float32(0.0), found)
 
 
 def _drop(said: Said, raster: Raster, row: int, column: int, own: Optional[tuple[float, float, float]]) -> Whole:

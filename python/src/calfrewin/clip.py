@@ -21,6 +21,17 @@ class GridMesh(NamedTuple):
     triangles: Numbers  #: of shape (count, 3): places among the vertices
 
 
+def area(mesh: GridMesh) -> float:
+    """Of all triangles together, in cells of the grid.
+
+    >>> area(GridMesh(np.array([0.0, 2, 0]), np.array([0.0, 0, 2]), np.zeros(3), np.array([[0, 1, 2]], np.uint32)))
+    2.0
+    """
+    a, b, c = mesh.triangles.T
+    across, down = ([values[end] - values[a] for end in (b, c)] for values in (mesh.column, mesh.row))
+    return float(np.abs(across[0] * down[1] - across[1] * down[0]).sum() / 2)
+
+
 BEYOND_COLUMN, BEYOND_ROW, BEFORE_COLUMN, BEFORE_ROW = 1, 2, 4, 8
 Clip = Callable[[GridMesh], GridMesh]  #: what of a mesh is wanted
 

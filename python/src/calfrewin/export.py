@@ -1,26 +1,37 @@
 """Writing a mesh: .glb by this package, .npz by numpy, and by meshio .ply, .stl, .obj, .vtk, .vtu and .off."""
 from __future__ import annotations
 
-import json
 import os
 import pathlib
-from typing import Any, NamedTuple, Optional
+from typing import Any, NamedTuple, Optional, Union
 
 import numpy as np
+import numpy.typing as npt
 
 from . import glb as gltf
 from ._types import Floats, Numbers, Path
-from .files import whole_file, write_bytes
+from .files import json_of, whole_file, write_bytes
 from .mesh import Mesh
 from .normals import Normals, ground_normals, normals_of
-from .solid import solid
+from .solid import solid, solid_count
+from .texture import texture_of
 
 BY_MESHIO = (".ply", ".stl", ".obj", ".vtk", ".vtu", ".off")
 BINARY = (".ply", ".stl", ".vtk", ".vtu")
 NARROW = (".glb", ".ply", ".stl")  # floats of 32 bits
+__all__ = ["GLOBE", "KINDS", "kind_of", "metres_of", "origin_of", "save", "solid_count"]
 KINDS = (".glb", ".npz", *BY_MESHIO)
 GLOBE = "globe"
+MOST = 65_535  # of a number of two bytes
+NOTHING = 1e-6  # of a step
 FLOOR = 2.0  # millimetres below the lowest point of a print
+
+
+class Picture(NamedTuple):
+    """What is drawn on a mesh."""
+    normals: Optional[Normals]  #: in axes of glTF
+    uv: Optional[Floats]
+    image: Optional[bytes]
 
 
 class Places(NamedTuple):
@@ -44,29 +55,32 @@ def kind_of(path: Path) -> str:
 
 
 def save(mesh: Mesh, path: Path, *, crs: Optional[str] = None, origin: Optional[tuple[float, float, float]] = None,
-         normals: bool = True, uv: bool = False, texture: Optional[bytes] = None, quantize: bool = False,
+         normals: bool = True, uv: bool = False, texture: Union[bytes, Path, None] = None, quantize: bool = False,
          base: Optional[float] = None, size: Optional[float] = None, exaggerate: float = 1.0) -> dict[str, Any]:
     """Writes the mesh, and PATH.json beside it with the origin, the coordinate system and the error; what that says comes
     back. The error is that of the ground, before it is exaggerated and brought to a size.
 
     Args:
         path: its ending is the format: .glb .npz .ply .stl .obj .vtk .vtu .off.
-        crs: the system to write in; without it that of the mesh. "globe": metres to the east, to the north and up about
-            the middle, with the matrix from there to EPSG:4978; for a mesh that was made with globe=True.
+        crs: the system to write in; without it that of the mesh if it is in metres and true to scale, otherwise UTM, as
+            heights beside degrees are no shape. "globe": metres to the east, to the north and up about the middle, with the
+            matrix from there to EPSG:4978; for a mesh that was made with globe=True.
         origin: x, y, z that are 0 in the file; without it a whole place in the middle for .glb, .ply, .stl and .obj, and
             0 for the rest.
         normals: writes them, in .glb.
         uv: writes texture coordinates over the array, in .glb: (0, 0) at its first point.
-        texture: the bytes of a PNG or a JPEG over the array, in .glb.
-        quantize: writes columns, rows and heights as they are, in two bytes each, in .glb: nothing is lost
-            (KHR_mesh_quantization, which f3d 1 and Blender before 3 do not read).
+        texture: the bytes of a PNG or a JPEG over the array, in .glb, or a file: one that has a place is laid there.
+        quantize: writes two bytes a coordinate, in .glb (KHR_mesh_quantization, which f3d 1 and Blender before 3 do not
+            read). Columns, rows and heights that are whole steps of an array north up lose nothing; of others the error has
+            what they lose.
         base: closes the mesh to a solid down to this height.
         size: makes a solid whose longer side is so many millimetres; without `base` its floor is 2 mm below the lowest
-            point.
+            point. Without `origin` the floor is at 0.
         exaggerate: heights are multiplied by it.
 
     Raises:
-        ValueError: options that do not go together, a system that PROJ does not know, a base above the ground.
+        ValueError: options that do not go together, a system that PROJ does not know or that has no place for a vertex, a
+            base above the ground.
         OSError: the file cannot be written; an old one is as it was.
 
     >>> import tempfile
@@ -85,7 +99,9 @@ def save(mesh: Mesh, path: Path, *, crs: Optional[str] = None, origin: Optional[
         raise ValueError("uv, texture and quantize are for a mesh, and base and size make a solid")
     if crs == GLOBE and (base is not None or size is not None or origin is not None):
         raise ValueError("crs globe is no system for base, size and origin: give one of a map")
+    crs = crs or metres_of(mesh)
     x, y, z, frame = _places(mesh, crs, exaggerate)
+    _refuse_not_finite(mesh, crs, (x, y, z))
     if origin is not None:
         zero = np.array(origin, np.float64)
     elif frame is None and (kind in NARROW or kind == ".obj"):
@@ -96,21 +112,27 @@ def save(mesh: Mesh, path: Path, *, crs: Optional[str] = None, origin: Optional[
             "triangles": len(mesh.triangles), "vertices": len(mesh.height), "exaggerate": exaggerate}
     if frame is not None:
         told["to_EPSG:4978"] = frame.T.reshape(-1).tolist()
-    if quantize:
-        write_bytes(path, *_quantized(mesh, zero, uv, normals, texture, exaggerate, told))
-    elif kind == ".glb" and not is_solid:
+    if kind == ".glb" and not is_solid:
         up = _normals(mesh, crs, (x, y, z), exaggerate) if normals else None
-        places = np.empty((len(x), 3), "<f4")
-        places[:, 0], places[:, 1], places[:, 2] = x - zero[0], z - zero[2], zero[1] - y
-        del x, y, z
-        write_bytes(path, *gltf.glb(places, mesh.triangles, normals=None if up is None else gltf.y_up(up),
-                                    uv=_texture_places(mesh) if uv or texture else None, image=texture, extras=told))
+        image = texture_of(texture, mesh) if texture is not None and not isinstance(texture, bytes) else texture
+        picture = Picture(None if up is None else gltf.y_up(up), _texture_places(mesh) if uv or image else None, image)
+        if quantize:
+            write_bytes(path, *_quantized(mesh, (x, y, z), crs, zero, picture, exaggerate, told))
+        else:
+            places = np.empty((len(x), 3), "<f4")
+            places[:, 0], places[:, 1], places[:, 2] = x - zero[0], z - zero[2], zero[1] - y
+            del x, y, z
+            write_bytes(path, *gltf.glb(places, mesh.triangles, normals=picture.normals, uv=picture.uv, image=image, extras=told))
     else:
         points = np.column_stack((x, y, z))
         points -= zero
         triangles = mesh.triangles
         if is_solid:
             points, triangles = _solid(mesh, points, zero, base, size, exaggerate, told)
+            if size is not None and origin is None:
+                floor = float(points[:, 2].min())
+                points[:, 2] -= floor
+                told["origin"][2] += floor / told["millimetres_to_a_metre"]
             told |= {"triangles": len(triangles), "vertices": len(points)}
         if kind == ".glb":
             up = gltf.y_up(normals_of(points, triangles)) if normals else None
@@ -119,8 +141,25 @@ def save(mesh: Mesh, path: Path, *, crs: Optional[str] = None, origin: Optional[
             _npz(path, points, triangles, told)
         else:
             _by_meshio(path, kind, points, triangles)
-    write_bytes(path + ".json", (json.dumps(told, indent=1) + "\n").encode())
+    write_bytes(path + ".json", json_of(told))
     return told
+
+
+def metres_of(mesh: Mesh) -> Optional[str]:
+    """The system that a mesh is written in where none is named."""
+    if mesh.crs is None or mesh.is_curved:
+        return mesh.crs
+    from .systems import metres_crs
+    return metres_crs(mesh.crs, mesh.transform, mesh.shape)
+
+
+def _refuse_not_finite(mesh: Mesh, crs: Optional[str], places: tuple[Floats, Floats, Floats]) -> None:
+    """A vertex without a place is never written."""
+    is_bad = ~(np.isfinite(places[0]) & np.isfinite(places[1]) & np.isfinite(places[2]))
+    if is_bad.any():
+        x, y = (values[is_bad][0] for values in mesh.xy())
+        raise ValueError(f"crs is {crs}, and has no place for {int(is_bad.sum())} of {len(is_bad)} vertices, as for x = {x:.9g}, "
+                         f"y = {y:.9g}: take a part, with --bounds or --window, or another --crs")
 
 
 def _places(mesh: Mesh, crs: Optional[str], exaggerate: float) -> Places:
@@ -144,8 +183,8 @@ def _places(mesh: Mesh, crs: Optional[str], exaggerate: float) -> Places:
 
 
 def _normals(mesh: Mesh, crs: Optional[str], places: tuple[Floats, Floats, Floats], exaggerate: float) -> Normals:
-    """Those of the ground; on the globe, and of a mesh without a grid, those of the triangles."""
-    if mesh.grid is None or crs == GLOBE:
+    """Those of the ground; on the globe those of the triangles."""
+    if mesh.rises is None or crs == GLOBE:
         return normals_of(np.column_stack(places), mesh.triangles)
     return ground_normals(mesh, crs, exaggerate)
 
@@ -193,16 +232,46 @@ def _by_meshio(path: str, kind: str, points: Floats, triangles: Numbers) -> None
     whole_file(path, write)
 
 
-def _quantized(mesh: Mesh, origin: Floats, uv: bool, normals: bool, texture: Optional[bytes], exaggerate: float,
-               told: dict[str, Any]) -> list[Any]:
-    a, b, c, d, e, f = mesh.transform
-    column, row = np.rint(mesh.column), np.rint(mesh.row)
-    if b or d or not a > 0 > e or (column != mesh.column).any() or (row != mesh.row).any():
-        raise ValueError("quantize wants rows from north to south without a turn, and vertices at the array's points")
-    low = float(mesh.height.min())
-    number = np.rint((mesh.height - low) / mesh.unit)
-    up = gltf.y_up(ground_normals(mesh, exaggerate=exaggerate)) if normals else None
-    return gltf.glb(np.column_stack((column, number, row)).astype("<u2"), mesh.triangles, normals=up,
-                    uv=_texture_places(mesh) if uv or texture else None, image=texture, extras=told,
-                    scale=(a, mesh.unit * exaggerate, -e),
-                    translation=(c - origin[0], low * exaggerate - origin[2], -(f - origin[1])))
+def _quantized(mesh: Mesh, places: tuple[Floats, Floats, Floats], crs: Optional[str], origin: Floats, picture: Picture,
+               exaggerate: float, told: dict[str, Any]) -> list[Any]:
+    """A GLB of two bytes a coordinate: columns, rows and heights as they are where they are whole, otherwise parts of their
+    range; what these are off is told, and in the error."""
+    x, y, z = places
+    a, b, _, d, e, _ = mesh.transform
+    is_own = crs in (None, mesh.crs) and not b and not d
+    steps = (abs(a), mesh.unit * exaggerate, abs(e)) if is_own else (0.0, 0.0, 0.0)
+    axes = [_whole_steps(values, step) for values, step in zip((x - x.min(), z - z.min(), y.max() - y), steps)]
+    off_x, off_z, off_y = (it.off for it in axes)
+    if max(off_x, off_y, off_z) > 0:
+        east, north = _steepest(x, y, z, mesh.triangles)
+        told["quantized"] = (off_z + east * off_x + north * off_y) / exaggerate
+        told["error"] += told["quantized"]
+    return gltf.glb(np.column_stack([it.numbers for it in axes]), mesh.triangles, uv=picture.uv, image=picture.image, extras=told,
+                    normals=picture.normals, scale=[it.step for it in axes],
+                    translation=(x.min() - origin[0], z.min() - origin[2], origin[1] - y.max()))
+
+
+class Steps(NamedTuple):
+    """Numbers of two bytes."""
+    numbers: npt.NDArray[np.uint16]
+    step: float
+    off: float  #: by how much a value is off its number of steps, at most
+
+
+def _whole_steps(values: Floats, step: float) -> Steps:
+    """Values from 0 on as whole numbers of a step, or where they are none of its finest possible one."""
+    exact = values / step if step else values
+    if not step or exact.max() > MOST or np.abs(exact - np.rint(exact)).max() > NOTHING:
+        step = float(values.max()) / MOST or 1.0
+        exact = values / step
+    numbers = np.rint(exact)
+    off = float(np.abs(exact - numbers).max())
+    return Steps(numbers.astype("<u2"), step, off * step if off > NOTHING else 0.0)
+
+
+def _steepest(x: Floats, y: Floats, z: Floats, triangles: Numbers) -> tuple[float, float]:
+    """How much a triangle rises to the east, and to the north, for each step of 1, at most."""
+    one, two, three = triangles.T
+    (ax, ay, az), (bx, by, bz) = ([it[end] - it[one] for it in (x, y, z)] for end in (two, three))
+    double = ax * by - ay * bx
+    return float(np.abs((az * by - ay * bz) / double).max()), float(np.abs((ax * bz - az * bx) / double).max())

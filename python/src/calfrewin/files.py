@@ -1,6 +1,7 @@
 """Files that are whole or not there: written under another name in the same folder, and then renamed."""
 from __future__ import annotations
 
+import json
 import os
 import pathlib
 import tempfile
@@ -27,6 +28,11 @@ def whole_file(path: str, write: Callable[[str], None]) -> None:
     except BaseException:  # an interrupt, too, leaves nothing behind
         os.unlink(room)
         raise
+
+
+def json_of(told: Any) -> bytes:
+    """Lines of JSON, which has no infinity and no NaN: a ValueError."""
+    return (json.dumps(told, indent=1, allow_nan=False) + "\n").encode()
 
 
 def write_bytes(path: str, *data: Any) -> None:

@@ -1,12 +1,13 @@
 """Heights that GDAL does not read, or not always: .npy, PGM raw and plain, .hgt of any side; and colours that are heights."""
 from __future__ import annotations
 
+import contextlib
 import functools
 import math
 import os
 import pathlib
 import re
-from typing import Any, NamedTuple
+from typing import Any, Iterator, NamedTuple
 
 import numpy as np
 import numpy.typing as npt
@@ -35,8 +36,24 @@ def stamp(path: str) -> tuple[int, int]:
     return found.st_mtime_ns, found.st_size
 
 
+_MEMORY: dict[str, Array] = {}
+
+
+@contextlib.contextmanager
+def in_memory(array: Array) -> Iterator[str]:
+    """A name under which an array is read as a file of the form `memory` is, in this process."""
+    path = f"memory:{id(array)}"
+    _MEMORY[path] = array
+    try:
+        yield path
+    finally:
+        del _MEMORY[path]
+
+
 def array_of_file(path: str, form: str) -> Array:
     """rows x columns of numbers as they stand: read by pages where the form allows that."""
+    if form == "memory":
+        return _MEMORY[path]
     return _array(path, form, stamp(path))
 
 

@@ -166,7 +166,7 @@ def layout(vertices: int, triangles: int, has_normals: bool, bounds: Array, extr
     length = each * (len(views) - 1) + 12 * triangles
     head = _head(attributes, len(accessors) - 1, {"mesh": 0, "extras": extras}) | {
         "accessors": accessors, "bufferViews": views, "buffers": [{"byteLength": length}]}
-    text = json.dumps(head, separators=(",", ":")).encode()
+    text = json.dumps(head, separators=(",", ":"), allow_nan=False).encode()
     begin = 12 + 8 + ROOM + 8
     _refuse_long(begin + length)
     if len(text) > ROOM:
@@ -190,7 +190,7 @@ def _refuse_long(size: int) -> None:
 
 
 def _chunks(head: dict[str, Any], buffer: Buffer) -> list[Any]:
-    text = json.dumps(head, separators=(",", ":")).encode()
+    text = json.dumps(head, separators=(",", ":"), allow_nan=False).encode()
     text += b" " * (-len(text) % 4)
     size = 12 + 8 + len(text) + 8 + buffer.length
     _refuse_long(size)

@@ -7,12 +7,15 @@ from typing import Any, NamedTuple, Optional
 import numpy as np
 import numpy.typing as npt
 
-from ._types import Flags, Floats
+from ._types import Fill, Flags, Floats
 from .engine import MOST_HEIGHT
 
 MOST_POINTS = 2049  # a side, of one mesh: what is larger is made of tiles
 UNITS = tuple(float(f"{digit}e{power}") for power in range(-9, 0) for digit in (1, 2, 5)) + (1.0,)
 NO_PART = 1e-9  # of a unit: what is off by less is a multiple, but for the last bits of a float
+SMOOTH = "smooth"  # how points without a height are filled
+NOTHING = (-9999.0, -32768.0, -32767.0, -99999.0)  # what stands for no height where nobody says so
+LEAST = -3.4e38  # what is below it is no height, as ESRI has it
 FINEST = 1e-9  # of the greatest height: finer units would be rounding of floats alone
 
 
@@ -42,8 +45,8 @@ def rounded(heights: npt.NDArray[Any], unit: Optional[float] = None) -> Rounded:
         unit = finest_unit(low, high, heights.dtype.kind in "iu" or bool((heights == np.rint(heights)).all()))
     elif not 0 < unit < math.inf:
         raise ValueError(f"unit is {unit!r}, and has to be above 0")
-    elif high - low > unit * (MOST_HEIGHT - 1):
-        raise ValueError(f"unit is {unit:g}, and has to be at least {(high - low) / (MOST_HEIGHT - 1):g} "
+    elif not _fits(low, high, unit):
+        raise ValueError(f"unit is {unit:g}, and has to be at least {_no_less((high - low) / (MOST_HEIGHT - 1))} "
                          f"for heights from {low:g} to {high:g}")
     base = base_of(low, unit)
     numbers, part = multiples(heights, unit, base)
@@ -68,15 +71,30 @@ def base_of(low: float, unit: float) -> float:
 
 def finest_unit(low: float, high: float, is_whole: bool) -> float:
     """The finest unit for heights of this range: 1 where all are whole numbers."""
-    reach = MOST_HEIGHT - 1
-    if is_whole and high - low <= reach:
+    if is_whole and high - low <= MOST_HEIGHT:
         return 1.0
-    least = max((high - low) / reach, FINEST * max(abs(low), abs(high)))
-    fits = next((unit for unit in UNITS if unit >= least), None)
+    least = FINEST * max(abs(low), abs(high))
+    fits = next((unit for unit in UNITS if unit >= least and _fits(low, high, unit)), None)
     if fits is None:
-        raise ValueError(f"heights are from {low:g} to {high:g}, more than {reach} steps of 1: is a value among them that "
-                         f"stands for none (nodata)? Else give a unit of {(high - low) / reach:.3g} or more")
+        raise ValueError(f"heights are from {low:g} to {high:g}, more than {MOST_HEIGHT} steps of 1: is a value among them that "
+                         f"stands for none (nodata)? Otherwise give a unit of "
+                         f"{_no_less((high - low) / (MOST_HEIGHT - 1))} or more")
     return fits
+
+
+def _no_less(value: float) -> str:
+    """Three digits of a number, rounded up, so that who gives them is not refused again.
+
+    >>> _no_less(1.00002), _no_less(0.5)
+    ('1.01', '0.5')
+    """
+    step = 10.0 ** (math.floor(math.log10(value)) - 2)
+    return f"{math.ceil(value / step - 1e-9) * step:.3g}"
+
+
+def _fits(low: float, high: float, unit: float) -> bool:
+    """Whether heights of this range have no more steps of a unit than a grid holds, over the multiple that is 0."""
+    return round((high - base_of(low, unit)) / unit) <= MOST_HEIGHT
 
 
 class Filled(NamedTuple):
@@ -85,7 +103,33 @@ class Filled(NamedTuple):
     holes: int  #: how many points had none
 
 
-def filled(heights: npt.NDArray[Any], holes: Flags, fill: Optional[float] = None) -> Filled:
+def fill_of(fill: Fill) -> Fill:
+    """What is said of points without a height, looked through.
+
+    >>> fill_of("flat")
+    Traceback (most recent call last):
+    ValueError: fill is 'flat', and has to be a height or 'smooth'; without it points that have no height get no triangles
+    """
+    if fill is None or fill == SMOOTH:
+        return fill
+    if isinstance(fill, (str, bytes)) or not math.isfinite(fill):
+        raise ValueError(f"fill is {fill!r}, and has to be a height or 'smooth'; without it points that have no height get no "
+                         "triangles")
+    return float(fill)
+
+
+def alone(holes: Flags) -> int:
+    """How many points without a height have one at each of the points around them, over which triangles go.
+
+    >>> alone(np.array([[1, 0, 0, 0], [0, 0, 1, 1]], bool))
+    1
+    """
+    wide = np.pad(holes, 1).astype(np.uint8)
+    across = wide[:, :-2] + wide[:, 1:-1] + wide[:, 2:]
+    return int((holes & (across[:-2] + across[1:-1] + across[2:] == 1)).sum())
+
+
+def filled(heights: npt.NDArray[Any], holes: Flags, fill: Fill = None) -> Filled:
     """The heights with one at each point.
 
     Args:
@@ -102,10 +146,11 @@ def filled(heights: npt.NDArray[Any], holes: Flags, fill: Optional[float] = None
     if count == 0:
         return Filled(heights, 0)
     found = heights.copy()
-    if fill is None:
+    if fill is None or isinstance(fill, str):
         smooth = _from_edges(heights.astype(np.float64 if heights.dtype.kind == "f" else np.int64), holes)
         # What whole heights are filled with is whole, so that their unit stays 1.
-        found[holes] = np.rint(smooth) if heights.dtype.kind in "iu" else smooth
+        there = heights[~holes]
+        found[holes] = np.rint(smooth) if heights.dtype.kind in "iu" or (there == np.rint(there)).all() else smooth
         return Filled(found, count)
     kept = np.dtype(heights.dtype)
     if kept.kind in "iu" and (fill != int(fill) or not np.iinfo(kept).min <= fill <= np.iinfo(kept).max):
@@ -142,6 +187,48 @@ def _between(means: Floats, row: npt.NDArray[np.int64], column: npt.NDArray[np.i
     return np.asarray((9 * means[i, j] + 3 * means[near_i, j] + 3 * means[i, near_j] + means[near_i, near_j]) / 16)
 
 
+def is_none(numbers: npt.NDArray[Any], nodata: Optional[float]) -> Flags:
+    """Where numbers stand for no height: NaN, what is said, and the least float of 32 bits, of which ESRI's has some digits.
+
+    >>> is_none(np.array([1, -9999, -3.40282306074e38, np.nan], np.float32), -9999).tolist()
+    [False, True, True, True]
+    """
+    if numbers.dtype.kind != "f":
+        found: Flags = np.zeros(numbers.shape, bool) if nodata is None or math.isnan(nodata) else numbers == nodata
+        return found
+    holes: Flags = np.isnan(numbers)
+    if numbers.dtype.itemsize >= 4:
+        holes |= (numbers <= LEAST) & (numbers > -np.inf)
+    if nodata is not None and not math.isnan(nodata):
+        with np.errstate(over="ignore"):
+            holes |= numbers == numbers.dtype.type(nodata)
+    return holes
+
+
+def suspect(edge: npt.NDArray[Any], within: npt.NDArray[Any], numbers: tuple[float, ...]) -> Optional[str]:
+    """A warning, where most points of the edge have a number that may stand for no height, and points within have others."""
+    part, number = max((float((edge == it).mean()), it) for it in numbers)
+    if part <= 0.5 or (within == number).all():
+        return None
+    return (f"{100 * part:.3g} % of the edge has the height {number:g}, which is taken as one: if it stands for none, "
+            f"give --nodata {number:g} (in Python nodata={number:g})")
+
+
+def rises(numbers: npt.NDArray[Any], row: npt.NDArray[np.int64], column: npt.NDArray[np.int64],
+          unit: float) -> tuple[Floats, Floats]:
+    """How much the ground rises by a step along columns and along rows at some points: central differences, at ends one-sided.
+
+    >>> [it.tolist() for it in rises(np.array([[0, 4], [6, 8]], np.uint16), np.array([0]), np.array([1]), 0.5)]
+    [[2.0], [2.0]]
+    """
+    last_row, last_column = (count - 1 for count in numbers.shape)
+    left, right = np.maximum(column - 1, 0), np.minimum(column + 1, last_column)
+    top, bottom = np.maximum(row - 1, 0), np.minimum(row + 1, last_row)
+    east, west, south, north = (numbers[at].astype(np.int64) for at in (
+        (row, right), (row, left), (bottom, column), (top, column)))
+    return (east - west) / (right - left) * unit, (south - north) / (bottom - top) * unit
+
+
 def side_of(shape: tuple[int, ...]) -> int:
     """The least side 2^n + 1 of a grid that holds rows x columns points.
 
@@ -150,7 +237,7 @@ def side_of(shape: tuple[int, ...]) -> int:
     """
     if len(shape) != 2 or min(shape) < 2 or max(shape) > MOST_POINTS:
         raise ValueError(f"heights have the shape {shape}, and have to be rows x columns, 2 to {MOST_POINTS} of each: "
-                         "every second point is heights[::2, ::2], and calfrewin.tiles takes rasters of any size")
+                         "every second point is heights[::2, ::2], and fit without globe takes more")
     return (1 << max(1, (max(shape) - 2).bit_length())) + 1
 
 

@@ -5,33 +5,35 @@ tasks write into it side by side, and no mesh is ever whole in memory. Vertices 
 """
 from __future__ import annotations
 
-import json
 import os
 import shutil
+import tempfile
 import time
-from dataclasses import dataclass
+from dataclasses import dataclass, replace
 from typing import Any, Callable, NamedTuple, Optional
 
 import numpy as np
 import numpy.typing as npt
 
-from . import _library, files, systems
-from ._types import Floats, Numbers
-from .blocks import BlockPoints, refuse_changed
-from .clip import GridMesh
+from . import _library, files, formats, systems
+from ._types import Fill, Floats, Numbers
+from .blocks import BlockPoints, Points, refuse_changed
+from .clip import GridMesh, area
 from .export import _places, origin_of
 from .glb import Layout, layout, y_up
-from .mesh import Mesh, _turns
+from .heights import alone, rises
+from .mesh import LITTLE, Array, Mesh, _turns
 from .normals import normals_by_rises
 from .raster import Raster
 from .rounds import Block, BlockMeshes, Tell, settle, tiles_of
 from .run import locked
 from .search import least_error
-from .tile import cut, place_of, rises, shown
+from .tile import Place, cut, place_of, shown
 from .tileset import Plan, plan_of
 from .workers import workers_of
 
 Keys = npt.NDArray[np.int64]  #: places of the raster: row * its columns + column
+NO_HEIGHT = -(1 << 31)  # stands for none among whole heights
 MOST_VERTICES = (1 << 32) - 2  # the last index restarts a primitive
 
 
@@ -50,6 +52,7 @@ class Piece(NamedTuple):
     keys: Keys  #: of each vertex on the border of the tile; -1 within
     right: Floats  #: how much the ground rises by a step along columns, and along rows
     down: Floats
+    holes: int  #: points of the raster without a height
 
 
 class Counted(NamedTuple):
@@ -60,6 +63,7 @@ class Counted(NamedTuple):
     triangles: list[int]
     error: float
     cells: float  #: of the raster that are covered
+    holes: int  #: points of the raster without a height
 
 
 def _pieces(plan: Plan, block: Block, state: str) -> tuple[list[Piece], float]:
@@ -76,8 +80,17 @@ def _pieces(plan: Plan, block: Block, state: str) -> tuple[list[Piece], float]:
         at = (np.rint(mesh.row).astype(np.int64) + row * plan.steps, np.rint(mesh.column).astype(np.int64) + column * plan.steps)
         mesh = mesh._replace(column=mesh.column + lies.column * plan.steps, row=mesh.row + lies.row * plan.steps)
         keys = np.where(is_border, np.rint(mesh.row * last + mesh.column), -1).astype(np.int64)
-        found.append(Piece(mesh, keys, *rises(numbers, *at, plan.unit)))
+        found.append(Piece(mesh, keys, *rises(numbers, *at, plan.unit), _holes(plan, lies, own)))
     return found, error
+
+
+def _holes(plan: Plan, lies: Place, own: Points) -> int:
+    """How many points of a tile have no height; those that it shares with the next tile are of that one."""
+    if own.counts is None:
+        return 0
+    rows, columns = (int(last) + (last < plan.steps or points - 1 == (at + 1) * plan.steps) for last, points, at in zip(
+        (lies.last_row, lies.last_column), plan.raster.shape, (lies.row, lies.column)))
+    return int((~own.counts[:rows, :columns]).sum())
 
 
 def count(plan: Plan, block: Block, state: str) -> Counted:
@@ -90,11 +103,9 @@ def count(plan: Plan, block: Block, state: str) -> Counted:
     keys, first = np.unique(keys, return_index=True)
     cells = 0.0
     for it in pieces:
-        a, b, c = it.mesh.triangles.T
-        across, down = ([values[end] - values[a] for end in (b, c)] for values in (it.mesh.column, it.mesh.row))
-        cells += float(np.abs(across[0] * down[1] - across[1] * down[0]).sum() / 2)
+        cells += area(it.mesh)
     return Counted(keys, rows[first], [int((~is_on).sum()) for is_on, _ in border], [len(it.mesh.triangles) for it in pieces],
-                   error, cells)
+                   error, cells, sum(it.holes for it in pieces))
 
 
 def write(plan: Plan, block: Block, state: str, look: Look, path: str, at: Layout, keys: Keys, ids: Numbers, vertex: int,
@@ -143,7 +154,7 @@ def put_vertices(plan: Plan, look: Look, file: Any, at: Layout, first: int, rows
 
 def join(raster: Raster, out: str, *, error: Optional[float] = None, triangles: Optional[int] = None, crs: Optional[str] = None,
          origin: Optional[tuple[float, float, float]] = None, normals: bool = True, exaggerate: float = 1.0,
-         unit: Optional[float] = None, fill: Optional[float] = None, tile: int = 513, client: Any = None, workers: int = 1,
+         unit: Optional[float] = None, fill: Fill = None, tile: int = 513, client: Any = None, workers: int = 1,
          overwrite: bool = False, progress: Optional[Callable[..., None]] = None) -> dict[str, Any]:
     """Writes one GLB of the whole raster, within an error at each of its points, of the fewest triangles of all meshes of right
     triangles that are as fine as tiles of `tile` points a side; and OUT.json beside it. What that says comes back.
@@ -174,12 +185,62 @@ def join(raster: Raster, out: str, *, error: Optional[float] = None, triangles: 
             if progress:
                 progress(len(blocks) + len(counts), 3 * len(blocks), "counting")
         found |= {"rounds": rounds.told, "error": max(it.error for it in counts.values()),
-                  "cells": sum(it.cells for it in counts.values())}
+                  "cells": sum(it.cells for it in counts.values()), "holes": sum(it.holes for it in counts.values())}
         look = Look(crs or raster.crs, origin or _origin(raster, crs), normals, exaggerate)
         found |= _file(plan, hands, out, look, rounds.states, counts, found["error"], progress)
         shutil.rmtree(plan.run)
     shutil.rmtree(plan.out, ignore_errors=True)
     return found | {"rounding": plan.rounding, "unit": plan.unit, "seconds": round(time.perf_counter() - began, 3)}
+
+
+def mesh_of_array(array: Array, *, error: Optional[float], triangles: Optional[int], unit: Optional[float]) -> Mesh:
+    """`fit` of an array of any size, as tiles that match and are joined."""
+    heights, holes, nodata = array.heights, array.holes, None
+    if holes is not None:
+        nodata = float(NO_HEIGHT)
+        heights = np.where(holes, NO_HEIGHT, heights.astype(np.int64)) if heights.dtype.kind in "iu" else np.where(
+            holes, np.nan, heights)
+    with formats.in_memory(heights) as path:
+        rows, columns = heights.shape
+        raster = Raster(path, "memory", 1, (rows, columns), array.transform, None, nodata, 1.0, 0.0, heights.dtype.str)
+        found = mesh_of_tiles(raster, error=error, triangles=triangles, unit=unit)
+    return replace(found, crs=array.crs, filled=array.filled, alone=0 if holes is None else alone(holes))
+
+
+def mesh_of_tiles(raster: Raster, *, error: Optional[float] = None, triangles: Optional[int] = None,
+                  unit: Optional[float] = None, fill: Fill = None, tile: int = 513,
+                  progress: Optional[Callable[..., None]] = None) -> Mesh:
+    """The mesh of a raster of any size in memory, of which `join` writes a file."""
+    with tempfile.TemporaryDirectory(prefix="calfrewin") as folder:
+        plan = plan_of(raster, os.path.join(folder, "run"), error=error, tile=tile, unit=unit, fill=fill, flat=True)
+        with locked(plan, False, triangles), workers_of() as hands:
+            if triangles is not None:
+                plan, _ = least_error(plan, hands, triangles, progress)
+            states = settle(plan, hands, progress).states
+            return _gathered(plan, [_pieces(plan, block, states[block]) for block in sorted(states)])
+
+
+def _gathered(plan: Plan, blocks: list[tuple[list[Piece], float]]) -> Mesh:
+    """The mesh of all pieces, with each vertex once."""
+    pieces = [it for found, _ in blocks for it in found]
+    if not sum(len(it.mesh.triangles) for it in pieces):
+        raise ValueError("heights: no point has one")
+    keys, count = np.concatenate([it.keys for it in pieces]), np.cumsum([0] + [len(it.keys) for it in pieces])
+    rows = np.concatenate([np.column_stack((it.mesh.column, it.mesh.row, it.mesh.number, it.right, it.down)) for it in pieces])
+    triangles = np.concatenate([it.mesh.triangles.astype(np.int64) + first for it, first in zip(pieces, count)])
+    is_border = keys >= 0
+    _, first, back = np.unique(keys[is_border], return_index=True, return_inverse=True)
+    on_border, within = np.flatnonzero(is_border), np.flatnonzero(~is_border)
+    number = np.empty(len(keys), np.uint32)
+    number[on_border], number[within] = back, len(first) + np.arange(len(within))
+    rows = rows[np.concatenate((on_border[first], within))]
+    triangles = number[triangles]
+    raster, (high, wide) = plan.raster, plan.raster.shape
+    cells = sum(area(it.mesh) for it in pieces)
+    return Mesh(rows[:, 0].copy(), rows[:, 1].copy(), rows[:, 2].copy(),
+                triangles[:, ::-1] if _turns(raster.transform) else triangles, max(error for _, error in blocks), plan.rounding,
+                plan.unit, raster.shape, raster.transform, raster.crs, holes=sum(it.holes for it in pieces),
+                is_clipped=cells < (high - 1) * (wide - 1) - LITTLE, rises=rows[:, 3:].astype(np.float32))
 
 
 def third(progress: Callable[..., None]) -> Tell:
@@ -234,5 +295,5 @@ def _file(plan: Plan, hands: Any, out: str, look: Look, states: dict[Block, str]
         os.fsync(file.fileno())
     refuse_changed(plan)
     files.move(path, out)
-    files.write_bytes(out + ".json", (json.dumps(told, indent=1) + "\n").encode())
+    files.write_bytes(out + ".json", files.json_of(told))
     return told

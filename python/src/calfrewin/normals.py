@@ -7,7 +7,7 @@ import numpy as np
 import numpy.typing as npt
 
 from ._types import Floats, Numbers
-from .mesh import Grid, Mesh
+from .mesh import Mesh
 
 Normals = npt.NDArray[np.float32]
 LATTICE = 17  # points a side, between which what a map makes of a step is taken in proportion
@@ -41,9 +41,9 @@ def ground_normals(mesh: Mesh, crs: Optional[str] = None, exaggerate: float = 1.
     >>> (10 * ground_normals(fit([[0, 3], [0, 3]], error=0, cell=4))[0]).tolist()
     [-6.0, 0.0, 8.0]
     """
-    if mesh.grid is None:
-        raise ValueError("the mesh has no grid of its own: it was made for the globe, or not by fit and view")
-    return normals_by_rises(mesh, *_rises(mesh, mesh.grid), crs, exaggerate)
+    if mesh.rises is None:
+        raise ValueError("the mesh does not say how the ground rises: it was made for the globe")
+    return normals_by_rises(mesh, mesh.rises[:, 0], mesh.rises[:, 1], crs, exaggerate)
 
 
 def normals_by_rises(mesh: Mesh, right: Normals, down: Normals, crs: Optional[str] = None, exaggerate: float = 1.0) -> Normals:
@@ -53,19 +53,6 @@ def normals_by_rises(mesh: Mesh, right: Normals, down: Normals, crs: Optional[st
     found = [level[axis] + right * by_right[axis] + down * by_down[axis] for axis in range(3)]
     length = np.sqrt(found[0] * found[0] + found[1] * found[1] + found[2] * found[2])
     return np.stack([part / length for part in found], axis=1)
-
-
-def _rises(mesh: Mesh, grid: Grid) -> tuple[npt.NDArray[np.float32], npt.NDArray[np.float32]]:
-    """How much the ground rises by a step along columns and along rows at each vertex: central differences."""
-    rows, columns = mesh.shape
-    place = np.rint(mesh.row).astype(np.intp) * columns + np.rint(mesh.column).astype(np.intp)
-    ground = grid.numbers[:rows, :columns] * np.float32(grid.unit)
-    by_column = np.empty_like(ground)
-    by_row = np.empty_like(ground)
-    for rise, heights in ((by_column.T, ground.T), (by_row, ground)):
-        rise[1:-1] = (heights[2:] - heights[:-2]) / 2
-        rise[0], rise[-1] = heights[1] - heights[0], heights[-1] - heights[-2]
-    return by_column.reshape(-1)[place], by_row.reshape(-1)[place]
 
 
 def _steps(mesh: Mesh, crs: Optional[str]) -> tuple[Floats, Floats, Floats]:

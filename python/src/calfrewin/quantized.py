@@ -223,7 +223,7 @@ def terrain(raster: Raster, out: str, *, zoom: Optional[int] = None, side: int =
                     bounds = x * size - 180, y * size - 90, (x + 1) * size - 180, (y + 1) * size - 90
                     heights = _warped(raster, source, covered, bounds, side)
                     data, _, triangles = tile_of(heights, bounds, FIRST_ERROR / 2 ** at, normals)
-                    path = os.path.join(out, str(at), str(x), f"{y}.terrain")
+                    path = os.path.join(out, str(at), str(x % (2 << at)), f"{y}.terrain")  # beyond 180 degrees from -180 on
                     os.makedirs(os.path.dirname(path), exist_ok=True)
                     packed = gzip.compress(data, 6, mtime=0)
                     files.write_bytes(path, packed)
@@ -234,9 +234,26 @@ def terrain(raster: Raster, out: str, *, zoom: Optional[int] = None, side: int =
     layer = {"tilejson": "2.1.0", "format": "quantized-mesh-1.0", "version": "1.0.0", "scheme": "tms",
              "projection": "EPSG:4326", "tiles": ["{z}/{x}/{y}.terrain"], "minzoom": 0, "maxzoom": last,
              "bounds": [-180, -90, 180, 90], "extensions": ["octvertexnormals"] if normals else [],
-             "available": [[dict(zip(("startX", "startY", "endX", "endY"), ends))] for ends in available]}
+             "available": [[dict(zip(("startX", "startY", "endX", "endY"), ends)) for ends in _around(at, *found)]
+                           for at, found in enumerate(available)]}
     files.write_bytes(os.path.join(out, "layer.json"), json.dumps(layer).encode())
     return told | {"zoom": last}
+
+
+def _around(zoom: int, first_x: int, first_y: int, last_x: int, last_y: int) -> list[tuple[int, int, int, int]]:
+    """The same by the tiles that there are around the earth: two parts beyond 180 degrees.
+
+    >>> _around(2, 6, 1, 8, 2), _around(2, 1, 1, 3, 2)
+    ([(6, 1, 7, 2), (0, 1, 0, 2)], [(1, 1, 3, 2)])
+    """
+    count = 2 << zoom
+    if last_x < count and first_x >= 0:
+        return [(first_x, first_y, last_x, last_y)]
+    if last_x - first_x >= count:
+        return [(0, first_y, count - 1, last_y)]
+    first_x, last_x = first_x % count, last_x % count
+    return [(first_x, first_y, last_x, last_y)] if first_x <= last_x else [
+        (first_x, first_y, count - 1, last_y), (0, first_y, last_x, last_y)]
 
 
 def _tiles_of_zoom(covered: Bounds, zoom: int) -> tuple[int, int, int, int]:

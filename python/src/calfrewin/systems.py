@@ -19,6 +19,7 @@ GEOCENTRIC, GEODETIC = "EPSG:4978", "EPSG:4979"  # WGS 84 as x, y, z from the ea
 TRUE = 0.01  # so far from 1 may be the scale of a map that is taken as true
 LARGEST = 7_000  # triangles whose edges are looked at
 HALF_AXES = (6_378_137.0, 6_356_752.314245179)  # of WGS 84, at the equator and at the poles
+AROUND = 33  # places a side, at which it is tried whether a raster has a place in another system
 
 
 def crs_of(crs: str) -> Any:
@@ -32,7 +33,7 @@ def crs_of(crs: str) -> Any:
     from pyproj.exceptions import CRSError
     try:
         return CRS.from_user_input(crs)
-    except CRSError:
+    except (CRSError, TypeError):
         raise ValueError(f"crs is {crs!r}, and PROJ knows no such system: give one as EPSG:32632") from None
 
 
@@ -111,7 +112,11 @@ def _transformer(crs: str, to: str, thread: int) -> Any:
         _refuse_without_grid(crs, to, name)
     else:
         source = source.to_3d()  # heights over the ellipsoid, as nothing else is said
-    return Transformer.from_crs(source, goal, always_xy=True)
+    from pyproj.exceptions import ProjError
+    try:
+        return Transformer.from_crs(source, goal, always_xy=True)
+    except ProjError:
+        raise ValueError(f"crs is {source.name!r}, and PROJ knows no way from there to {goal.name!r}") from None
 
 
 def transformer(crs: str, to: str) -> Any:
@@ -133,8 +138,8 @@ def metres_crs(crs: Optional[str], transform: Transform, shape: tuple[int, int])
     >>> metres_crs("EPSG:2056", (10, 0, 2600000, 0, -10, 1200000), (100, 100))
     'EPSG:2056'
     """
-    if crs is None:
-        return None
+    if crs is None or is_local(crs):
+        return crs
     a, b, _, d, e, _ = transform
     # What a step of 1 in x and in y is in metres on the ground: a map of the world stretches it, and degrees and feet do.
     cell = Curvature(crs, transform, (shape[1] - 1) / 2, (shape[0] - 1) / 2, reach=1.0).jacobian
@@ -150,12 +155,92 @@ def utm_crs(crs: str, transform: Transform, shape: tuple[int, int]) -> str:
     """
     from pyproj.aoi import AreaOfInterest
     from pyproj.database import query_utm_crs_info
-    east, north = transformer(_horizontal(crs).to_wkt(), "EPSG:4326").transform(*middle_of(transform, shape))
-    found = query_utm_crs_info("WGS 84", AreaOfInterest(east, north, east, north)) if math.isfinite(north) else []
+    to_degrees = transformer(_horizontal(crs).to_wkt(), "EPSG:4326")
+    east, north = to_degrees.transform(*middle_of(transform, shape))
+    if not math.isfinite(north):
+        raise ValueError(f"the middle of the heights, {_place(*middle_of(transform, shape))}, lies nowhere on the earth in "
+                         f"{_horizontal(crs).name!r}: is the system right?")
+    east = (east + 180) % 360 - 180
+    found = query_utm_crs_info("WGS 84", AreaOfInterest(east, north, east, north))
     if not found:
         raise ValueError(f"there is no zone of UTM at {north:.1f} degrees of latitude: "
                          "give --crs, for example EPSG:3413 (Arctic) or EPSG:3031 (Antarctica)")
     return f"EPSG:{found[0].code}"
+
+
+def is_local(crs: str) -> bool:
+    """Whether a system is a grid of its own, as of a building site, from which no way leads to the earth.
+
+    >>> is_local("EPSG:32632"), is_local('LOCAL_CS["site",UNIT["metre",1]]')
+    (False, True)
+    """
+    return "engineering" in str(_horizontal(crs).type_name).lower()
+
+
+def metres_of_local(crs: str) -> Optional[float]:
+    """Metres of a unit of a grid of its own; None of any other system.
+
+    >>> metres_of_local('LOCAL_CS["site",UNIT["foot",0.3048]]'), metres_of_local("EPSG:4326")
+    (0.3048, None)
+    """
+    return float(_horizontal(crs).axis_info[0].unit_conversion_factor) if is_local(crs) else None
+
+
+def is_in_degrees(crs: Optional[str]) -> bool:
+    """Whether x and y of a system are degrees.
+
+    >>> is_in_degrees("EPSG:4326"), is_in_degrees("EPSG:32632"), is_in_degrees(None)
+    (True, False, False)
+    """
+    return crs is not None and bool(_horizontal(crs).is_geographic)
+
+
+def _place(x: float, y: float) -> str:
+    return f"x = {x:.9g}, y = {y:.9g}"
+
+
+def refuse_beyond(crs: Optional[str], transform: Transform, shape: tuple[int, int]) -> None:
+    """Refuses heights in degrees that lie beyond a pole, or more than once around the earth."""
+    if not is_in_degrees(crs):
+        return
+    x, y = corners_of(transform, shape)
+    worst = max(y, key=abs)
+    if abs(worst) > 90 + 1e-9:
+        raise ValueError(f"a corner of the heights is at {worst:.9g} degrees of latitude, and there are 90: is it the system of "
+                         "the file? Without one the heights are taken with --spacing METRES")
+    if max(x) - min(x) > 360 + 1e-9:
+        raise ValueError(f"the heights go from {min(x):.9g} to {max(x):.9g} degrees of longitude, more than once around the "
+                         "earth: is it the system of the file?")
+
+
+def corners_of(transform: Transform, shape: tuple[int, int]) -> tuple[list[float], list[float]]:
+    """x and y of the four corner points of a raster."""
+    a, b, c, d, e, f = transform
+    ends = [(column, row) for row in (0, shape[0] - 1) for column in (0, shape[1] - 1)]
+    return [a * column + b * row + c for column, row in ends], [d * column + e * row + f for column, row in ends]
+
+
+def refuse_unplaced(crs: Optional[str], to: Optional[str], transform: Transform, shape: tuple[int, int]) -> None:
+    """Refuses to bring heights to a system in which some have no place, or which turns the map around on itself."""
+    if crs is None or to is None or to == crs or to == "globe":
+        return
+    a, b, c, d, e, f = transform
+    row, column = np.meshgrid(np.linspace(0, shape[0] - 1, AROUND), np.linspace(0, shape[1] - 1, AROUND), indexing="ij")
+    x, y = a * column + b * row + c, d * column + e * row + f
+    there = np.stack(flat_transformer(crs, to).transform(x, y))
+    bad = ~np.isfinite(there).all(0)
+    at = divmod(int(bad.argmax()), AROUND)
+    if not bad.any():
+        # Of a map that folds some cells are turned the other way round.
+        across, down = np.diff(there, axis=2)[:, :-1], np.diff(there, axis=1)[:, :, :-1]
+        turned = np.sign(across[0] * down[1] - across[1] * down[0])
+        bad = turned != np.sign(turned.sum())
+        at = divmod(int(bad.argmax()), AROUND - 1)
+    if bad.any():
+        raise ValueError(f"crs is {to}, and has no place, or no single one, for {_place(x[at], y[at])} of "
+                         f"{_horizontal(crs).name!r}: take a part, with --bounds or --window, or another --crs "
+                         "(EPSG:3413 and EPSG:3031 are of the Arctic "
+                         "and of the Antarctic, and EPSG:3857 of the world between 85 degrees)")
 
 
 def middle_of(transform: Transform, shape: tuple[int, int]) -> tuple[float, float]:
@@ -230,6 +315,10 @@ class Curvature:
         columns, rows = column + steps[:, 0], row + steps[:, 1]
         x, y = a * columns + b * rows + c, d * columns + e * rows + f
         places = np.column_stack(transformer(crs, GEOCENTRIC).transform(x, y, np.zeros(len(steps))))
+        if not np.isfinite(places).all():
+            raise ValueError(f"what lies {reach:g} points around {_place(x[0], y[0])} of {_horizontal(crs).name!r} is beyond "
+                             "a pole, or nowhere on the earth: take a part, with smaller tiles, or warp to EPSG:3413 (Arctic) or "
+                             "EPSG:3031 (Antarctic)")
         self.frame = east_north_up(*places[0])
         local = (places - places[0]) @ self.frame[:3, :3]
         across, down = local[2, :2] - local[1, :2], local[4, :2] - local[3, :2]

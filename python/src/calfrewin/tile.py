@@ -21,6 +21,7 @@ from .engine import MOST_TOLERANCE
 from .fitter import ANY, Fitter
 from .glb import glb, y_up
 from .ground import Ground, ground_of
+from .heights import rises
 from .mesh import surface
 from .shapes import have_any
 from .sides import Sides, required_of, sides_of, with_fans
@@ -245,19 +246,6 @@ def _normals(plan: Plan, place: Place, mesh: Fitted, numbers: Multiples) -> Floa
     normals: Floats = np.column_stack((-slope, np.ones(len(slope))))
     normals /= np.linalg.norm(normals, axis=1, keepdims=True)
     return normals
-
-
-def rises(numbers: Multiples, row: npt.NDArray[np.int64], column: npt.NDArray[np.int64], unit: float) -> tuple[Floats, Floats]:
-    """How much the ground rises by a step along columns and along rows at some points: central differences, at ends one-sided.
-
-    >>> [it.tolist() for it in rises(np.array([[0, 4], [6, 8]], np.int32), np.array([0]), np.array([1]), 0.5)]
-    [[2.0], [2.0]]
-    """
-    last_row, last_column = (count - 1 for count in numbers.shape)
-    left, right = np.maximum(column - 1, 0), np.minimum(column + 1, last_column)
-    top, bottom = np.maximum(row - 1, 0), np.minimum(row + 1, last_row)
-    return ((numbers[row, right] - numbers[row, left]) / (right - left) * unit,
-            (numbers[bottom, column] - numbers[top, column]) / (bottom - top) * unit)
 
 
 def border(row: Floats, column: Floats, last_row: float, last_column: float) -> npt.NDArray[np.int64]:

@@ -13,7 +13,7 @@ from typing import Any, Optional
 
 import numpy as np
 
-from ._types import Floats
+from ._types import Fill, Floats
 from ._version import __version__
 from .engine import MOST_HEIGHT
 from .heights import UNITS
@@ -34,7 +34,7 @@ class Plan:
     levels: int  #: above level 0
     error: float  #: of level 0, in metres; each level above has twice that of the one below
     unit: float  #: heights are whole multiples of it, in all tiles
-    fill: Optional[float]  #: the height of holes that are too wide to be filled from their edges; None: no triangles there
+    fill: Fill  #: the height of points without one, or how they are filled; None: no triangles there
     depth: int  #: a task reads 2^depth x 2^depth tiles at once
     normals: bool
     skirts: bool  #: tiles are fitted each for itself, and walls hide what is open between them; else their borders match
@@ -87,7 +87,7 @@ class Plan:
 
 
 def plan_of(raster: Raster, out: str, *, error: Optional[float], tile: int = 513, unit: Optional[float] = None,
-            fill: Optional[float] = None, depth: Optional[int] = None, normals: bool = True, skirts: bool = False,
+            fill: Fill = None, depth: Optional[int] = None, normals: bool = True, skirts: bool = False,
             vertical: Optional[str] = None, flat: bool = False, certify: bool = False) -> Plan:
     """What `tiles.build` makes.
 
@@ -95,8 +95,8 @@ def plan_of(raster: Raster, out: str, *, error: Optional[float], tile: int = 513
         error: of level 0, in metres; None where it is to be found by a number of triangles.
         tile: points of a side, 2^n + 1.
         unit: heights are rounded to multiples of it; without it to a twentieth of the error or finer.
-        fill: the height of holes that are too wide to be filled from their edges. Without it what has no height has no error,
-            and where no point has one there are no triangles.
+        fill: the height of points without one, or "smooth". Without it what has no height has no error, and where no point
+            has one there are no triangles.
         depth: a task is a block of 2^depth x 2^depth tiles; makes no difference to what is written. Without it as many as fit
             some 2,000 points a side.
         skirts: the tiles are fitted each for itself, and walls hide what is open between them: fewer triangles, and cracks
@@ -113,6 +113,7 @@ def plan_of(raster: Raster, out: str, *, error: Optional[float], tile: int = 513
         relief = _relief(raster)
         error = relief / 100
         unit = unit or next((it for it in UNITS if it >= 2 * relief / MOST_HEIGHT), UNITS[-1])
+    raster = raster.filled(fill)
     error = float(error)
     if not 0 < error < math.inf:
         raise ValueError(f"error is {error}, and has to be above 0, in metres")
@@ -229,6 +230,9 @@ def _over(tiles: list[Tile]) -> Tile:
 def _volume(plan: Plan, tile: Tile) -> dict[str, Any]:
     west, south, east, north = tile.region
     if plan.crs is not None:
+        # Within half a turn of the zero meridian; where it crosses that its west is more than its east.
+        if east - west < 2 * math.pi and max(-west, east) > math.pi:
+            west, east = ((it + math.pi) % (2 * math.pi) - math.pi for it in (west, east))
         return {"region": [west, south, east, north, tile.low, tile.high]}
     middle = [(west + east) / 2, (south + north) / 2, (tile.low + tile.high) / 2]
     return {"box": middle + [(east - west) / 2, 0, 0, 0, (north - south) / 2, 0, 0, 0, (tile.high - tile.low) / 2]}
