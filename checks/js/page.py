@@ -83,6 +83,8 @@ def drawn(browser: viewer.Browser, path: pathlib.Path) -> float:
 
 def same_flight(told: dict[str, object], heights: list[int], side: int) -> list[str]:
     """The flight by the native library; why the indices differ."""
+    import numpy as np
+
     import calfrewin
     total = 2166136261
     with calfrewin.Engine(heights, int(str(told["budget"])), spacing=int(str(told["spacing"]))) as engine:
@@ -90,8 +92,9 @@ def same_flight(told: dict[str, object], heights: list[int], side: int) -> list[
             engine.camera(*step["place"])
             engine.look([tuple(it) for it in step["planes"]])
             engine.frame()
-            for it in engine.indices().reshape(-1).tolist():
-                total = (total ^ it) * 16777619 & 0xFFFFFFFF
+            found = engine.indices().reshape(-1).astype(np.uint64)
+            of_frame = int((found * (2 * np.arange(len(found), dtype=np.uint64) + 1)).sum()) & 0xFFFFFFFF
+            total = (total ^ of_frame) * 16777619 & 0xFFFFFFFF
     return [] if total == told["sum"] else [f"{total} natively, {told['sum']} in the page"]
 
 

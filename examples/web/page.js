@@ -165,7 +165,8 @@ globalThis.flown = (frames) => {
   let last;
   for (let k = 0; k < frames; k++) {
     last = step();
-    for (const it of last.indices) flight.sum = Math.imul(flight.sum ^ it, 16777619) >>> 0;
+    const sum = last.indices.reduce((all, it, at) => (all + Math.imul(it, 2 * at + 1)) >>> 0, 0);
+    flight.sum = Math.imul(flight.sum ^ sum, 16777619) >>> 0;
   }
   drawFrame(last);
   const { sum, places, spacing } = flight;
