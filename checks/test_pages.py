@@ -22,7 +22,7 @@ low: tri_laws arrayvec
 high staticlib: low tri_laws core
 high_tests: high
 """,
-    "crates/tri_laws/README.md": "# tri_laws\n\nLaws of triangles.\n\n<!-- generated: proved -->\n<!-- end -->\n",
+    "crates/tri_laws/README.md": "# tri_laws\n\nLaws of triangles.\n",
     "crates/tri_laws/src/lib.rt": """//! Laws.
 
 /// A mate is of the same level. More of it.
@@ -50,8 +50,7 @@ abbrev pub unnamed : ℕ
     "crates/tri_laws/specs/Edge.antt": "-- Edges.\n\n-- an edge\nabbrev pub IsEdge : ℕ → Type 0\n",
     "crates/tri_laws/proofs/Lib.antt": "pub mod MateLemmas\n",
     "crates/tri_laws/proofs/MateLemmas.antt": "-- Mates.\n",
-    "crates/low/README.md": "# low\n\nA heap of slots,\nwith a head. More.\n\n<!-- generated: proved -->\nold\n"
-                            "<!-- end -->\n\nLast.\n",
+    "crates/low/README.md": "# low\n\nA heap of slots,\nwith a head. More.\n\nLast.\n",
     "crates/low/src/lib.rt": """//! A heap.
 
 mod heap;
@@ -176,14 +175,10 @@ def made(top: Path, name: str) -> str:
     return pages.pages(top)[top / name]
 
 
-def test_a_readme_has_what_is_offered_with_its_labels(small: Path) -> None:
-    assert made(small, "crates/low/README.md") == """# low
-
-A heap of slots,
-with a head. More.
-
-<!-- generated: proved -->
-|item|meaning|promises|needs|
+def test_a_table_has_what_is_offered_with_its_labels(small: Path, capsys: Any) -> None:
+    before = {path: path.read_bytes() for path in small.rglob("*.md")}
+    assert pages.main(["--table", "low", "--top", str(small)]) == 0
+    assert capsys.readouterr().out == """|item|meaning|promises|needs|
 |-|-|-|-|
 |`Heap`|A finite map.|seen as `List (Option K)`||
 |`Heap::put`|Puts a key, in half units of height; it stays.|`key`: The key is a mate of it; `ensures`; `others`|`vacant`|
@@ -194,10 +189,21 @@ with a head. More.
 |`Kind`|What may be told: `A` \\| `B`.|||
 
 Limits: `MOST`.
-<!-- end -->
-
-Last.
 """
+    assert {path: path.read_bytes() for path in small.rglob("*.md")} == before
+
+
+def test_a_table_of_no_crate_is_refused(small: Path, capsys: Any) -> None:
+    with pytest.raises(SystemExit, match="^lower is no crate; crates.txt has their names$"):
+        pages.main(["--table", "lower", "--top", str(small)])
+    with pytest.raises(SystemExit):
+        pages.main(["--table", "low", "--check", "--top", str(small)])
+    assert capsys.readouterr().out == ""
+
+
+def test_a_crate_that_offers_nothing_has_an_empty_table(small: Path, capsys: Any) -> None:
+    assert pages.main(["--table", "high", "--top", str(small)]) == 0
+    assert capsys.readouterr().out == "\n"
 
 
 def test_a_crate_of_tests_has_its_files(small: Path) -> None:
@@ -205,18 +211,10 @@ def test_a_crate_of_tests_has_its_files(small: Path) -> None:
     assert "lib.rt" not in made(small, "crates/high_tests/README.md")
 
 
-def test_a_readme_without_its_table_gets_one(small: Path) -> None:
-    readme, tests = small / "crates/low/README.md", small / "crates/high_tests/README.md"
-    table = "<!-- generated: proved -->\n|item|meaning|promises|needs|\n"
-    readme.write_text("# low\n\nA heap.\n\n**Only tested.** Much.\n", encoding="utf-8")
-    assert made(small, "crates/low/README.md").startswith(f"# low\n\nA heap.\n\n## What is proved\n\n{table}")
-    assert made(small, "crates/low/README.md").endswith("\n<!-- end -->\n\n**Only tested.** Much.\n")
-    readme.write_text("# low\n\nA heap.\n", encoding="utf-8")
-    assert made(small, "crates/low/README.md").startswith(f"# low\n\nA heap.\n\n## What is proved\n\n{table}")
-    assert made(small, "crates/low/README.md").endswith("\n\nLimits: `MOST`.\n<!-- end -->\n")
-    tests.write_text("# high_tests\n\nTests.\n", encoding="utf-8")
+def test_a_crate_of_tests_without_its_files_gets_them(small: Path) -> None:
+    (small / "crates/high_tests/README.md").write_text("# high_tests\n\nTests.\n", encoding="utf-8")
     assert made(small, "crates/high_tests/README.md").startswith("# high_tests\n\nTests.\n\n<!-- generated: tests -->\n|file|")
-    assert small / "crates/high/README.md" not in pages.pages(small)
+    assert not {small / f"crates/{name}/README.md" for name in ("tri_laws", "low", "high")} & set(pages.pages(small))
 
 
 def test_crates_stand_by_storeys_on_the_nearest_ones(small: Path) -> None:
@@ -250,10 +248,10 @@ def test_a_page_that_differs_is_named_and_then_made(small: Path, capsys: Any) ->
     assert not (small / "docs/CRATES.md").exists()
     assert pages.main(["--top", str(small)]) == 0
     assert pages.main(["--check", "--top", str(small)]) == 0
-    readme = small / "crates/low/README.md"
-    readme.write_text(readme.read_text(encoding="utf-8").replace("`others`", "`other`"), encoding="utf-8")
+    readme = small / "crates/high_tests/README.md"
+    readme.write_text(readme.read_text(encoding="utf-8").replace("`first.rt`", "`second.rt`"), encoding="utf-8")
     assert pages.main(["--check", "--top", str(small)]) == 1
-    assert capsys.readouterr().err == "crates/low/README.md is not what tools/pages.py makes\n"
+    assert capsys.readouterr().err == "crates/high_tests/README.md is not what tools/pages.py makes\n"
 
 
 @pytest.mark.parametrize("text", ["<!-- generated: words low -->\n", "<!-- generated: unheard-of -->\n<!-- end -->\n"])
@@ -293,16 +291,24 @@ def test_each_name_that_a_crate_offers_is_found_once() -> None:
 CRATES = [crate.name for crate in sources.crates_of(TOP)]
 
 
+@pytest.fixture(scope="module")
+def here() -> pages.Sources:
+    return pages.Sources(TOP)
+
+
 @pytest.mark.parametrize("name", CRATES)
-def test_a_readme_is_short_and_has_its_tables(name: str) -> None:
-    text = (TOP / "crates" / name / "README.md").read_text(encoding="utf-8")
+def test_a_readme_is_short_and_a_table_has_all_that_is_offered(here: pages.Sources, name: str) -> None:
+    text = here.readme(name).read_text(encoding="utf-8")
     assert text.startswith(f"# {name}\n\n")
     assert len(pages.first_sentence(text).split()) <= 25
     by_hand = re.sub(r"^```.*?^```$|^<!-- generated.*?^<!-- end -->$|^\|.*?$", "", text, flags=re.M | re.S)
     assert len(by_hand.split()) <= 200
-    offers = sources.public_items(TOP / "crates" / name)
+    offered = here.items[name]
     if name.endswith("_tests"):
         assert "\n<!-- generated: tests -->\n" in text
-    elif offers:
-        assert "\n<!-- generated: proved -->\n" in text
-        assert not [item.full_name for item in offers if item.kind != "fn" and not item.doc]
+    assert not [item.full_name for item in offered if item.kind != "fn" and not item.doc]
+    told = pages.offers(here, name)
+    rows = re.findall(r"^\|`(.*?)`\|", told, re.M)
+    assert rows == [item.full_name for item in offered if item.kind != "const"]
+    labels = [f"`{it.label or it.kind}`" for item in offered for it in item.clauses]
+    assert not [label for label in labels if label not in told]

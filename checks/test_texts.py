@@ -149,10 +149,10 @@ def test_readme_has_at_most_850_words() -> None:
     assert words(TOP / "README.md") <= 850
 
 
-def test_all_pages_have_at_most_60_000_words() -> None:
+def test_all_pages_have_at_most_50_000_words() -> None:
     total = sum(map(words, PAGES))
     longest = sorted(PAGES, key=words, reverse=True)[:5]
-    assert total <= 60_000, f"{total} words; the longest: " + ", ".join(
+    assert total <= 50_000, f"{total} words; the longest: " + ", ".join(
         f"{name(page)} {words(page)}" for page in longest
     )
 

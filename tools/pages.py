@@ -2,15 +2,15 @@
 """Makes what no hand writes of the pages, from the sources: docs/CRATES.md, and between the lines `<!-- generated: NAME -->`
 and `<!-- end -->` of a page
 
-    proved            in a crate's README: its public functions and types, each with the first sentence of its comment and
-                      the labels of its clauses
     words PLACE ..    in docs/DEFINITIONS.md: the words of these crates or modules (CRATE.MODULE) that a public clause of
                       another crate names, and these words (CRATE.MODULE.WORD)
     tests             in a crate's README: its files with tests, each with the first sentence of its head
     storeys           in docs/ARCHITECTURE.md: the crates by how much they stand on
 
-usage: tools/pages.py [--check] [--top FOLDER]
-  --check   writes nothing; names each page that is not what would be made, and ends with status 1 where there is one
+usage: tools/pages.py [--check | --table CRATE] [--top FOLDER]
+  --check         writes nothing; names each page that is not what would be made, and ends with status 1 where there is one
+  --table CRATE   writes nothing; prints what a crate offers: its public functions and types, each with the first sentence of
+                  its comment and the labels of its clauses
 """
 from __future__ import annotations
 
@@ -78,7 +78,10 @@ def needs(item: Item) -> str:
     return ", ".join(f"`{clause.label or clause.kind}`" for clause in item.clauses if clause.kind == "requires")
 
 
-def proved(made_of: Sources, crate: str) -> str:
+def offers(made_of: Sources, crate: str) -> str:
+    """What a crate offers: a row for each public function and type, with what it promises and needs."""
+    if crate not in made_of.items:
+        raise SystemExit(f"{crate} is no crate; crates.txt has their names")
     items, said = made_of.items[crate], set[tuple[str, str]]()
     rows = [[f"`{item.full_name}`", sources.short(item.doc), promises(item, said), needs(item)]
             for item in items if item.kind != "const"]
@@ -103,9 +106,10 @@ def crates_page(made_of: Sources) -> str:
         # Crates, for whoever looks for the place of something
 
         By storeys, lowest first. A crate stands on those that are named, and on all that these stand on;
-        [two kinds](ARCHITECTURE.md#two-kinds-of-crates) there are, law and code. Each README has what is proved, what is only
-        tested, and what is not claimed: never time, nor that memory is there. Where a call takes memory a test shows that it
-        succeeds; what no clause counts of a cost is not proved. Made by `tools/pages.py`.
+        [two kinds](ARCHITECTURE.md#two-kinds-of-crates) there are, law and code. `tools/pages.py --table CRATE` prints what a
+        crate promises; its README has what is only tested, and what is not claimed: never time, nor that memory is there.
+        Where a call takes memory a test shows that it succeeds; what no clause counts of a cost is not proved. Made by
+        `tools/pages.py`.
         """)]
     for storey, crates in storeys_of(made_of):
         rows = [[f"[`{crate.name}`](../crates/{crate.name}/README.md)", "law" if crate.name in made_of.laws else "code",
@@ -173,14 +177,11 @@ def fill(text: str, make: Maker) -> str:
     return "".join(done) + text[at:]
 
 
-def with_block(text: str, name: str, heading: str) -> str:
-    """A README with this block: where it has none, behind a heading, before what is only tested or else at the end."""
-    if any(block.group("name") == name for block in BEGIN.finditer(text)):
+def with_tests(text: str) -> str:
+    """A README of a crate of tests with their block, at its end where it has none."""
+    if any(block.group("name") == "tests" for block in BEGIN.finditer(text)):
         return text
-    behind = re.search(r"^(?:\*\*|#+ )(?:What is )?only tested", text, re.M | re.I)
-    at = behind.start() if behind else len(text)
-    block = f"{heading}<!-- generated: {name} -->\n{END}\n"
-    return text[:at].rstrip("\n") + f"\n\n{block}" + (f"\n{text[at:]}" if behind else "")
+    return text.rstrip("\n") + f"\n\n<!-- generated: tests -->\n{END}\n"
 
 
 def pages(top: Path) -> dict[Path, str]:
@@ -190,15 +191,11 @@ def pages(top: Path) -> dict[Path, str]:
     for path in [*sorted(top.glob("docs/*.md")), *(made_of.readme(crate.name) for crate in made_of.crates)]:
         text, crate = path.read_text(encoding="utf-8"), path.parent.name
         if path.name == "README.md" and crate.endswith("_tests"):
-            text = with_block(text, "tests", "")
-        elif path.name == "README.md" and proved(made_of, crate):
-            text = with_block(text, "proved", "## What is proved\n\n")
+            text = with_tests(text)
         if path in found or not BEGIN.search(text):
             continue
 
         def make(name: str, rest: str) -> str:
-            if name == "proved":
-                return proved(made_of, crate)
             if name == "tests":
                 return table(["file", "what it shows"], [[f"`{file}`", said] for file, said in sources.tests_of(path.parent)])
             if name == "words":
@@ -213,9 +210,14 @@ def pages(top: Path) -> dict[Path, str]:
 
 def main(arguments: list[str]) -> int:
     parser = argparse.ArgumentParser(description=__doc__, formatter_class=argparse.RawDescriptionHelpFormatter)
-    parser.add_argument("--check", action="store_true")
+    what = parser.add_mutually_exclusive_group()
+    what.add_argument("--check", action="store_true")
+    what.add_argument("--table", metavar="CRATE")
     parser.add_argument("--top", type=Path, default=Path(__file__).resolve().parent.parent)
     options = parser.parse_args(arguments)
+    if options.table:
+        print(offers(Sources(options.top), options.table))
+        return 0
     status = 0
     for path, text in pages(options.top).items():
         if path.is_file() and path.read_text(encoding="utf-8") == text:
