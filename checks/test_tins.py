@@ -43,8 +43,9 @@ def fewest(library: Library, heights: Any, thousandths: int) -> int:
     """How many right triangles the error takes."""
     given_heights = np.ascontiguousarray(heights, np.uint16)
     out, none, note = np.zeros(6 * given_heights.size, np.uint32), np.zeros(1, np.uint32), FitNote()
-    library.call("fit_with", given_heights.ctypes.data_as(HEIGHTS), given_heights.size, thousandths, none.ctypes.data_as(WORDS), 0,
-                 none.ctypes.data_as(WORDS), 0, out.ctypes.data_as(WORDS), out.size, ctypes.byref(note))
+    library.call("fit_with", given_heights.ctypes.data_as(HEIGHTS), given_heights.size, thousandths,
+                 none.ctypes.data_as(WORDS), 0, none.ctypes.data_as(WORDS), 0,
+                 out.ctypes.data_as(WORDS), out.size, ctypes.byref(note))
     return note.triangles
 
 

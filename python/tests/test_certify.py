@@ -387,22 +387,23 @@ def test_another_form_of_the_earth_is_refused(tmp_path):
 
 
 def test_the_program_makes_and_checks_certificates(tmp_path):
+    mesh, certify = (command.program.commands[name] for name in ("mesh", "certify"))
     path = write_tif(tmp_path / "a.tif", hills(50, 60, relief=900))
     out = str(tmp_path / "t")
-    made = CliRunner().invoke(command.mesh, [path, out + "/", "--error", "20", "--tile", "33", "--certify", "-q"])
+    made = CliRunner().invoke(mesh, [path, out + "/", "--error", "20", "--tile", "33", "--certify", "-q"])
     assert made.exit_code == 0, made.output
     for words in ([], ["--raster", path, "--json", "--workers", "2"]):
-        found = CliRunner().invoke(command.certify, [out, "-q", *words])
+        found = CliRunner().invoke(certify, [out, "-q", *words])
         assert found.exit_code == 0 and ("certified: none within" in found.output) == (not words), found.output
     changed(out, "1/0/0.reasons", lambda lines: lines.pop())
-    found = CliRunner().invoke(command.certify, [out, "-q"])
+    found = CliRunner().invoke(certify, [out, "-q"])
     assert found.exit_code == 1 and "refused: 1/0/0.reasons" in found.output and "not certified" in found.output
-    without = CliRunner().invoke(command.mesh, [path, out + "/", "--error", "20", "--tile", "33", "-q", "--overwrite"])
+    without = CliRunner().invoke(mesh, [path, out + "/", "--error", "20", "--tile", "33", "-q", "--overwrite"])
     assert without.exit_code == 0
-    found = CliRunner().invoke(command.certify, [out, "-q"])
+    found = CliRunner().invoke(certify, [out, "-q"])
     assert found.exit_code == 1 and "has no certificates" in found.output
     for words, why in ((["--skirts"], "--skirts has no certificate"), (["--format", "quantized-mesh"], "--certify")):
-        found = CliRunner().invoke(command.mesh, [path, str(tmp_path / "u") + "/", "--error", "9", "--certify", *words])
+        found = CliRunner().invoke(mesh, [path, str(tmp_path / "u") + "/", "--error", "9", "--certify", *words])
         assert found.exit_code == 2 and why in found.output
 
 

@@ -143,6 +143,12 @@ def test_what_has_no_height_has_no_triangles(shape, seed, kind, error, is_budget
     assert mesh.is_clipped or (times == 1).all()
 
 
+def test_what_a_hole_is_filled_with_takes_no_triangles():
+    heights = np.zeros((65, 65))
+    heights[:, 8:40], heights[:, 40:] = np.nan, 500
+    assert len(calfrewin.fit(heights, error=1).triangles) < 400  # 484 of them would follow the slope in the hole
+
+
 def test_single_points_without_a_height_are_counted_and_met():
     heights = hills(33, 50)
     heights[5, 7] = heights[20, 20] = heights[0, 0] = np.nan
@@ -224,12 +230,12 @@ def test_holes_get_the_height_that_is_said():
     assert calfrewin.fit(heights, error=3, nodata=-32768, fill=0.5).unit < 1
 
 
-@pytest.mark.parametrize("dtype", [np.int16, np.float32])
-def test_a_hole_in_a_plain_is_filled_level(dtype):
-    heights = np.full((50, 70), 7, dtype)
+@pytest.mark.parametrize("dtype, height", [(np.int16, 7), (np.float32, 7), (np.float32, 7.5)])
+def test_a_hole_in_a_plain_is_filled_level(dtype, height):
+    heights = np.full((50, 70), height, dtype)
     heights[10:33, 5:60] = -99
     mesh = calfrewin.fit(heights, error=0, nodata=-99, fill="smooth")
-    assert (mesh.surface() == 7).all() and len(mesh.triangles) < 6
+    assert (mesh.surface() == height).all() and len(mesh.triangles) < 6
 
 
 def test_a_fill_is_smooth_over_a_great_hole():
