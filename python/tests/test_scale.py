@@ -106,6 +106,10 @@ def test_where_nothing_has_a_height_there_are_no_triangles(tmp_path):
     assert not os.path.exists(tmp_path / "t/2/0/0.glb") and os.path.exists(tmp_path / "f/2/0/0.glb")
     assert checked(path, tmp_path / "f")["wrong"] == [] and filled["tiles"] == 21
     assert read_glb(open(tmp_path / "f/2/0/0.glb", "rb").read())["points"][:, 1].min() > 50
+    high = np.where(np.isnan(heights), np.nan, heights + 1000)
+    built(write_tif(tmp_path / "high.tif", high), tmp_path / "h")
+    for glb in glob.glob(f"{tmp_path}/h/*/*/*.glb"):  # what meets the hole does not fall to its floor
+        assert read_glb(open(glb, "rb").read())["points"][:, 1].min() > 1000
     counts = np.array([[True, False], [True, True]])
     tolerances = Ground(np.zeros((3, 3), np.uint16), 0.5, 0.0).tolerances(1.0, blocks.Points(np.zeros((2, 2), np.int32), counts))
     assert tolerances.tolist() == [[2000, ANY], [2000, 2000]]

@@ -66,10 +66,10 @@ def read(plan: Plan, level: int, row: int, column: int, right: Optional[Points] 
     height, width = min(span + (below is None), ends[0]), min(span + (right is None), ends[1])
     heights = plan.raster.heights(top, left, height, width)
     is_there: Any = True
-    if np.isnan(heights.min()):
+    if np.isnan(heights.min()):  # nothing is said to fill them, so they take no triangles; those at their edge meet them
         holes = np.isnan(heights)
         heights = np.where(holes, _filled(plan, top, left, height, width), heights)
-        is_there = True if plan.fill is not None else ~holes
+        is_there = ~holes
     numbers = np.empty((span + 1, span + 1), np.int32)
     for begin in range(0, height, AT_ONCE):
         exact = heights[begin:begin + AT_ONCE] / plan.unit
@@ -90,7 +90,7 @@ def read(plan: Plan, level: int, row: int, column: int, right: Optional[Points] 
 
 
 def _filled(plan: Plan, row: int, column: int, rows: int, columns: int) -> npt.NDArray[Any]:
-    """A window whose holes are filled from their edges as far as REACH, the rest with the plan's height.
+    """A window whose holes are filled from their edges as far as REACH, the rest with 0.
 
     GDAL's filling looks no farther than its distance, so with a rim of that width two tiles fill a hole between them alike,
     to the last bit.
@@ -102,10 +102,10 @@ def _filled(plan: Plan, row: int, column: int, rows: int, columns: int) -> npt.N
     wide = plan.raster.heights(row - up, column - left, height, width).astype(np.float32)
     is_there, nothing = ~np.isnan(wide), np.float32(-1e30)
     if not is_there.any():
-        return np.full((rows, columns), np.float32(plan.fill or 0.0))
+        return np.zeros((rows, columns), np.float32)
     found = fillnodata(np.where(is_there, wide, nothing), mask=is_there.astype(np.uint8), max_search_distance=REACH)
     found = found[up:up + rows, left:left + columns]
-    return np.where(found < nothing / 10, np.float32(plan.fill or 0.0), found)
+    return np.where(found < nothing / 10, np.float32(0), found)
 
 
 class BlockPoints:
