@@ -207,24 +207,21 @@ def clone(tmp_path: Path, archive: Path) -> Clone:
     return Clone(tmp_path, archive)
 
 
-def test_calfrewin_sets_all_up_on_first_use(clone: Clone, triangles: int, tmp_path: Path) -> None:
+def test_calfrewin_sets_all_up_where_it_first_needs_the_library(clone: Clone, triangles: int, tmp_path: Path) -> None:
+    assert ran(clone.top / "calfrewin", "--version", env=clone.path()).startswith("calfrewin, version ")
+    assert clone.commands() == []
     check_mesh(tmp_path, triangles, clone.top / "calfrewin", env=clone.path())
     assert clone.commands() == ["lib low", "lib roam_c"]
+    ended = subprocess.run([clone.top / "calfrewin", JACKSBORO, "b.glb", "--error", "50", "--spacing", "90", "-q"],
+                           env=clone.path(), capture_output=True, text=True, cwd=tmp_path, check=True)
+    assert ended.stderr == "" and (tmp_path / "b.glb").is_file() and clone.commands() == []
 
 
-def test_calfrewin_starts_at_once_the_second_time(clone: Clone, tmp_path: Path) -> None:
-    for commands in (["lib low", "lib roam_c"], []):
-        ended = subprocess.run([clone.top / "calfrewin", "--version"], env=clone.path(), capture_output=True, text=True,
-                               check=True)
-        assert ended.stdout.startswith("calfrewin, version ") and clone.commands() == commands
-    assert ended.stderr == ""
-
-
-def test_calfrewin_builds_again_after_a_change(clone: Clone) -> None:
-    ran(clone.top / "calfrewin", "--version", env=clone.path())
+def test_calfrewin_builds_again_after_a_change(clone: Clone, triangles: int, tmp_path: Path) -> None:
+    check_mesh(tmp_path, triangles, clone.top / "calfrewin", env=clone.path())
     assert clone.commands()
     (clone.top / "crates/low/src/text").write_text("changed\n")
-    ran(clone.top / "calfrewin", "--version", env=clone.path())
+    check_mesh(tmp_path, triangles, clone.top / "calfrewin", "--overwrite", env=clone.path())
     assert clone.commands() == ["lib low", "lib roam_c"]
 
 
@@ -244,7 +241,8 @@ def test_calfrewin_passes_on_words_and_status(clone: Clone, tmp_path: Path) -> N
 
 def test_calfrewin_says_that_the_toolchain_is_missing(clone: Clone) -> None:
     (clone.bin / "rt").unlink()
-    ended = subprocess.run([clone.top / "calfrewin", "--version"], env=clone.path(), capture_output=True, text=True, check=False)
+    ended = subprocess.run([clone.top / "calfrewin", JACKSBORO, "mesh.glb", "--error", "50", "--spacing", "90"], env=clone.path(),
+                           capture_output=True, text=True, cwd=clone.top, check=False)
     assert ended.returncode == 127 and "'rt' is not on PATH" in ended.stderr and "Traceback" not in ended.stderr
 
 
