@@ -171,8 +171,9 @@ int32_t roam_fit(roam_handle *h, uint32_t thousandths, uint32_t budget, uint32_t
 
 /* Writes the certificate of the best mesh from (x, y, z), without planes, at threshold 0 and of the budget in force, as text: that of
  * `roam certify make` for the same grid, camera, budget and spacing. Up to 2,049 points a side `roam certify check` and
- * checks/certificates.py check it, above that a checker of your own. 48 + 33 times the budget bytes always suffice. Takes the memory and the time of an engine of this grid and budget and its first
- * frame, and gives the memory back. The engine is as before. */
+ * checks/certificates.py check it, above that a checker of your own. 48 + 33 times the budget bytes always suffice. Takes the
+ * memory and the time of an engine of this grid and budget and its first frame, and gives the memory back. The engine is as
+ * before. */
 int32_t roam_certificate(roam_handle *h, int64_t x, int64_t y, int64_t z, char *out, size_t room, size_t *length);
 
 /* Writes the addresses that the last frame took out of the mesh and those that it put in, in the order of roam_leaves, and how many
