@@ -148,8 +148,14 @@ def test_the_check_finds_what_is_planted(tmp_path, terrain):
     def turned(triangles):
         triangles[3] = triangles[3, ::-1]
 
+    def beyond(triangles):
+        triangles[1, 2] = 60_000
+
     def raised(points):
         points[len(points) // 2, 1] += 9
+
+    def no_number(points):
+        points[0, 1] = np.nan
 
     def lifted(points):
         points[0, 1] += 300
@@ -169,7 +175,9 @@ def test_the_check_finds_what_is_planted(tmp_path, terrain):
         "gap": (lambda it: triangles_changed(f"{it}/{inner}", doubled),
                 "an edge has two triangles on one side|have a triangle on one side"),
         "turn": (lambda it: triangles_changed(f"{it}/{inner}", turned), "turned over"),
+        "index": (lambda it: triangles_changed(f"{it}/{inner}", beyond), "a triangle has vertex 60000, and there are"),
         "error": (lambda it: vertex_moved(f"{it}/{inner}", raised), "is off by"),
+        "nan": (lambda it: vertex_moved(f"{it}/{inner}", no_number), "lie at no point"),
         "place": (lambda it: vertex_moved(f"{it}/{inner}", moved), "turned over|lie at no point|is off by"),
         "shift": (lambda it: vertex_moved(f"{it}/{inner}", shifted), "lie at no point"),
         "cut": (lambda it: open(f"{it}/{inner}", "r+b").truncate(500), "cut off|buffer|is no GLB"),

@@ -169,9 +169,12 @@ def read_glb(path: str) -> tuple[Floats, Whole, Floats]:
         return np.frombuffer(body, kind, accessor["count"] * width, view["byteOffset"]).reshape(-1, width)
 
     x, up, minus_y = array(primitive["attributes"]["POSITION"], 3).astype(np.float64).T
+    triangles = array(primitive["indices"], 1).reshape(-1, 3).astype(np.int64)
+    if triangles.max(initial=-1) >= len(x):
+        raise ValueError(f"a triangle has vertex {triangles.max()}, and there are {len(x)}")
     turn = np.array([[1, 0, 0, 0], [0, 0, 1, 0], [0, -1, 0, 0], [0, 0, 0, 1]], float)
     matrix = turn.T @ np.array(node["matrix"], float).reshape(4, 4).T @ turn
-    return np.column_stack((x, -minus_y, up)), array(primitive["indices"], 1).reshape(-1, 3).astype(np.int64), matrix
+    return np.column_stack((x, -minus_y, up)), triangles, matrix
 
 
 def check_tiles(said: Said, raster: Raster, low: int, errors: dict[At, Optional[float]]) -> dict[At, Found]:
@@ -197,7 +200,7 @@ def check_tile(said: Said, raster: Raster, at: At, most: Optional[float], height
         return Found(wrong, 0, 0, 0.0, 0.0, {}, {})
     try:
         points, triangles, matrix = read_glb(os.path.join(said.folder, name))
-    except (OSError, ValueError, KeyError, struct.error) as why:
+    except (OSError, ValueError, LookupError, TypeError, AttributeError, struct.error) as why:
         return Found([f"{name}: {why}"], 0, 0, 0.0, 0.0, {}, {})
     frame = said.root @ matrix
     earth = points @ frame[:3, :3].T + frame[:3, 3]
@@ -240,7 +243,7 @@ def _whole(columns: Floats, rows: Floats, box: Box, shape: tuple[int, int],
     two, also near to one at which another lies."""
     top, left, bottom, right = box
     x, y = np.rint(columns), np.rint(rows)
-    is_off = (np.abs(columns - x) > NEAR) | (np.abs(rows - y) > NEAR)
+    is_off = ~((np.abs(columns - x) <= NEAR) & (np.abs(rows - y) <= NEAR))  # what is no number, too
     on_end = ((y == shape[0] - 1) & (np.abs(rows - y) <= NEAR)) | ((x == shape[1] - 1) & (np.abs(columns - x) <= NEAR))
     aside, above = np.abs(columns - x), np.abs(rows - y)
     gap = np.maximum(aside, above)
