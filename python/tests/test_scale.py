@@ -209,7 +209,12 @@ def test_the_check_finds_what_is_planted(tmp_path, terrain):
         change(changed["root"])
         json.dump(changed, open(tmp_path / "t/tileset.json", "w"))
         assert text in " ".join(checked(terrain, tmp_path / "t")["wrong"])
-    json.dump(tree, open(tmp_path / "t/tileset.json", "w"))
+    whole = json.dumps(tree)
+    for text in (whole[:-1], whole.replace("geometricError", "geometricErrer"), whole.replace("1/0/1.glb", "1/0/l.glb")):
+        open(tmp_path / "t/tileset.json", "w").write(text)
+        with pytest.raises(ValueError, match="t/tileset.json is damaged"):
+            checked(terrain, tmp_path / "t")
+    open(tmp_path / "t/tileset.json", "w").write(whole)
     assert "is off by" in " ".join(checked(terrain, tmp_path / "t", error=1.0)["wrong"])
     assert checked(terrain, tmp_path / "t", workers=2)["wrong"] == []
 

@@ -11,6 +11,7 @@ from __future__ import annotations
 import functools
 import json
 import os
+import re
 import struct
 import time
 from typing import Any, Callable, Iterator, NamedTuple, Optional
@@ -68,17 +69,11 @@ def check(folder: str, raster: Raster, *, client: Any = None, workers: int = 1, 
         `off`, how far the worst point is from the finest tiles, in metres, and `part`, of what its tile tells.
     """
     began = time.perf_counter()
-    with open(os.path.join(folder, "tileset.json"), encoding="utf-8") as file:
-        tree = json.load(file)
-    told = tree["asset"].get("extras", {}).get("calfrewin")
-    if told is None:
-        raise ValueError(f"{folder} has tiles that do not say how they lie in their raster")
-    if told["skirts"]:
-        raise ValueError(f"{folder} has tiles with skirts, whose borders do not match")
-    said = Said(os.path.abspath(folder), told["steps"], told["levels"], told["crs"],
-                np.array(tree["root"]["transform"], float).reshape(4, 4).T, told["fill"] is not None)
     wrong: list[str] = []
-    errors = dict(_nodes(tree["root"], said, wrong))
+    try:
+        said, errors = _said(folder, wrong)
+    except (LookupError, TypeError, AttributeError, json.JSONDecodeError, UnicodeDecodeError) as why:
+        raise ValueError(f"{os.path.join(folder, 'tileset.json')} is damaged: {why!r}") from None
     tasks: dict[Any, Any] = {}
     for low in range(0, said.levels + 1, AT_ONCE):
         level = min(low + AT_ONCE - 1, said.levels)
@@ -107,6 +102,20 @@ def check(folder: str, raster: Raster, *, client: Any = None, workers: int = 1, 
                 progress(done, len(tasks), f"{told_all['triangles']:,} triangles")
     wrong += _between(vertices, edges)
     return {"wrong": wrong, **told_all, "off": off, "part": part, "seconds": round(time.perf_counter() - began, 2)}
+
+
+def _said(folder: str, wrong: list[str]) -> tuple[Said, dict[At, float]]:
+    """What tileset.json says of all tiles, and the error of each; what is wrong there is put to `wrong`."""
+    with open(os.path.join(folder, "tileset.json"), encoding="utf-8") as file:
+        tree = json.load(file)
+    told = tree["asset"].get("extras", {}).get("calfrewin")
+    if told is None:
+        raise ValueError(f"{folder} has tiles that do not say how they lie in their raster")
+    if told["skirts"]:
+        raise ValueError(f"{folder} has tiles with skirts, whose borders do not match")
+    said = Said(os.path.abspath(folder), told["steps"], told["levels"], told["crs"],
+                np.array(tree["root"]["transform"], float).reshape(4, 4).T, told["fill"] is not None)
+    return said, dict(_nodes(tree["root"], said, wrong))
 
 
 def _count(said: Said, raster: Raster, level: int) -> tuple[int, int]:
@@ -141,7 +150,10 @@ def _name(said: Said, at: At) -> str:
 def _nodes(node: dict[str, Any], said: Said, wrong: list[str], above: float = np.inf,
            over: Any = None) -> Iterator[tuple[At, float]]:
     """Level, row, column and error of all tiles; a child is a quarter of what is over it, and has no greater error."""
-    depth, column, row = (int(word) for word in node["content"]["uri"].split(".")[0].split("/"))
+    name = node["content"]["uri"]
+    if not re.fullmatch(r"\d+/\d+/\d+\.glb", name):
+        raise LookupError(f"no tile is called {name}")
+    depth, column, row = map(int, name[:-4].split("/"))
     at = said.levels - depth, row, column
     if node["geometricError"] > above:
         wrong.append(f"{_name(said, at)} has a greater geometricError than the tile over it")
